@@ -1,4 +1,4 @@
--- What `clap` makes of the seven commands and of their arguments: one equation, which computes.
+-- What `clap` makes of the seven commands and of their arguments, as one equation that holds by computation.
 use Rattle.std.proofs.Common.{◌≡◌, ◌||◌, ◌&&◌, ◌++◌, ◌==◌, ℕ, Bool, true, false, cond, Option, None, Some, List, [], ◌∷◌, codes, inl, inr, not, refl, ap, subst}
 use Rattle.std.proofs.Common.{bytes_eq, drop, find, get_or, is_some, map, option_and_then, slice_get, unwrap_or}
 use Rattle.std.specs.List.{list_any}
@@ -39,18 +39,18 @@ leaf command = built_leaf (inherited (with_leaf_noted (marked_built census_app.t
 abbrev pub help_entry : Entry
 help_entry = record { name = codes "help"; is_named = true; kind = kind.Flag; default = None }
 
--- an argument that takes a value after its name, and one that takes it alone
+-- an argument that takes a value after its name, and an argument that is a value alone
 abbrev pub takes_value : Entry → Bool
 takes_value e = e.is_named && not (is_flag e.kind)
 
 abbrev pub stands_alone : Entry → Bool
 stands_alone e = not e.is_named && not (is_flag e.kind)
 
--- the name of the argument without one, of which a command has one at most
+-- the name of the command's positional argument, of which there is at most one
 abbrev pub lone : Command → Text
 lone command = option_map_or (λ e. e.name) (find stands_alone command.parameters) []
 
--- these rows, and what waits to be settled; no flags of a bundle are to be passed over
+-- what is held: these rows, and perhaps a value that isn't settled yet; no flags of a bundle are to be skipped
 abbrev pub holding : List Row → Option (Text × List Text) → Held
 holding rows pending = record { rows = rows; pending = pending; skip = 0 }
 
@@ -67,15 +67,15 @@ rows_with e v rows = with_values e.name (reading_of (parser_for e.kind)) Command
 abbrev pub faults_of : Entry → Text → List Row → Kinds
 faults_of e v rows = or_else (repeat_fault false e.name rows) (values_kinds false (parser_for e.kind) (v ∷ []))
 
--- an argument with the whole use, once what was held before is settled
+-- the effect of an argument that is a whole use, once what was held before is settled
 abbrev pub reacts : Kinds × Held → Entry → Text → Met
 reacts p e v = ((record { rows = rows_with e v p.1.rows; pending = None; skip = p.1.skip }, next idle), or_else p.0 (faults_of e v p.1.rows))
 
--- an argument that is only a name, and is followed by its values
+-- the effect of an argument that is only a name, whose values follow
 abbrev pub asks : Kinds × Held → Entry → Met
 asks p e = ((record { rows = p.1.rows; pending = Some (e.name, []); skip = p.1.skip }, next (option e.name)), p.0)
 
--- a value alone; while several values are taken, nothing is settled before the next
+-- the effect of a value alone; if its argument takes several values, what is held isn't settled first
 abbrev pub goes_alone : Bool → Held → Kinds × Held → Entry → Text → Walk × Kinds
 goes_alone keeps_on h p e v = (at (pushed e.name v (cond keeps_on h p.1)) 2, cond keeps_on [] p.0)
 
@@ -98,14 +98,14 @@ abbrev pub number_of : Value → Option ℕ
 number_of (number n) = n
 number_of other = None
 
--- of the row that was found for an argument of this kind
+-- what a request takes from the row that was found for an argument of this kind
 abbrev pub taken : ValueKind → Option Row → Value
 taken kind.Text row = text (option_and_then (λ (r : Row). slice_get r.values 0) row)
 taken kind.Flag row = flag (option_map_or (λ t. bytes_eq t (codes "true")) (option_and_then (λ (r : Row). slice_get r.values 0) row) false)
 taken (kind.Number least most) row = number (option_and_then (at_least least) (option_and_then (number_named most) (option_and_then row_text row)))
 taken (kind.OptionalNumber least most) row = number (option_and_then (at_least least) (option_and_then (number_named most) (option_and_then row_text row)))
 
--- where the argument has this value, or the flag is used or not
+-- what a request should take: the value of an argument, or whether a flag is used
 abbrev pub given : ValueKind → Text → Bool → Value
 given kind.Text v used = text (Some v)
 given kind.Flag v used = flag used
@@ -122,7 +122,7 @@ default_for id c = find (λ r. is_some (slice_get r.values 0) && bytes_eq r.id i
 
 -- ---- what is known of a command
 
--- something where a test holds
+-- x if the test holds, and otherwise `None`
 abbrev pub if_so : {X : Type 0} → Bool → X → Option X
 if_so b x = cond b (Some x) None
 
@@ -133,8 +133,8 @@ so {X} {b} {x} {y} same holds = same_Some x y (rw holds at same)
 abbrev pub takes_name : Text → Rule → Bool
 takes_name name a = not (is_some a.index) && has_long a name
 
--- of one of its arguments: how arguments lead on from a place (a flag, `--name=value`, `--name` before a value, that value, and a value
--- alone), how a value that is held is settled, and what is taken of its default
+-- facts on one argument of a command: how arguments lead on from a place (a flag, `--name=value`, `--name` before a
+-- value, that value, and a value alone), how a held value is settled, and what is taken from the default
 pub record ParameterFacts : Type 0 where
   pub flagged : Held → ℕ → Option Met
   pub attached : Held → ℕ → Text → Option Met
@@ -147,7 +147,7 @@ pub record ParameterFacts : Type 0 where
   pub small : Bool
   pub default : Option Value
 
--- and of the command: that no value alone is a second one, its defaults and checks, other arguments, and the argument that names it
+-- facts on a command: that it takes no second value alone, its defaults and checks, other arguments, and its name
 pub record CommandFacts : Type 0 where
   pub parameters : List ParameterFacts
   pub second : Option Rule
@@ -211,7 +211,7 @@ all_known : map (command_facts true) commands ≡ map (command_facts false) comm
 unfolding clap_on_literals
 all_known = refl
 
--- one of two lists of facts on the same things
+-- functions that agree on a list agree on each member
 at_one : {X Y : Type 0} (f g : X → Y) (xs : List X) (x : X) → map f xs ≡ map g xs → IsIn x xs → f x ≡ g x
 at_one f g [] x same here = absurd here
 at_one f g (y ∷ xs) x same (inl is) = subst (λ z. f z ≡ g z) is (ap (λ l. get_or l 0 (f y)) same)

@@ -37,7 +37,7 @@ use Rattle.arguments.proofs.WalkLemmas.{at, end_faults, faults_by, run}
 pub asked_by-called : (arguments : List Text) → asks_version arguments ≡ false → asked_by arguments ≡ called_by arguments
 asked_by-called arguments other = rw other refl
 
--- `clap` says of the program which matches arguments have, and which faults
+-- the contracts of `clap` state the matches and the faults of the program's arguments
 census_is_free : is_simple_and_free census_app ≡ true
 unfolding clap_on_literals
 census_is_free = refl
@@ -63,7 +63,7 @@ module _ (app : App) (arguments : List Text) (is : app ≡ census_app) (other : 
 
 -- ---- the name of a command
 
--- what the program itself finds wrong after a command
+-- the program itself finds no fault after a command
 top_fine : or_else (defaults_fault [] census_built.top.rules) (check_fault census_built.top (finished census_built.top.rules nothing_held) true) ≡ []
 unfolding clap_on_literals
 top_fine = refl
@@ -97,7 +97,7 @@ module _ (command : Command) (here : IsIn command commands) (program : Text) whe
       asked_by-called (program ∷ command.name ∷ arguments) (not_version program command.name arguments (ap (λ (f : CommandFacts). f.version) k))
       ∙ rw (faults, matches) refl
 
-  -- arguments that are lawful, of which some that must be there are missing or not
+  -- what lawful arguments ask for, whether or not a required one is missing
   pub asks_uses : (uses : List Use) (missing : Bool) → AreUses command uses → lacks_some command uses ≡ missing
       → asked_by (program ∷ command.name ∷ arguments_in uses)
       ≡ unless_faulty (or_else (check_kinds false false missing) []) (request_in ((leaf command).name, completed (leaf command) (rows_in uses)))
@@ -121,7 +121,7 @@ module _ (command : Command) (here : IsIn command commands) (program : Text) whe
 abbrev rows_for : Command → List Use → List Row
 rows_for command uses = completed (leaf command) (rows_in uses)
 
--- the arguments that say which soups, and how they are run, are the first nine of three commands
+-- the plan is made from the nine arguments that come first in three of the commands
 plan_taken : (uses : List Use) (rows : List Row) (more : List Entry) → AllTaken (table.seed ∷ table.first ∷ table.count ∷ table.also
     ∷ table.period ∷ table.horizon ∷ table.stride ∷ table.limit ∷ table.rule ∷ more) uses rows
     → (plan_in rows ≡ Some (plan_given uses)) × AllTaken more uses rows

@@ -1,4 +1,4 @@
--- Numbers in arguments: what `clap` accepts as one, and what is read of it.
+-- Numbers in arguments: what `clap` accepts as a number, and what is read from it.
 use Rattle.std.proofs.Common.{◌≡◌, ◌<◌, ◌==◌, ◌^◌, ◌&&◌, ℕ, Bool, true, false, cond, Option, None, Some, Result, Ok, Err, List, [], ◌∷◌, Decides, length}
 use Rattle.std.proofs.Common.{nat_le, nat_lt, option_and_then, refl, ap, arith, drop, le-leb, leb-true, ltb-true, ne_eqb}
 use Rattle.std.proofs.lemmas.Bool.{and_parts, false_from_ne_true}
@@ -39,7 +39,7 @@ parser_for kind.Flag = parser.Bool
 parser_for (kind.Number least most) = parser.Unsigned least most
 parser_for (kind.OptionalNumber least most) = parser.Unsigned least most
 
--- the limit of a kind is small enough for the code
+-- the limit of a number of this kind is below 2^64
 abbrev pub is_small : ValueKind → Bool
 is_small (kind.Number least most) = nat_lt most (2 ^ 64)
 is_small (kind.OptionalNumber least most) = nat_lt most (2 ^ 64)
@@ -68,7 +68,7 @@ kind_refused _ v h a = h
 
 -- ---- what is read of a number
 
--- a numeral within a limit
+-- a text of a number in its range is read as that number
 text_read : (least most : ℕ) (n : Text) → IsNumberFromTo least most n → number_named most n ≡ Some (digits_value 10 n)
 text_read least most n h = rw ((no_sign n h.numeral).1, (numeral-Decides n).1 h.numeral, le-leb _ _ h.high) refl
 
@@ -76,7 +76,7 @@ pub number_read : (least most : ℕ) (n : Text) → IsNumberFromTo least most n
     → option_and_then (at_least least) (number_named most n) ≡ Some (digits_value 10 n)
 number_read least most n h = rw (text_read least most n h, le-leb _ _ h.low) refl
 
--- a text that isn't read as one is none within the limit
+-- a text that isn't a numeral below 2^64 isn't one within a limit below 2^64
 none_within : (most : ℕ) (ds : Text) → most < 2 ^ 64 → (IsNumeral 10 ds × (digits_value 10 ds < 2 ^ 64) → ⊥)
     → (is_numeral ds && nat_le (digits_value 10 ds) most) ≡ false
 none_within most ds fits never = false_from_ne_true _ (λ e.
@@ -84,7 +84,7 @@ none_within most ds fits never = false_from_ne_true _ (λ e.
     let small = leb-true _ _ parts.1 in
     never ((numeral-Decides ds).0 parts.0, omega arith))
 
--- the number of an argument is the one that is read of its text, where it is within the limit
+-- the number found for an argument is the number that its text spells, if that is within the limit
 pub found_within : {E : Type 0} (most : ℕ) → most < 2 ^ 64 → (G : Text → Result ℕ E → Type 0)
     → ((t : Text) (r : Result ℕ E) → G t r → ParsesUnsigned 64 10 t r) → (o : Option Text) (found : Option ℕ) → (o ≡ None → found ≡ None)
     → ((t : Text) → o ≡ Some t → ReadsOne G t found) → option_and_then (within most) found ≡ option_and_then (number_named most) o

@@ -1,4 +1,4 @@
--- Words that ask for nothing: faults after arguments that are lawful, whatever comes after them, and calls without a command.
+-- Arguments that ask for nothing: lawful ones followed by a fault and anything else, and calls without a command.
 use Rattle.std.proofs.Common.{arith, ◌≡◌, ◌∙◌, ◌++◌, ◌==◌, ◌||◌, ℕ, Bool, true, false, cond, Option, None, Some, List, [], ◌∷◌, codes, ap, bytes_eq, inl, inr}
 use Rattle.std.proofs.Common.{option_map, refl, slice_get, sym, subst, ⊎_elim}
 use Rattle.std.specs.List.{list_any}
@@ -46,7 +46,7 @@ faulty_first one two f = grind arith
 stray : (s : Shape) → IsFaulty (stray_fault s)
 stray s = grind arith
 
--- an argument that is a fault is one whatever comes after it
+-- the faults of an argument, whatever comes after it
 abbrev pub turn_kinds : Shape → ℕ → Met → Kinds
 turn_kinds s position m = or_else m.1 (step_fault s position m.0.0 m.0.1)
 
@@ -55,7 +55,7 @@ word_faulty : (s : Shape) (h : Held) (position : ℕ) (argument : Text) (more : 
 unfolding walked walk_fault
 word_faulty s h position argument more f = faulty_first _ _ (faulty_first (turn_kinds s position (met s idle h position argument)) _ f)
 
--- a letter that is no option is a fault, and so is one that stands for an option whose long name is a fault
+-- a letter is a fault if it is no option, or if it stands for an option whose long name is a fault
 letter_faulty : (s : Shape) (b : Bool) (o : Option Rule) (flags : Text) (h : Held) (next : Held → Kinds)
     → IsFaulty (long_fault s.rules s.args_override_self o None h)
     → IsFaulty (short_fault s.rules s.args_override_self (cond b o None) flags (record h { skip = 0 }) next)
@@ -69,7 +69,7 @@ unfolding flags_fault chars
 letters_faulty s h [] x b o none first is f = cc
 letters_faulty s h (y ∷ ys) x b o none first is f = rw (none, first, is) (letter_faulty s b o _ h _ f)
 
--- What is held is settled with a fault. No argument takes several values.
+-- Here, settling what is held is a fault, and no argument takes several values.
 module _ (s : Shape) (rows : List Row) (p : Option (Text × List Text)) (single : list_any takes_several s.rules ≡ false)
     (settles : IsFaulty (settling s (holding rows p)).0) where
   abbrev h : Held
@@ -78,13 +78,13 @@ module _ (s : Shape) (rows : List Row) (p : Option (Text × List Text)) (single 
   abbrev again : Bool
   again = s.args_override_self
 
-  -- a value alone
+  -- a value alone is a fault
   value_stuck : (c : List Rule) (i : ℕ) → list_any takes_several c ≡ false
       → IsFaulty (option_map_or (λ a. positional_fault s.rules again a h) (arg_by_index c i) (stray_fault s))
   value_stuck [] i none = stray s
   value_stuck (a ∷ c) i none = grind (arith, value_stuck c i, settles)
 
-  -- `-abc`
+  -- `-abc` is a fault
   bundle_stuck : (i : ℕ) (argument flags : Text) → IsFaulty (turn_kinds s i (short_word s.rules idle argument flags h, bundle_fault s.rules again flags h))
   unfolding flags_fault bundle_met
   bundle_stuck i argument [] = value_stuck s.rules i single
@@ -94,7 +94,7 @@ module _ (s : Shape) (rows : List Row) (p : Option (Text × List Text)) (single 
       → IsFaulty (turn_kinds s i (long_or_other s.rules idle argument o h, flag_word_fault s.rules again o argument h))
   word_stuck i argument o = grind (arith, settles, value_stuck s.rules i single, bundle_stuck i argument)
 
-  -- whatever arguments come, there is a fault in them, or at their end
+  -- whatever arguments follow, there is a fault in them or at their end
   all_stuck : (more : List Text) (i : ℕ) (t : Bool)
       → IsFaulty (faults_by s (run s (record { held = h; waiting = idle; position = i; is_trailing = t; stopped = None }) more))
   unfolding walk_fault walked
@@ -105,12 +105,12 @@ module _ (s : Shape) (rows : List Row) (p : Option (Text × List Text)) (single 
     | inr other ↦ simp other (faulty_first _ _ (faulty_first _ _ (word_stuck i argument (long_of argument))))
   ]
 
--- what arguments tell is a fault, or what is held after them, and then there is one in the arguments after them or at the end
+-- if arguments tell a fault, or leave one in what is held, there is a fault in all arguments or at the end
 told_or_held : (told held later last : Kinds) → IsFaulty (or_else told held) → (IsFaulty held → IsFaulty (or_else later last))
     → IsFaulty (or_else (or_else told later) last)
 told_or_held told held later last f stuck = grind arith
 
--- a use is refused whose value is out of its range
+-- a use whose value is out of its range is a fault
 range_faulty : (e : Entry) (v : Text) (rows : List Row) → IsNotOfKind e.kind v → IsFaulty (faults_of e v rows)
 range_faulty e v rows refused = grind (arith, value_kinds-refused false (parser_for e.kind) v (kind_refused e.kind v refused))
 
@@ -133,7 +133,7 @@ module _ (command : Command) (here : IsIn command commands) {h : Held} {position
       (told_or_held step.told (settling s (holding step.kept step.pending)).0 _ _ (subst (λ (p : Kinds × Held). IsFaulty p.0) (sym step.settles) bad)
       (λ f. all_stuck s step.kept step.pending (ap (λ (f : CommandFacts). f.several) (known command here)) f more step.end false))
 
-  -- a value alone where the argument without a name is there already
+  -- a value alone is refused if the positional argument was given already
   second_faulty : (v : Text) → starts_with_minus v ≡ false → position ≡ 2 → Refused (v ∷ more)
   second_faulty v bare second = word_faulty s h position v more (subst IsFaulty (sym (ap (turn_kinds s position) (plain_met s idle h position v bare)))
       (rw (second, ap (λ (f : CommandFacts). f.second) (known command here)) (stray s)))
@@ -146,22 +146,22 @@ module _ (command : Command) (here : IsIn command commands) {h : Held} {position
       (cases_Bool (has_row (lone command) rows))
   refused u there stands of bad = use_faulty u there stands of tt bad
 
-  -- an argument that is a fault by itself
+  -- an argument that is a fault by itself is refused
   refused_word : (argument : Text) → IsFaulty (other_fault s None argument h) → Refused (argument ∷ more)
   refused_word argument f = word_faulty s h position argument more (faulty_first (other_fault s None argument h) _ f)
 
-  -- `--help`
+  -- `--help` is a fault
   help_faulty : IsFaulty (other_fault s None (codes "--help") h)
   help_faulty = subst IsFaulty (sym (ap (λ (f : CommandFacts). f.help h) (known command here) ∙ (λ j. or_else (is.settles j).0 (DisplayHelp ∷ [])))) refl
 
-  -- `-x`, and `-h`
+  -- `-x` and `-h` are refused
   refused_short : (argument : Text) → IsShort argument → Refused (argument ∷ more)
   refused_short argument u =
       let bad = letters_faulty s h u.letters u.letter (104 == u.letter || false) (arg_by_long s.rules (codes "help"))
       (ap (λ (p : Kinds × Held). p.1.skip) is.settles) u.first (ap (λ (f : CommandFacts). f.letters u.letter) (known command here)) help_faulty in
       refused_word argument (grind (arith, u.is_short, bad))
 
-  -- an option that is unknown
+  -- an unknown option is refused
   refused_unknown : (argument : Text) → IsUnknown command argument → Refused (argument ∷ more)
   refused_unknown argument u =
       let none : list_any (takes_name u.name) s.rules ≡ false =
@@ -174,7 +174,7 @@ module _ (command : Command) (here : IsIn command commands) {h : Held} {position
 no_request : (kinds : Kinds) (request : Option Request) → IsFaulty kinds → unless_faulty kinds request ≡ None
 no_request kinds request f = grind arith
 
--- after arguments that are lawful, arguments that are faults from there on
+-- lawful arguments, followed by arguments with a fault, ask for nothing
 none_asked : (command : Command) (here : IsIn command commands) (program : Text) (uses : List Use) (are : AreUses command uses) (more : List Text)
     → (let read = all_read command here uses are in IsFaulty (faults_by (leaf command) (run (leaf command) (at read.held read.end) more)))
     → asked_by (program ∷ command.name ∷ (arguments_in uses ++ more)) ≡ None
@@ -201,7 +201,7 @@ others_ask_for_nothing command here = record {
 
 -- ---- no command
 
--- an argument that isn't the name of a command
+-- `help`, which is listed after the commands and has no parameters
 abbrev help_command : Command
 help_command = record { name = codes "help"; parameters = [] }
 

@@ -52,7 +52,7 @@ all_found : (id : Text) (c : List Rule) (rows : List Row) → lookup id (fold wi
 all_found id [] rows = grind arith
 all_found id (a ∷ c) rows = all_found id c (with_default rows a) ∙ default_found id rows a (default_for id c)
 
--- no default is faulty where none is by itself
+-- if no default is faulty by itself, the defaults have no fault
 pub no_default_fault : (c : List Rule) (rows : List Row) → map (default_fault []) c ≡ map (λ _. []) c → defaults_fault rows c ≡ []
 unfolding defaults_fault
 no_default_fault [] rows fine = refl
@@ -67,7 +67,7 @@ pub rows_have : (name : Text) (uses : List Use) → has_row name (rows_in uses) 
 rows_have name [] = refl
 rows_have name (u ∷ more) = ap (λ b. bytes_eq (entry_in u).name name || b) (rows_have name more)
 
--- what a request takes of an argument with a value
+-- what a request takes from an argument with a value
 value_taken : (k : ValueKind) (name v : Text) → IsOfKind k v
     → taken k (Some (record { id = name; values = v ∷ []; count = None; source = Some CommandLine; reading = reading_of (parser_for k) })) ≡ given k v true
 value_taken kind.Text name v h = refl
@@ -75,7 +75,7 @@ value_taken kind.Flag name v h = ap (λ t. flag (bytes_eq t (codes "true"))) h
 value_taken (kind.Number least most) name v h = ap number (number_read least most v h)
 value_taken (kind.OptionalNumber least most) name v h = ap number (number_read least most v h)
 
--- what holds of each thing in a list that fails a test
+-- a property of all members that fail a test holds for a list whose members all fail it
 each_failing : {X : Type 0} (P : X → Type 0) (p : X → Bool) (xs : List X) → list_any p xs ≡ false → ((x : X) → IsIn x xs → p x ≡ false → P x)
     → AllByRecursion P xs
 each_failing P p [] none all = tt
@@ -83,7 +83,7 @@ each_failing P p (x ∷ xs) none all =
     let parts = or_parts (p x) (list_any p xs) none in
     (all x (inl refl) parts.0, each_failing P p xs parts.1 (λ y here. all y (inr here)))
 
--- a row of a use is given, and that of a default isn't
+-- the row is that of a use, not of a default
 abbrev explicit : Option Row → Bool
 explicit row = option_map_or (λ (r : Row). explicit_source r.source) row false
 
@@ -96,7 +96,7 @@ used_given : (default : Option Row) → explicit default ≡ false → (name : T
 used_given default none name [] = none
 used_given default none name (u ∷ more) = grind (arith, used_given default none name more)
 
--- what is taken of all arguments of a list
+-- a request takes the given value of each of these arguments
 abbrev pub AllTaken : List Entry → List Use → List Row → Type 0
 AllTaken es uses rows = AllByRecursion (λ e. taken e.kind (lookup e.name rows) ≡ given e.kind (text_given e uses) (is_used e.name uses)) es
 
@@ -111,7 +111,7 @@ module _ (command : Command) (here : IsIn command commands) where
       same_Some e' e (sym (ap (λ (f : ParameterFacts). f.same_name) (known_of command here e' there')) ∙ ap named_by ((bytes_eq-Decides _ _).0 named)
       ∙ ap (λ (f : ParameterFacts). f.same_name) (known_of command here e there))
 
-  -- what is found of an argument that doesn't lack, in the rows of these uses or in its default
+  -- a request takes the given value of an argument that isn't missing, from the rows of the uses or from its default
   uses_taken : (e : Entry) (uses : List Use) → IsIn e command.parameters → AreUses command uses → (is_required e && not (is_used e.name uses)) ≡ false
       → taken e.kind (option_or (lookup e.name (rows_in uses)) (default_for e.name c)) ≡ given e.kind (text_given e uses) (is_used e.name uses)
   uses_taken e [] there are whole = so (ap (λ (f : ParameterFacts). f.default) (known_of command here e there)) (ap not whole)
@@ -121,12 +121,12 @@ module _ (command : Command) (here : IsIn command commands) where
       (λ other. rw other (uses_taken e more there are.2 (rw other at whole)))
       (cases_Bool (bytes_eq (entry_in u).name e.name))
 
-  -- what a request takes of the arguments
+  -- a request takes the given value of each argument of the command
   pub all_taken : (uses : List Use) → AreUses command uses → lacks_some command uses ≡ false
       → AllTaken command.parameters uses (completed (leaf command) (rows_in uses))
   all_taken uses are whole = each_failing _ (λ e. is_required e && not (is_used e.name uses)) command.parameters whole
       (λ e there has. ap (taken e.kind) (all_found e.name c (rows_in uses)) ∙ uses_taken e uses there are has)
 
-  -- what is given is what is used
+  -- an argument is given if and only if it is used
   pub given_used : (name : Text) (uses : List Use) → takes.is_given name (completed (leaf command) (rows_in uses)) ≡ is_used name uses
   given_used name uses = ap explicit (all_found name c (rows_in uses)) ∙ used_given (default_for name c) (not_given name c) name uses

@@ -22,7 +22,7 @@ run s w arguments = (walk_fault s [] w arguments, fold (walked s.rules []) w arg
 abbrev pub after : {X : Type 0} → Kinds → Kinds × X → Kinds × X
 after kinds r = (or_else kinds r.0, r.1)
 
--- what is held is settled when something follows: the faults of that, and what is held then
+-- settling what is held, when something follows: the faults, and what is held then
 abbrev pub settling : Shape → Held → Kinds × Held
 settling s h = (settle_fault s.rules s.args_override_self h, settled s.rules h)
 
@@ -43,7 +43,7 @@ Met = (Held × WalkStep) × Kinds
 abbrev pub met : Shape → Waiting → Held → ℕ → Text → Met
 met s waiting h position argument = (subcommand_or_other s.rules None waiting position argument h, other_fault s None argument h)
 
--- and how the walk goes on then
+-- how the walk goes on after an argument
 abbrev pub goes_on : Shape → Waiting → Held → ℕ → Text → List Text → Met → Kinds × Walk
 goes_on s waiting h position argument more m = after (or_else m.1 (step_fault s position m.0.0 m.0.1))
     (run s (after_step s.rules argument (waits waiting h position) m.0.0 m.0.1) more)
@@ -64,7 +64,7 @@ or_else_nil kinds = grind arith
 
 -- ---- rows
 
--- a row that isn't there is put at the end
+-- if no row has the id, the missing rows are put at the end
 pub at_row_none : (id : Text) (change : Row → List Row) (missing rows : List Row) → has_row id rows ≡ false → at_row id change missing rows ≡ rows ++ missing
 at_row_none id change missing [] none = refl
 at_row_none id change missing (r ∷ rs) none = grind (arith, at_row_none id change missing rs)

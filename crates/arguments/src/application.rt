@@ -44,8 +44,8 @@ pub fn census_command<'a>(alloc: Global) -> Result<Command<'a>, OutOfMemory>
     with_commands(alloc, program(alloc), &rows())
 }
 
-/// Returns the rows of all commands, as help lists them. The long rows have functions of their own, because one function
-/// with all rows takes twice as long to prove.
+/// Returns the rows of all commands, as help lists them. The long rows have functions of their own, because one
+/// function with all rows takes twice as long to prove.
 fn rows() -> [CommandRow; 7]
     ensures { map command_of result ≡ commands }
 {

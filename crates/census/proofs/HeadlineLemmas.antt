@@ -47,7 +47,7 @@ use Rattle.census.specs.Requests.{right_for, take_behaviour_from}
 
 -- ---- what was read is what was written
 
--- a seed is its text
+-- a seed that was read is its text
 seed_text : (text seed : List ℕ) → seed_read text ≡ Ok seed → seed ≡ text
 seed_text text seed is = go (nat_lt most_bytes (length text)) refl (position is_invisible text) refl
   where
@@ -106,7 +106,7 @@ job_of uses job is =
 
 -- ---- what was printed
 
--- a plan's census is that of the call
+-- the census that is printed for the plan of a call is the census of the call
 census_of : (uses : List Use) (before after : Option (List ℕ)) → (prints : PrintsCensus (plan_given uses) before after)
     → IsCensusOfCall uses prints.tells.census
 census_of uses before after prints = record {
@@ -121,7 +121,7 @@ census_of uses before after prints = record {
   counted = prints.tells.counted;
 }
 
--- what was done is what a call asks for
+-- what was made is right for the request of the call
 right_of : (arguments : List Text) (reader before after : Option (List ℕ)) (errors : Stream) (missing : ℕ) (request : Request)
     → (done : IsDone arguments reader before after errors missing) → asked_by arguments ≡ Some request
     → right_for request done.bytes (Ok done.made)
@@ -147,7 +147,7 @@ take_prints arguments reader before after errors missing done uses call =
     let prints = prints_right (plan_given uses) done.made.text before after right done.written in
     (prints.tells.census, census_of uses before after prints, subst (Appends before after) prints.tells.text_is prints.grown)
 
--- the pattern of an input
+-- the pattern of an input is the pattern that its bytes spell
 read_of : (bytes : List ℕ) (cells : List Cell) → pattern_of bytes ≡ Ok cells → pattern bytes ≡ Ok cells
 read_of bytes cells is = go (nat_le (length bytes) (2 ^ 24)) (pattern bytes) refl is
   where
@@ -157,7 +157,7 @@ read_of bytes cells is = go (nat_le (length bytes) (2 ^ 24)) (pattern bytes) ref
     go true (Err fault) read_is e = cc
     go false read read_is e = cc
 
--- the finding that a text tells is that of the call
+-- a right text of `name` is the text of the call's finding
 finding_of : (uses : List Use) (bytes text : List ℕ) (before after : Option (List ℕ))
     → name_right (profile_given uses) (text_given table.rule uses) bytes (Ok text) → Appends before after text
     → (finding : Finding) × IsFindingOf uses bytes finding × Appends before after (finding_text finding)
@@ -250,7 +250,7 @@ gather_prints arguments reader before after errors missing code same_end done us
       (lines.tells.census, gathered_of uses done.bytes done.made code lines both, subst (Appends before after) lines.tells.text_is done.written),
     )
 
--- what was done is what the headline says
+-- if a request was done, the headline holds
 pub prints_what_is_asked : (arguments : List Text) (reader before after : Option (List ℕ)) (errors : Stream)
     → IsDone arguments reader before after errors 0 → PrintsWhatIsAsked arguments reader before after
 prints_what_is_asked arguments reader before after errors done = record {

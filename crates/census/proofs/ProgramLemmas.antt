@@ -1,4 +1,4 @@
--- From what a command leaves in a buffer to what is with the writer below it.
+-- From what a command writes to a buffer to what the writer below the buffer has.
 use Rattle.std.proofs.Common.{◌≡◌, ◌∙◌, ℕ, zero, suc, List, [], true, false, Option, None, Some, Ok, Err, IsSomeAnd, IfSome}
 use Rattle.std.proofs.Common.{◌≢◌, ◌⊎◌, Bool, arith, cond, inl, inr, refl, rules, sym, ap, subst, append-nil}
 use Rattle.std.specs.Io.KnownBytes.{Appends, Keeps, append_known}
@@ -39,7 +39,7 @@ is_incomplete status code = search rules
 
 -- ---- bytes
 
--- an empty buffer holds nothing back
+-- if a buffer is empty, the writer below it has all that was written
 whole_sent : (before written below : Option (List ℕ)) (text : List ℕ) → Appends before written text → Keeps written (append_known below [])
     → Appends before below text
 whole_sent None written below text wrote kept = tt
@@ -47,7 +47,7 @@ whole_sent (Some xs) None below text wrote kept = absurd wrote
 whole_sent (Some xs) (Some ys) None text wrote kept = absurd kept
 whole_sent (Some xs) (Some ys) (Some zs) text wrote kept = sym (append-nil zs) ∙ kept ∙ wrote
 
--- what is below a buffer is a prefix of what was written
+-- the bytes below a buffer are a prefix of those that were written to it
 pub prefix_sent : (written below : Option (List ℕ)) (held : List ℕ) → Keeps written (append_known below held) → IsPrefixOf written below
 prefix_sent None below held kept = tt
 prefix_sent (Some ys) None held kept = absurd kept
@@ -62,7 +62,7 @@ pub nothing_written : (before : Option (List ℕ)) → Appends before before [] 
 nothing_written None = (tt, tt)
 nothing_written (Some xs) = (sym (append-nil xs), ([], append-nil xs))
 
--- nothing, and then nothing
+-- nothing was added, and then nothing more
 nothing_more : (before so_far after : Option (List ℕ)) → Appends before so_far [] → Appends so_far after [] → Appends before after []
 nothing_more None so_far after first second = tt
 nothing_more (Some xs) None after first second = absurd first
@@ -75,11 +75,11 @@ nothing_more (Some xs) (Some ys) (Some zs) first second = second ∙ append-nil 
 unprinted : (complaint : Complaint) → has_printed (status_of complaint) ≡ false
 unprinted complaint = search rules
 
--- only gathering tells of its input
+-- a request that writes no lines to standard error makes no diagnostics
 quiet : (request : Request) (bytes : List ℕ) (made : Made) → writes_lines request ≡ false → right_for request bytes (Ok made) → made.diagnostics ≡ []
 quiet request bytes made mute is = search rules
 
--- the last line, which is none if nothing is missing
+-- the last line, which is empty if no soup is missing
 told_last : (missing : ℕ) (s : Stream) → HasLast (Ok missing) s → HasLine s (last_line (Ok missing))
 told_last zero s last = subst (λ b. MatchBool b (HasPrefix s []) (Has s [])) (sym last.1) last.0
 told_last (suc n) s last = last
@@ -88,7 +88,7 @@ told_none : (missing : ℕ) (s : Stream) → missing ≡ 0 → HasLast (Ok missi
 told_none zero s none last = last.0
 told_none (suc n) s none last = cc
 
--- what a command printed is with the writer below the buffer, which is empty
+-- the buffer is empty, and the writer below it has all that a command printed
 pub record Prints (arguments : List Text) (reader before below : Option (List ℕ)) (status : Status) (errors : Stream) : Type 0 where
   pub missing : ℕ
   pub status_is : status ≡ status_after (Ok missing)
@@ -139,7 +139,7 @@ module _ (arguments : List Text) (reader below : Option (List ℕ)) (status : St
       let (request, asked, done) = some_and (asked_by arguments) does in
       request_prints request asked done
 
--- a command that printed was done, or was done but for soups that are missing
+-- if the status is `Done`, no soup is missing
 pub at_done : (P : ℕ → Type 0) (missing : ℕ) → status_after (Ok missing) ≡ statuses.Done → P missing → P 0
 at_done P zero is p = p
 at_done P (suc n) is p = cc
@@ -153,7 +153,7 @@ unlike P status printed done less = search rules
 
 -- ---- arguments that ask for nothing, and the version
 
--- a buffer that is sent on changes no usage into another status
+-- if the program ends with status `Usage` after a flush, the command did, too
 pub still_usage : (status result : Status) → (has_printed status ≡ false → result ≡ status) → (result ≢ status → result ≡ statuses.Failed)
     → result ≡ statuses.Usage → status ≡ statuses.Usage
 still_usage statuses.Done result kept failed is =
@@ -173,7 +173,7 @@ keeps_all : (sent : Option (List ℕ)) → Keeps sent (append_known sent [])
 keeps_all None = tt
 keeps_all (Some xs) = append-nil xs
 
--- how the program ends where it prints the version without a buffer
+-- how the program ends if it prints the version without a buffer
 pub record EndsVersion (arguments : List Text) (reader before after : Option (List ℕ)) (status : Status) (errors : Stream) : Type 0 where
   pub done : status ≡ statuses.Done → IsDone arguments reader before after errors 0
   pub silent : status ≡ statuses.Done → IfSome (asked_by arguments) (λ request. writes_lines request ≡ false → Has errors [])
@@ -210,7 +210,7 @@ ends_version arguments reader before after status written errors asks failed sta
       };
     }
 
--- what only prints ends with code 0 or 5
+-- a command that only prints ends with exit code 0 or 5
 pub prints_or_fails : (status : Status) → (status ≢ statuses.Done → status ≡ statuses.Failed) → (exit_code status ≡ 0) ⊎ (exit_code status ≡ 5)
 prints_or_fails statuses.Done failed = inl refl
 prints_or_fails statuses.Failed failed = inr refl
@@ -219,7 +219,7 @@ prints_or_fails statuses.Refused failed = inr (ap exit_code (failed (λ is. cc))
 prints_or_fails statuses.Memory failed = inr (ap exit_code (failed (λ is. cc)))
 prints_or_fails statuses.Incomplete failed = inr (ap exit_code (failed (λ is. cc)))
 
--- and these codes leave nothing to be said but that the input wasn't read
+-- with these codes, the only thing that has to be left unchanged is the input
 pub printing_leaves : (arguments : List Text) (code : ℕ) (errors : Stream) (input output unprinted : Type 0) → (code ≡ 0) ⊎ (code ≡ 5) → input
     → LeavesAlone arguments code errors input output unprinted
 printing_leaves arguments code errors input output unprinted either same = record {

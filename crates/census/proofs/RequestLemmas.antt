@@ -8,8 +8,8 @@ use Rattle.pattern_commands.proofs.AnswerLemmas.{some_input}
 use Rattle.arguments.specs.declared.request.Request.{Request}
 use Rattle.census.specs.Requests.{DoesRequest, behaviour_of}
 
--- if a command with the behaviour of the request ended as this behaviour allows, whatever the input was, the request was
--- done
+-- if a command with the behaviour of the request ended as this behaviour allows, whatever the input was, the
+-- request was done
 pub does : {reader : Option (List ℕ)} {status : Status} {output errors : Stream} (request : Request) (behaviour : Behaviour)
     → behaviour ≡ behaviour_of request → ((reader : Option (List ℕ)) (bytes : List ℕ) → Ends behaviour reader bytes status output errors)
     → DoesRequest reader status output errors request

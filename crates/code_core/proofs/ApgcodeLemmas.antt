@@ -16,7 +16,7 @@ use Rattle.code_core.specs.Apgcodes.{HasCodeShape, code_text, ending, is_code_by
 use Rattle.code_core.specs.Texts.{HasTextShape}
 use Rattle.code_core.specs.Tokens.{is_character}
 
--- the kind that is read off is that of the name
+-- the kind that is read from an apgcode is the kind that it was made with
 pub kind_of_name : (kind : Kind) (number : ℕ) (text : Option (List ℕ)) → kind_in (code_text kind number text) ≡ kind
 unfolding kind_in code_text
 kind_of_name Still number None = refl
@@ -26,7 +26,7 @@ kind_of_name Oscillator number (Some t) = refl
 kind_of_name Ship number None = refl
 kind_of_name Ship number (Some t) = refl
 
--- digits from the front on, up to what is no digit
+-- taking digits from the front stops at the first byte that is no digit
 digits_in_prefix : (ds remainder : List ℕ) → AllDigits 10 ds → take_while is_digit remainder ≡ [] → take_while is_digit (ds ++ remainder) ≡ ds
 digits_in_prefix [] remainder all end = end
 digits_in_prefix (d ∷ ds) remainder all end =
@@ -54,13 +54,13 @@ after_letter Oscillator number (Some t) = refl
 after_letter Ship number None = refl
 after_letter Ship number (Some t) = refl
 
--- the number that is read off is that of the name
+-- the number that is read from an apgcode is the number that it was made with
 pub number_of_name : (kind : Kind) (number : ℕ) (text : Option (List ℕ)) → number < 2 ^ 64 → number_in (code_text kind number text) ≡ number
 number_of_name kind number text low = after_letter kind number text ∙ number_in_prefix number (ending text) low (no_digits text)
 
 -- ---- the shape of a name
 
--- a test of all bytes of two texts one after another
+-- if all bytes of two texts pass a test, so do all bytes of the two joined
 all_on : (p : ℕ → Bool) (xs ys : List ℕ) → list_all p xs ≡ true → list_all p ys ≡ true → list_all p (xs ++ ys) ≡ true
 all_on p xs ys h k = list_all-append p xs ys ∙ and_from _ _ h k
 

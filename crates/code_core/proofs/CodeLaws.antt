@@ -24,7 +24,7 @@ use Rattle.std.specs.Prelude.{IfSome, ◌^◌}
 use Rattle.code_core.proofs.LeastLemmas.{text_cmp_total}
 use Rattle.code_core.proofs.RecurrenceLemmas.{le_or_lt}
 
--- texts that tie are one text
+-- texts that tie are equal
 pub texts_tie : OnlyEqualTextsTie
 texts_tie a b e = slice_cmp-IsAntisymmetric nat_cmp-IsAntisymmetric a b (second_ties (nat_cmp (length a) (length b)) (slice_cmp nat_cmp a b) e)
   where
@@ -33,7 +33,7 @@ texts_tie a b e = slice_cmp-IsAntisymmetric nat_cmp-IsAntisymmetric a b (second_
     second_ties Equal q e = e
     second_ties Greater q e = cc
 
--- neither comes after the other, so they tie
+-- two texts, neither of which comes after the other, tie
 text_cmp-tie : (a b : List ℕ) → text_cmp a b ≢ Greater → text_cmp b a ≢ Greater → text_cmp a b ≡ Equal
 text_cmp-tie a b one other = go (text_cmp a b) refl
   where
@@ -42,7 +42,7 @@ text_cmp-tie a b one other = go (text_cmp a b) refl
     go Equal is = is
     go Greater is = absurd (one is)
 
--- there is one least text
+-- the least text is unique
 least_is_one : (P : List ℕ → Type 0) (a b : Option (List ℕ)) → IsLeastOf P a → IsLeastOf P b → a ≡ b
 least_is_one P None None one other = refl
 least_is_one P None (Some b) one other = absurd (one b other.0)
@@ -52,14 +52,14 @@ least_is_one P (Some a) (Some b) one other = ap Some (texts_tie a b (text_cmp-ti
 same_step : (a v w : ℤ) → a +ℤ v ≡ a +ℤ w → v ≡ w
 same_step a v w e = omega (arith, ints)
 
--- a pattern with a cell is moved to a place in one way
+-- the displacement between two nonempty patterns is unique
 one_move : (cells : List Cell) (dx dy ex ey : ℤ) → cells ≢ [] → shifted dx dy cells ≡ shifted ex ey cells → (dx ≡ ex) × (dy ≡ ey)
 one_move [] dx dy ex ey some is = absurd (some refl)
 one_move (c ∷ cs) dx dy ex ey some is =
     let first : moved_by dx dy c ≡ moved_by ex ey c = cc in
     (same_step c.x dx ex (ap (λ (d : Cell). d.x) first), same_step c.y dy ey (ap (λ (d : Cell). d.y) first))
 
--- a pattern recurs in one way
+-- the recurrence of a nonempty pattern is unique
 pub recurs_once : (rule : Numbers) (cells : List Cell) (limit : ℕ) (q r : Recurrence) → cells ≢ [] → Recurs rule cells limit q → Recurs rule cells limit r → q ≡ r
 recurs_once rule cells limit q r some one other =
     let low : q.period ≤ r.period = not_less r.period q.period (λ less. one.least r.period r.dx r.dy other.some less other.back) in
@@ -71,7 +71,7 @@ recurs_once rule cells limit q r some one other =
     not_less : (a b : ℕ) → (a < b → ⊥) → b ≤ a
     not_less a b never = elim (le_or_lt b a) [ inl low ↦ low | inr less ↦ absurd (never less) ]
 
--- so it has one name
+-- so the name of a nonempty pattern is unique
 pub codes_are_determined : CodesAreDetermined
 codes_are_determined rule cells limit one other some h k =
     let recurrence : h.recurrence ≡ k.recurrence = recurs_once rule cells limit h.recurrence k.recurrence some h.recurs k.recurs in

@@ -12,12 +12,12 @@ use Rattle.plane_core.proofs.lemmas.plane.CellLemmas.{cell_cmp-moved}
 use Rattle.code_core.specs.Columns.{IsBoxed}
 use Rattle.std.specs.Ordering.{is_eq}
 
--- a moved list has a moved cell just where the list has the cell
+-- a moved pattern has a moved cell if and only if the pattern has the cell
 pub has-shifted : (dx dy : ℤ) (cells : List Cell) (c : Cell) → has (shifted dx dy cells) (moved_by dx dy c) ≡ has cells c
 has-shifted dx dy [] c = refl
 has-shifted dx dy (d ∷ ds) c = λ i. is_eq (cell_cmp-moved dx dy c d i) || has-shifted dx dy ds c i
 
--- a pattern with this box has, moved to the corner, a cell where it has the one as far from the box's corner
+-- the cells of a pattern, counted from the corner of its box, are the cells of the pattern moved to the corner
 pub has-at_corner : (cells : List Cell) (b : Bounds) (x y : ℕ) → box_of cells ≡ Some b
     → has cells (cell_at (b.left +ℤ pos x) (b.top +ℤ pos y)) ≡ has (at_corner cells) (cell_at (pos x) (pos y))
 has-at_corner cells b x y e =

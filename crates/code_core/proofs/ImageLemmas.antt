@@ -1,4 +1,4 @@
--- A pattern at the corner is at its corner, and a pattern in its own orientation is itself.
+-- Moving a pattern to the corner is idempotent, and the orientation `Same` changes nothing.
 use Rattle.std.proofs.Common.{◌≡◌, ◌∙◌, sym, ap, refl, ℤ, pos, ◌+ℤ◌, neg_ℤ, Bool, true, false, ◌&&◌, List, [], ◌∷◌, map, Option, None, Some, arith}
 use Rattle.std.proofs.lemmas.Int.{ints}
 use Rattle.plane_core.specs.declared.plane.cell.Cell.{Cell}
@@ -10,7 +10,7 @@ use Rattle.plane_core.specs.plane.Orientations.{image, turned_cell}
 use Rattle.plane_core.proofs.lemmas.plane.CommuteLemmas.{set_of-in_order}
 use Rattle.plane_core.proofs.lemmas.plane.OrientationLemmas.{at_corner-shifted}
 
--- a pattern at the corner is its own image at the corner
+-- `at_corner` is idempotent
 pub at_corner-again : (cells : List Cell) → at_corner (at_corner cells) ≡ at_corner cells
 at_corner-again cells = go (box_of cells) refl
   where
@@ -18,7 +18,7 @@ at_corner-again cells = go (box_of cells) refl
     go None is = refl
     go (Some b) is = at_corner-shifted (neg_ℤ b.left) (neg_ℤ b.top) cells ∙ ap (λ (o : Option Bounds). cornered o cells) is
 
--- a coordinate that stays where it is was moved by nothing
+-- a coordinate that a shift leaves unchanged is shifted by 0
 unmoved : (a v : ℤ) → a +ℤ neg_ℤ v ≡ a → v ≡ pos 0
 unmoved a v e = omega (arith, ints)
 
@@ -33,7 +33,7 @@ box_at_corner cells b is = go (at_corner cells) is (at_corner-again cells)
         let first : moved_by (neg_ℤ b.left) (neg_ℤ b.top) c ≡ c = cc in
         (unmoved c.x b.left (ap (λ (d : Cell). d.x) first), unmoved c.y b.top (ap (λ (d : Cell). d.y) first))
 
--- the image in its own orientation
+-- the image in the orientation `Same` is the pattern itself
 pub image-same : (cells : List Cell) → InOrder cells → image Same cells ≡ cells
 unfolding image
 image-same cells order = ap set_of (map-alone cells) ∙ set_of-in_order cells order

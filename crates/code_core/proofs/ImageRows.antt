@@ -1,4 +1,5 @@
--- The image of a pattern, from its box: each cell is as far from two sides of the image as it is from two sides of the box.
+-- The image of a pattern, by its box: the coordinates of an image's cell are the cell's distances from two sides of the
+-- box.
 use Rattle.std.proofs.Common.{◌≡◌, ◌∙◌, sym, ap, refl, subst, ℕ, ℤ, pos, neg_ℤ, ◌+ℤ◌, ◌≤ℤ◌, ◌+◌, ◌<◌, Bool, true, false, ◌&&◌, List, [], ◌∷◌, ◌++◌, length}
 use Rattle.std.proofs.Common.{◌*◌, ◌^◌, ◌%◌, Option, None, Some, bit_or, map, arith, cond, flat_map, get_or, ltb-true, set, take}
 use Rattle.std.proofs.lemmas.Bool.{and_parts}
@@ -139,7 +140,7 @@ box_of-moved dx dy (c ∷ cs) =
       bottom = most_moved c.y b.bottom dy i;
     }
 
--- from a side to itself, to a later column or row, and the same after a turn that exchanges the sides
+-- the difference of a side and itself, and of two sides, before and after both are negated
 to_itself : (a : ℤ) → a +ℤ neg_ℤ a ≡ pos 0
 to_itself a = omega (arith, ints)
 
@@ -200,7 +201,7 @@ corner-turned AntiDiagonal b wide high = λ i. record {
   bottom = backward b.left b.right wide i;
 }
 
--- the first side of a box comes before the last
+-- the left side of a box isn't right of its right side, and the top isn't below the bottom
 sides : (cs : List Cell) (b : Bounds) → box_of cs ≡ Some b → (b.left ≤ℤ b.right) × (b.top ≤ℤ b.bottom)
 sides [] b is = absurd cc
 sides (c ∷ cs) b is = between (within-box_of (c ∷ cs) b is).0
@@ -291,7 +292,7 @@ place_low o b c column row w wide high is = go o is
     go Diagonal same = both _ _ same top left
     go AntiDiagonal same = both _ _ same bottom right
 
--- the image of one cell more is put into the rows
+-- the image of one more cell is put into the rows
 pub image_put : (o : Orientation) (b : Bounds) (rows : List ℕ) (cs : List Cell) (k column row : ℕ) → length rows ≡ 64 → k < length cs
     → (column < 64) × (row < 64) → cell_at (pos column) (pos row) ≡ image_cell o b (get_or cs k default_cell)
     → ShowsRows (window_at (pos 0) (pos 0)) rows (map (image_cell o b) (take k cs))
@@ -317,7 +318,7 @@ image_put o b rows cs k column row long low small is shown = subst (ShowsRows (w
     taken =
         sym (map_append (take k cs) (get_or cs k default_cell ∷ [])) ∙ ap (map (image_cell o b)) (sym (take_more cs k default_cell low))
 
--- the rows in which all were put show the image
+-- once the images of all cells are put into the rows, the rows show the image
 pub image_shown : (o : Orientation) (b : Bounds) (rows : List ℕ) (cs : List Cell) (k : ℕ) → box_of cs ≡ Some b → take k cs ≡ cs
     → ShowsRows (window_at (pos 0) (pos 0)) rows (map (image_cell o b) (take k cs)) → ShowsInAllRows (pos 0) (pos 0) rows (turned o cs)
 image_shown o b rows cs k is all shown r i low near =
@@ -329,7 +330,7 @@ image_shown o b rows cs k is all shown r i low near =
 from_zero : (n : ℕ) → distance (pos 0) (pos n) ≡ n
 from_zero n = omega (arith, ints)
 
--- the last column and the last row of an image
+-- the test of the size is the same if columns and rows are exchanged
 fits_to : (m n : ℕ) → fits_forty_square (record { left = pos 0; top = pos 0; right = pos m; bottom = pos n })
     ≡ fits_forty_square (record { left = pos 0; top = pos 0; right = pos n; bottom = pos m })
 fits_to m n = and_swap (nat_lt (distance (pos 0) (pos m)) 40) (nat_lt (distance (pos 0) (pos n)) 40)
@@ -340,7 +341,7 @@ fits_same b = ap2 (from_zero (distance b.left b.right)) (from_zero (distance b.t
     ap2 : {m n p q : ℕ} → m ≡ p → n ≡ q → (nat_lt m 40 && nat_lt n 40) ≡ (nat_lt p 40 && nat_lt q 40)
     ap2 s t = λ i. nat_lt (s i) 40 && nat_lt (t i) 40
 
--- an image is small if the pattern is
+-- an image is small if and only if the pattern is
 pub fits-image : (o : Orientation) (b : Bounds) → fits_forty_square (image_box o b) ≡ fits_forty_square b
 fits-image Same b = fits_same b
 fits-image Quarter b = fits_to (distance b.top b.bottom) (distance b.left b.right) ∙ fits_same b
@@ -373,7 +374,7 @@ image_at_corner : (o : Orientation) (cs : List Cell) (b : Bounds) → box_of (tu
 unfolding turned
 image_at_corner o cs b is = box_at_corner (image o cs) b is
 
--- the text that was written for the rows of a small pattern's image is the image's
+-- the text that was written for the rows of a small pattern's image is the text of the image
 pub image_written : (o : Orientation) (cs : List Cell) (b ib : Bounds) (rows bytes : List ℕ) → ib ≡ image_box o b → box_of cs ≡ Some b
     → fits_forty_square b ≡ true → ShowsInAllRows (pos 0) (pos 0) rows (turned o cs)
     → ((cells : List Cell) → IsBoxed ib rows cells → bytes ≡ spelled_in (at_corner cells) ib) → Some bytes ≡ text (turned o cs)
@@ -390,11 +391,11 @@ image_written o cs b ib rows bytes is box small shown told =
     from_corner : ShowsInAllRows ib.left ib.top rows (turned o cs)
     from_corner = rw (corner.0, corner.1) shown
 
--- the image of a large pattern has none
+-- the image of a large pattern has no text
 pub no_text_of_image : (o : Orientation) (cs : List Cell) (b : Bounds) → box_of cs ≡ Some b → fits_forty_square b ≡ false → text (turned o cs) ≡ None
 no_text_of_image o cs b is large = text_by_box (turned o cs) (image_box o b) false (box_of-image o cs b is) (fits-image o b ∙ large)
 
--- nor has that of the empty pattern
+-- the image of the empty pattern has no text
 pub no_text_of_nothing : (o : Orientation) (cs : List Cell) → cs ≡ [] → text (turned o cs) ≡ None
 unfolding text turned image
 no_text_of_nothing o cs none = subst (λ (ds : List Cell). text (turned o ds) ≡ None) (sym none) refl
@@ -407,7 +408,7 @@ no_text : (cs : List Cell) → box_of cs ≡ None → text cs ≡ None
 unfolding text
 no_text cs is = ap (boxed_text cs) is
 
--- a pattern has the text of its image in its own orientation
+-- the image in the orientation `Same` has the pattern's text
 pub text-same : (cs : List Cell) → InOrder cs → text (turned Same cs) ≡ text cs
 text-same cs order = go (box_of cs) refl
   where

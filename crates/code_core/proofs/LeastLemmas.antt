@@ -28,7 +28,7 @@ not_greater Less h = refl
 not_greater Equal h = refl
 not_greater Greater h = absurd (h refl)
 
--- a text comes before itself or after it in no way
+-- a text doesn't come after itself
 text_cmp-itself : (a : List ℕ) → text_cmp a a ≢ Greater
 text_cmp-itself a e =
     let turned : text_cmp a a ≡ ordering_reverse (text_cmp a a) = text_cmp_total.antisymm a a in
@@ -39,7 +39,7 @@ text_cmp-itself a e =
     go Equal is e = cc
     go Greater is e = cc
 
--- what doesn't come after b, which doesn't come after c, doesn't come after c
+-- if a doesn't come after b, and b doesn't come after c, then a doesn't come after c
 pub text_cmp-onward : (a b c : List ℕ) → text_cmp a b ≢ Greater → text_cmp b c ≢ Greater → text_cmp a c ≢ Greater
 text_cmp-onward a b c first second = go (text_cmp b c) refl
   where
@@ -53,7 +53,7 @@ text_cmp-onward a b c first second = go (text_cmp b c) refl
         first (same ∙ e)
     go Greater is e = second is
 
--- a text alone is the first
+-- the least of at most one text is this text
 pub least_of_one : (o : Option (List ℕ)) → IsLeastOf (λ (t : List ℕ). o ≡ Some t) o
 least_of_one None = λ t one. cc
 least_of_one (Some a) = (refl, λ t one. alone t cc)
@@ -61,7 +61,7 @@ least_of_one (Some a) = (refl, λ t one. alone t cc)
     alone : (t : List ℕ) → a ≡ t → text_cmp a t ≢ Greater
     alone t is = subst (λ (u : List ℕ). text_cmp a u ≢ Greater) is (text_cmp-itself a)
 
--- the first of the same texts is the same
+-- the least text depends only on which texts there are
 pub least_of_same : (P Q : List ℕ → Type 0) (o : Option (List ℕ)) → ((t : List ℕ) → P t → Q t) → ((t : List ℕ) → Q t → P t) → IsLeastOf P o → IsLeastOf Q o
 least_of_same P Q None there back h = λ t q. h t (back t q)
 least_of_same P Q (Some a) there back h = (there a h.0, λ t q. h.1 t (back t q))
@@ -73,7 +73,7 @@ among_cases IsIn n t (k, low, is) =
     below : (k n : ℕ) → k < n + 1 → k ≤ n
     below k n low = omega arith
 
--- the first of two firsts
+-- the least text of a union is the earlier of the two least texts
 first_of_two : (P Q R : List ℕ → Type 0) (a b : Option (List ℕ)) → ((t : List ℕ) → P t → R t) → ((t : List ℕ) → Q t → R t) → ((t : List ℕ) → R t → P t ⊎ Q t)
     → IsLeastOf P a → IsLeastOf Q b → IsLeastOf R (earlier_text a b)
 first_of_two P Q R None None left right split p q = λ t r. elim (split t r) [ inl is ↦ p t is | inr is ↦ q t is ]
@@ -98,7 +98,7 @@ first_of_two P Q R (Some a) (Some b) left right split p q = go (text_cmp a b) re
     go Equal is = stays (λ e. cc)
     go Greater is = changes is
 
--- one group more
+-- the least text with one more group
 pub least_of_more : (IsIn : ℕ → List ℕ → Type 0) (n : ℕ) (a b : Option (List ℕ)) → IsLeastOf (Among IsIn n) a → IsLeastOf (IsIn n) b
     → IsLeastOf (Among IsIn (n + 1)) (earlier_text a b)
 least_of_more IsIn n a b p q = first_of_two (Among IsIn n) (IsIn n) (Among IsIn (n + 1)) a b (λ t one. (one.0, omega (arith, one.1), one.2))
@@ -155,7 +155,7 @@ pub phase_count : (rule : Numbers) (cells : List Cell) (n : ℕ) → length (pha
 unfolding phases
 phase_count rule cells n = length-map-range_with_len (after rule cells) 0 n
 
--- the least text of the phases is that of the pattern
+-- the least text of the phases is the least text of the pattern
 pub least_of_phases : (rule : Numbers) (cells : List Cell) (n : ℕ) (o : Option (List ℕ))
     → IsLeastOf (Among (IsImageOf (phases rule cells n)) (length (phases rule cells n))) o → IsLeastOf (IsImageText rule cells n) o
 least_of_phases rule cells n o h =
@@ -167,7 +167,7 @@ pub shape_of_least : (phases : List (List Cell)) (o : Option (List ℕ)) → IsL
 shape_of_least phases None h = tt
 shape_of_least phases (Some t) ((k, low, (o, is)), first) = texts_have_their_shape (turned o (get_or phases k [])) t is
 
--- the name by the phases is that of the pattern
+-- the apgcode made from the phases is the apgcode of the pattern
 pub named_by : (rule : Numbers) (cells : List Cell) (limit : ℕ) (found : List (List Cell)) (r : Recurrence) (code : List ℕ) → IsCycle rule cells limit found r
     → IsNameBy cells found r code → IsCode rule cells limit code
 named_by rule cells limit found r code is told = record {

@@ -40,7 +40,7 @@ after-shifted dx dy rule cells (suc g) order =
 either_way : (a v w : ℤ) → (a +ℤ v) +ℤ w ≡ (a +ℤ w) +ℤ v
 either_way a v w = omega (arith, ints)
 
--- two moves, in either order
+-- shifts commute
 pub shifted-swap : (dx dy ex ey : ℤ) (cells : List Cell) → shifted dx dy (shifted ex ey cells) ≡ shifted ex ey (shifted dx dy cells)
 shifted-swap dx dy ex ey [] = refl
 shifted-swap dx dy ex ey (c ∷ cs) = λ i. cell_at (either_way c.x ex dx i) (either_way c.y ey dy i) ∷ shifted-swap dx dy ex ey cs i
@@ -52,7 +52,7 @@ pub shifted-back : (dx dy : ℤ) (cells : List Cell) → shifted (neg_ℤ dx) (n
 shifted-back dx dy [] = refl
 shifted-back dx dy (c ∷ cs) = λ i. cell_at (there_and_back c.x dx i) (there_and_back c.y dy i) ∷ shifted-back dx dy cs i
 
--- patterns that are alike once moved are alike
+-- `shifted` is injective in the pattern
 pub shifted-same : (dx dy : ℤ) (S T : List Cell) → shifted dx dy S ≡ shifted dx dy T → S ≡ T
 shifted-same dx dy S T is = sym (shifted-back dx dy S) ∙ ap (shifted (neg_ℤ dx) (neg_ℤ dy)) is ∙ shifted-back dx dy T
 
@@ -60,7 +60,7 @@ pub length-shifted : (dx dy : ℤ) (cells : List Cell) → length (shifted dx dy
 length-shifted dx dy [] = refl
 length-shifted dx dy (c ∷ cs) = ap suc (length-shifted dx dy cs)
 
--- a pattern recurs as it does elsewhere
+-- a moved pattern recurs as the pattern does
 pub recurs-shifted : (dx dy : ℤ) (rule : Numbers) (cells : List Cell) (limit : ℕ) (r : Recurrence) → InOrder cells → Recurs rule cells limit r
     → Recurs rule (shifted dx dy cells) limit r
 recurs-shifted dx dy rule cells limit r order h = record {
@@ -71,7 +71,7 @@ recurs-shifted dx dy rule cells limit r order h = record {
       (shifted-same dx dy (after rule cells p) (shifted ex ey cells) (sym (after-shifted dx dy rule cells p order) ∙ is ∙ shifted-swap ex ey dx dy cells));
 }
 
--- the images of a moved pattern are the same
+-- a moved pattern has the image texts of the pattern
 text-shifted : (dx dy : ℤ) (rule : Numbers) (cells : List Cell) (period : ℕ) (t : List ℕ) → InOrder cells → IsImageText rule cells period t
     → IsImageText rule (shifted dx dy cells) period t
 text-shifted dx dy rule cells period t order h = record {
@@ -88,7 +88,7 @@ text-unshifted dx dy rule cells period t order h =
     subst (λ (S : List Cell). IsImageText rule S period t) (shifted-back dx dy cells)
     (text-shifted (neg_ℤ dx) (neg_ℤ dy) rule (shifted dx dy cells) period t (in_order-shifted dx dy cells order) h)
 
--- the number of a name looks at the population alone
+-- the number in a name depends on the cells only by their population
 pub number-same : (kind : Kind) (S T : List Cell) (r : Recurrence) → length S ≡ length T → number_of kind S r ≡ number_of kind T r
 number-same Still S T r is = is
 number-same Oscillator S T r is = refl

@@ -27,7 +27,7 @@ on_plane-small : (x y : ℕ) → x ≤ 1000000 → y ≤ 1000000 → on_plane (c
 unfolding on_plane
 on_plane-small x y hx hy = grind (arith, nat_tests)
 
--- what all elements pass, those do that a test keeps
+-- if all elements pass a test, so do those that a filter keeps
 list_all-map-filter : (q : Cell → Bool) (f : ℕ → Cell) (p : ℕ → Bool) (is : List ℕ) → list_all q (map f is) ≡ true → list_all q (map f (filter p is)) ≡ true
 list_all-map-filter q f p [] h = refl
 list_all-map-filter q f p (i ∷ is) h = go (p i) (q (f i)) refl h (list_all-map-filter q f p is)
@@ -47,7 +47,7 @@ lit_cells-on_plane k x value hx hk =
     at : (i : ℕ) → i ≤ 4 → on_plane (cell_at (pos x) (pos (5 * k + i))) ≡ true
     at i h = on_plane-small x (5 * k + i) hx (omega arith)
 
--- no column stands further right than 39 times the number of tokens, and no row lower than five times it and four
+-- each token takes at most 39 columns or five rows, so the cells of few enough tokens lie on the plane
 pub cells_from-on_plane : (tokens : List Token) → All IsToken tokens → (k x : ℕ) → x + 39 * length tokens ≤ 1000000
     → 5 * k + 4 + 5 * length tokens ≤ 1000000 → list_all on_plane (cells_from k x tokens) ≡ true
 unfolding cells_from
@@ -62,7 +62,7 @@ cells_from-on_plane (Gap n ∷ tokens) each k x hx hk =
 cells_from-on_plane (NextStrip ∷ tokens) each k x hx hk =
     cells_from-on_plane tokens (All-tail IsToken NextStrip tokens each) (k + 1) 0 (omega arith) (omega arith)
 
--- each value of a column has a live cell
+-- each column with a value from 1 to 31 has a live cell
 lit_rows : (value : ℕ) → 1 ≤ value → value ≤ 31 → 0 < length (filter (is_lit value) (range_with_len 0 5))
 lit_rows value low high =
     let at : get_or (range_with_len 1 31) (value - 1) 0 ≡ value = get_or-range_with_len 1 31 (value - 1) 0 (omega arith) ∙ omega arith in
@@ -81,7 +81,7 @@ length-lit_cells k x value low high = omega (
   length-map (filter (is_lit value) (range_with_len 0 5)) (λ i. cell_at (pos x) (pos (5 * k + i))),
 )
 
--- without a column there is no cell, and with one there is
+-- tokens without a column have no cell, and tokens with a column have one
 pub cells_from-none : (tokens : List Token) (k x : ℕ) → list_any is_column tokens ≡ false → cells_from k x tokens ≡ []
 unfolding cells_from
 cells_from-none [] k x h = refl
@@ -98,7 +98,7 @@ length-cells_from (Column value ∷ tokens) each k x h =
 length-cells_from (Gap n ∷ tokens) each k x h = length-cells_from tokens (All-tail IsToken (Gap n) tokens each) k (x + n) h
 length-cells_from (NextStrip ∷ tokens) each k x h = length-cells_from tokens (All-tail IsToken NextStrip tokens each) (k + 1) 0 h
 
--- a set of some cells is a pattern
+-- a set into which a cell was put isn't empty
 unless_empty-put : (c : Cell) (cells : List Cell) → unless_empty (put c cells) ≡ Ok (put c cells)
 unless_empty-put c [] = refl
 unless_empty-put c (d ∷ cells) = go (cell_cmp c d)
@@ -133,7 +133,7 @@ pub cells_from-next_strip : (k x : ℕ) (token : Token) (tokens : List Token) �
 unfolding cells_from
 cells_from-next_strip k x token tokens e = rw e refl
 
--- those of a column's cells that stand in its first rows
+-- the live cells in the first n rows of a column
 unfoldable pub lit_above : ℕ → ℕ → ℕ → ℕ → List Cell
 lit_above n k x value = map (λ i. cell_at (pos x) (pos (5 * k + i))) (filter (is_lit value) (range_with_len 0 n))
 
@@ -162,7 +162,7 @@ lit_above-all n k x value e = rw e refl
 
 pub ruleset lit = (lit_above-none, lit_above-lit, lit_above-dark, lit_above-all, append-nil, append_assoc)
 
--- cells of the plane aren't refused
+-- if all cells lie on the plane, none is refused
 position_or_len-all : (cells : List Cell) → list_all on_plane cells ≡ true → position_or_len off_plane cells ≡ length cells
 position_or_len-all [] h = refl
 position_or_len-all (c ∷ cells) h = go (on_plane c) refl h (position_or_len-all cells)

@@ -20,7 +20,7 @@ use Rattle.code_core.proofs.TokenReading.{tokens_at-bad, tokens_at-short_run, to
 use Rattle.code_core.proofs.TokenReading.{Spells-tokens_at, length-Begins, length-spelled}
 use Rattle.code_core.proofs.ReaderCells.{unless_empty-some, unless_empty-none, cells_from-on_plane}
 
--- tokens spell the text up to the rest, and it is known whether one of them is a column
+-- tokens spell the text up to the remainder, and `has_cell` says whether one of them is a column
 pub record Passed (text remainder : List ℕ) (has_cell : Bool) : Type 0 where
   pub tokens : List Token
   pub each : All IsToken tokens
@@ -48,7 +48,7 @@ Passed_more text remainder after token has_cell p b = record {
       ∙ or-false has_cell (is_column token));
 }
 
--- where no token begins, the fault is known
+-- if no token begins the remainder, its fault is what is read from it
 tokens_at-stuck : (place : ℕ) (remainder : List ℕ) (fault : WechslerFault) → IsStuck remainder → fault_without_token place remainder ≡ Some fault → tokens_at place remainder ≡ Err fault
 tokens_at-stuck place [] fault stuck e = absurd (cc)
 tokens_at-stuck place (b ∷ remainder) fault stuck e = go (is_character b) refl
@@ -68,7 +68,7 @@ Passed_fault text remainder has_cell fault p stuck e =
     rw (tokens_at-stops p.tokens remainder text 0 (length text - length remainder) fault p.each p.whole at
     (tokens_at-stuck (length text - length remainder) remainder fault stuck e)) refl
 
--- and at the end it is known whether there is a cell
+-- without a fault the text is read to its end, and `has_cell` says whether it has a cell
 fault_at-none : (place : ℕ) (remainder : List ℕ) → fault_without_token place remainder ≡ None → remainder ≡ []
 fault_at-none place [] e = refl
 fault_at-none place (b ∷ remainder) e = absurd (cc)
@@ -86,7 +86,7 @@ pub Passed_cells : (text remainder : List ℕ) (has_cell : Bool) (place : ℕ) �
     → result_err (wechsler_pattern text) ≡ None
 Passed_cells text remainder has_cell place p e some = rw (Passed_spells text remainder has_cell place p e, unless_empty-some p.tokens p.each (sym p.columns ∙ some)) refl
 
--- where a token begins a text that tokens spell, it is the first of them
+-- a token that begins a text is the first of the tokens that spell the text
 pub record TokensAfter (token : Token) (after : List ℕ) (tokens : List Token) : Type 0 where
   pub more : List Token
   pub spells : Spells more after
@@ -107,7 +107,7 @@ Spells_after tokens remainder after token s b = go (tokens_at (0 + length (spell
         ∙ tokens_at-Spells tokens remainder 0 s in
         absurd (cc)
 
--- and where none begins it, there is none
+-- if no token begins a text, only the empty list of tokens can spell it
 Spells_stuck : (tokens : List Token) (remainder : List ℕ) → Spells tokens remainder → IsStuck remainder → tokens ≡ []
 unfolding tokens_at
 Spells_stuck tokens [] s stuck = let e : tokens_at 0 [] ≡ Ok tokens = tokens_at-Spells tokens [] 0 s in cc
@@ -116,13 +116,13 @@ Spells_stuck tokens (b ∷ remainder) s stuck =
     let e : Err (if is_character b then ShortRun 0 else BadByte 0) ≡ Ok tokens = sym told ∙ tokens_at-Spells tokens (b ∷ remainder) 0 s in
     absurd (cc)
 
--- the cells up to the rest stand in the list, and those of the tokens that spell the rest are to come
+-- the list has the cells up to the remainder, and the cells of the tokens that spell the remainder are to come
 pub record ToCome (remainder : List ℕ) (cells : List Cell) (strip x : ℕ) (all : List Cell) : Type 0 where
   pub tokens : List Token
   pub spells : Spells tokens remainder
   pub cells_are : cells ++ cells_from strip x tokens ≡ all
 
--- the loop over the tokens has come to the rest, and to this strip and column
+-- the loop over the tokens has reached the remainder, in this strip and column
 pub record Gathered (text remainder : List ℕ) (cells : List Cell) (strip x : ℕ) : Type 0 where
   pub strips : strip + length remainder ≤ length text
   pub columns : x + 39 * length remainder ≤ 39 * length text
@@ -156,7 +156,7 @@ Gathered_all text remainder cells strip x g stuck tokens s =
     let t = g.to_come tokens s in
     sym (append-nil cells) ∙ ap (λ (left : List Token). cells ++ cells_from strip x left) (sym (Spells_stuck t.tokens remainder t.spells stuck)) ∙ t.cells_are
 
--- a text without a fault: its tokens, and the pattern that is theirs
+-- a text without a fault: its tokens, and the pattern of these tokens
 pub record IsSound (text : List ℕ) : Type 0 where
   pub tokens : List Token
   pub spells : Spells tokens text

@@ -21,14 +21,14 @@ use Rattle.code_core.specs.ReadingSteps.{has_character}
 use Rattle.code_core.proofs.TokenReading.{Outcome, tokens_at-outcome, Stops, IsBad, IsShort, Stops-bad, Stops-short, tokens_at-Stops_bad}
 use Rattle.code_core.proofs.TokenReading.{tokens_at-Stops_short, tokens_at-Spells, Spells-tokens_at}
 
--- a text within the limit is its pattern's
+-- within the length limit, reading a text gives its pattern or its fault
 read-short : (text : List ℕ) → length text ≤ 10000 → wechsler_read text ≡ wechsler_pattern text
 read-short text h = let e : nat_lt 10000 (length text) ≡ false = grind (arith, nat_tests) in rw e refl
 
 read-long : (text : List ℕ) → 10000 < length text → wechsler_read text ≡ Err TooLong
 read-long text h = let e : nat_lt 10000 (length text) ≡ true = grind (arith, nat_tests) in rw e refl
 
--- of a text that is read, the length
+-- a text that is read as a pattern is within the length limit
 short-read : (text : List ℕ) (cells : List Cell) → wechsler_read text ≡ Ok cells → length text ≤ 10000
 short-read text cells e = go (nat_lt 10000 (length text)) refl
   where
@@ -48,7 +48,7 @@ Says-pattern_of text (Err fault) cells t e = absurd (cc)
 pub Says-read : (text : List ℕ) (cells : List Cell) → wechsler_read text ≡ Ok cells → Says text cells
 Says-read text cells e = Says-pattern_of text (tokens_at 0 text) cells refl (sym (read-short text (short-read text cells e)) ∙ e)
 
--- and each pattern that a text says is read
+-- a nonempty pattern that a short text says is read from the text
 unless_empty-some : (cells : List Cell) → cells ≢ [] → unless_empty cells ≡ Ok cells
 unless_empty-some [] some = absurd (some refl)
 unless_empty-some (c ∷ cells) some = refl
@@ -57,7 +57,7 @@ pub wechsler_read-Says : (text : List ℕ) (cells : List Cell) → Says text cel
 wechsler_read-Says text cells s some short =
     read-short text short ∙ rw (tokens_at-Spells s.tokens text 0 s.spells, ← s.pattern) (unless_empty-some cells some)
 
--- a fault other than that of no cell is one of the tokens
+-- a fault other than `Empty` is a fault of the tokens
 pattern_of-err : (r : Result (List Token) WechslerFault) (fault : WechslerFault) → fault ≢ Empty → pattern_of_tokens r ≡ Err fault → r ≡ Err fault
 pattern_of-err (Ok tokens) fault other e = absurd (go (token_cells tokens) e)
   where
@@ -66,7 +66,7 @@ pattern_of-err (Ok tokens) fault other e = absurd (go (token_cells tokens) e)
     go (c ∷ cells) h = cc
 pattern_of-err (Err f) fault other e = let k : f ≡ fault = cc in ap (λ (g : WechslerFault). Err g) k
 
--- no token has these faults
+-- a fault that `Outcome` excludes is never read
 tokens_at-other : (text : List ℕ) (fault : WechslerFault) → (Outcome 0 text (Err fault) → ⊥) → tokens_at 0 text ≡ Err fault → ⊥
 tokens_at-other text fault none e = none (subst (λ (r : Result (List Token) WechslerFault). Outcome 0 text r) e (tokens_at-outcome text 0))
 
@@ -78,7 +78,7 @@ too_long text = (λ e. go (nat_lt 10000 (length text)) refl e, λ h. read-long t
     go false h e = let other : TooLong ≢ Empty = λ k. cc in absurd
         (tokens_at-other text TooLong (λ o. o) (pattern_of-err (tokens_at 0 text) TooLong other (rw h at e)))
 
--- a text that says the empty pattern
+-- a short text is read as the fault `Empty` if and only if it says the empty pattern
 pub no_cell : (text : List ℕ) → length text ≤ 10000 → (wechsler_read text ≡ Err Empty) ↔ Says text []
 no_cell text short = (
   λ e. there (tokens_at 0 text) refl (sym (read-short text short) ∙ e),
@@ -95,7 +95,7 @@ no_cell text short = (
     there (Err fault) t e = let k : fault ≡ Empty = cc in let f : tokens_at 0 text ≡ Err Empty = t ∙ ap (λ (g : WechslerFault). Err g) k in
         absurd (tokens_at-other text Empty (λ o. o) f)
 
--- the places of faults, as parts of the text and by their bytes
+-- the place of a fault, by parts of the text and by bytes
 IsBadByte-Stops : (text : List ℕ) (place : ℕ) → Stops IsBad 0 text place → IsBadByte text place
 IsBadByte-Stops text place s = go s.remainder s.whole s.so
   where
@@ -175,7 +175,7 @@ short_run text place short =
       λ s. read-short text short ∙ rw (tokens_at-Stops_short text 0 place (Stops-IsShortRun text place s)) refl,
     )
 
--- a law of what is read is one of a result that says the same
+-- a law about what is read carries over to a result that says the same
 pub told : (P : Type 0) (text : List ℕ) (r : Result (List Cell) WechslerError) (fault : WechslerFault)
     → (IsErrOf r (Fault fault) ↔ (wechsler_read text ≡ Err fault)) → (wechsler_read text ≡ Err fault) ↔ P → IsErrOf r (Fault fault) ↔ P
 told P text r fault f law = (λ e. law.0 (f.0 e), λ p. f.1 (law.1 p))

@@ -17,7 +17,7 @@ use Rattle.plane_core.proofs.lemmas.plane.GenerationLemmas.{after-none, after-mo
 use Rattle.plane_core.proofs.lemmas.plane.SpeedLemmas.{run_inside}
 use Rattle.code_core.specs.Recurrences.{Follows, MeetsEdge, Recurs, SearchEnds, StaysInside, phases}
 
--- one phase more
+-- one more phase
 pub phases-more : (rule : Numbers) (cells : List Cell) (n : ℕ) → phases rule cells (n + 1) ≡ phases rule cells n ++ after rule cells n ∷ []
 unfolding phases
 phases-more rule cells n = map-range_with_len_more (after rule cells) 0 n n (omega arith)
@@ -45,7 +45,7 @@ pub inside-more : (rule : Numbers) (cells : List Cell) (n : ℕ) (before : List 
     → (g : ℕ) → g < n + 1 → touches_edge (after rule cells g) ≡ false
 inside-more rule cells n before latest h off = below_more _ _ h.inside (ap touches_edge (sym h.latest) ∙ off)
 
--- one generation more, which isn't the pattern again
+-- one more generation, which isn't the pattern again
 pub follows-more : (rule : Numbers) (cells : List Cell) (n : ℕ) (before : List (List Cell)) (latest later : List Cell) → Follows rule cells n before latest
     → touches_edge latest ≡ false → later ≡ next rule latest → ((dx dy : ℤ) → shifted dx dy cells ≢ later)
     → Follows rule cells (n + 1) (before ++ latest ∷ []) later
@@ -76,7 +76,7 @@ recurs_then rule cells n limit before latest later dx dy h low next_is is = reco
   least = λ p ex ey some less back. h.new p ex ey some (omega arith) back;
 }
 
--- no generation that was stepped on touches the edge
+-- no generation before the one that is the pattern again touches the edge
 pub inside_then : (rule : Numbers) (cells : List Cell) (n : ℕ) (before : List (List Cell)) (latest later : List Cell) (dx dy : ℤ)
     → Follows rule cells n before latest
     → touches_edge latest ≡ false → later ≡ next rule latest → shifted dx dy cells ≡ later → (g : ℕ) → NeverRecurs rule cells g
@@ -100,12 +100,12 @@ pub meets_at_once : (rule : Numbers) (cells : List Cell) (limit : ℕ) → 1 ≤
 meets_at_once rule cells limit some on =
     (0, omega arith, λ p dx dy least most back. absurd (omega arith), ap touches_edge (after-none rule cells) ∙ on)
 
--- a pattern that lies too far in never meets it
+-- a pattern that lies far enough inside never meets the edge
 pub never_meets : (rule : Numbers) (cells : List Cell) (limit reach : ℕ) → lies_within reach cells ≡ true → reach + limit ≤ plane_bound
     → MeetsEdge rule cells limit → ⊥
 never_meets rule cells limit reach inside far (g, low, new, on) = false≢true (sym (run_inside rule cells reach g limit inside far low) ∙ on)
 
--- a step that was refused for the edge
+-- if a step was refused because of the edge, the pattern touches the edge
 pub step_refused : (cells : List Cell) (y : StepError) → RefusesStep cells y → y ≡ Edge → touches_edge cells ≡ true
 step_refused cells Edge refused e = refused
 step_refused cells (Memory error) refused e = cc
@@ -116,7 +116,7 @@ memory_is_no_edge e = cc
 -- ---- how a search ends
 
 module _ {X : Type 0} (F : X → Type 0) (rule : Numbers) (cells : List Cell) (limit : ℕ) where
-  -- it finds something
+  -- the search finds something
   pub ends_found : (x : X) → F x → StaysInside rule cells limit → touches_edge cells ≡ false → SearchEnds F rule cells limit (Ok (Some x))
   ends_found x is inside off = record {
     found = is;
@@ -127,7 +127,7 @@ module _ {X : Type 0} (F : X → Type 0) (rule : Numbers) (cells : List Cell) (l
     never_edge = λ reach within far e. false≢true (sym (ap is_ok e));
   }
 
-  -- or it sees that no generation is the pattern again
+  -- no generation is the pattern again
   pub ends_without : NeverRecurs rule cells limit → StaysInside rule cells limit → touches_edge cells ≡ false → SearchEnds F rule cells limit (Ok None)
   ends_without new inside off = record {
     found = tt;
@@ -138,7 +138,7 @@ module _ {X : Type 0} (F : X → Type 0) (rule : Numbers) (cells : List Cell) (l
     never_edge = λ reach within far e. false≢true (sym (ap is_ok e));
   }
 
-  -- or the pattern lies on the edge from the start
+  -- the pattern touches the edge from the start
   pub ends_at_once : 1 ≤ limit → touches_edge cells ≡ true → SearchEnds F rule cells limit (Err Edge)
   ends_at_once some on = record {
     found = tt;
@@ -149,7 +149,7 @@ module _ {X : Type 0} (F : X → Type 0) (rule : Numbers) (cells : List Cell) (l
     never_edge = λ reach within far e. never_meets rule cells limit reach within far (meets_at_once rule cells limit some on);
   }
 
-  -- or a generation was refused
+  -- a generation was refused
   pub ends_refused : (r : Result (Option X) StepError) (y : StepError) → IsErrAnd r (λ e. e ≡ y) → (y ≡ Edge → MeetsEdge rule cells limit)
       → touches_edge cells ≡ false → SearchEnds F rule cells limit r
   ends_refused (Ok x) y told meets off = absurd told
@@ -165,13 +165,13 @@ module _ {X : Type 0} (F : X → Type 0) (rule : Numbers) (cells : List Cell) (l
       is_edge : ◌≡◌ {A = Result (Option X) StepError} (Err z) (Err Edge) → y ≡ Edge
       is_edge e = cc
 
-  -- or memory ran out
+  -- memory ran out
   pub ends_by_memory : (r : Result (Option X) StepError) → IsErrAnd r (λ e. e ≡ Memory out_of_memory) → touches_edge cells ≡ false
       → SearchEnds F rule cells limit r
   ends_by_memory r told off = ends_refused r (Memory out_of_memory) told (λ e. absurd (memory_is_no_edge e)) off
 
 module _ {X Y : Type 0} (F : X → Type 0) (G : Y → Type 0) (rule : Numbers) (cells : List Cell) (limit : ℕ) where
-  -- a search that ended well didn't begin on the edge
+  -- a search that returned `Ok` didn't begin at the edge
   pub off_edge : (o : Option X) → SearchEnds F rule cells limit (Ok o) → touches_edge cells ≡ false
   off_edge o ends = split (touches_edge cells) refl
     where
@@ -179,6 +179,6 @@ module _ {X Y : Type 0} (F : X → Type 0) (G : Y → Type 0) (rule : Numbers) (
       split false e = e
       split true e = absurd (false≢true (sym (ap is_ok (ends.edge_first e))))
 
-  -- what was found is told in other words
+  -- the result of a search may be described by another predicate
   pub found_as : (x : X) (y : Y) → SearchEnds F rule cells limit (Ok (Some x)) → G y → SearchEnds G rule cells limit (Ok (Some y))
   found_as x y ends is = ends_found G rule cells limit y is ends.inside (off_edge (Some x) ends)

@@ -14,7 +14,7 @@ unfolding text
 not_empty [] t is = absurd cc
 not_empty (c ∷ cs) t is = refl
 
--- a text that isn't too long is looked at
+-- a text that isn't too long is read
 looked_at : (t : List ℕ) → length t ≤ 10000 → wechsler_read t ≡ wechsler_pattern t
 looked_at t short = let low : nat_lt 10000 (length t) ≡ false = le-ltb 10000 (length t) short in rw low refl
 

@@ -42,7 +42,7 @@ gap_and_column (suc n) value h =
     ap spelled (strip_tokens-gap n value [] h) ∙ ap (λ none. cond {A = List ℕ} none [] (gap_text (suc n)) ++ character value ∷ [])
     (sym (ne_eqb (suc n) 0 (λ e. absurd (omega arith))))
 
--- a column with a live cell parts a strip's text in two
+-- a column with a live cell splits a strip's text in two
 pub spelled-parted : (n value : ℕ) (values : List ℕ) → 1 ≤ value
     → spelled (strip_tokens (replicate n 0 ++ value ∷ values)) ≡ spelled (strip_tokens (replicate n 0 ++ value ∷ [])) ++ spelled (strip_tokens values)
 unfolding strip_tokens
@@ -57,13 +57,13 @@ one_more_empty : (n : ℕ) (values : List ℕ) → replicate n 0 ++ 0 ∷ values
 one_more_empty zero values = refl
 one_more_empty (suc n) values = ap (λ vs. 0 ∷ vs) (one_more_empty n values)
 
--- two pieces that are written one after the other
+-- two pieces are written, one after the other
 pub written_on : {T E : Type 0} (r : Result T E) (old middle new a b c : List ℕ) → middle ≡ old ++ a → c ≡ a ++ b → OnOk r (new ≡ middle ++ b)
     → OnOk r (new ≡ old ++ c)
 written_on (Ok x) old middle new a b c e f h = h ∙ ap (λ t. t ++ b) e ∙ append_assoc old a b ∙ ap (λ t. old ++ t) (sym f)
 written_on (Err x) old middle new a b c e f h = tt
 
--- what is left to write of strip k from column x on, where so many columns before it were empty
+-- what is left to write of strip k from column x on, after `gap` empty columns
 unfoldable pub remainder_text : List Cell → ℕ → ℕ → ℕ → ℕ → List ℕ
 remainder_text cells width k gap x = spelled (strip_tokens (replicate gap 0 ++ map (column cells k) (range_with_len x (width - x))))
 
@@ -107,7 +107,7 @@ strip_more-live cells width k gap x value whole text new h some is so_far e =
     ap (λ t. t ++ remainder) e ∙ append_assoc text (spelled (strip_tokens (replicate gap 0 ++ value ∷ []))) remainder
     ∙ ap (λ t. text ++ t) (sym (remainder_text-live cells width k gap x value h some is)) ∙ so_far
 
--- and at an empty one
+-- a loop's step at an empty column
 pub strip_more-empty : (cells : List Cell) (width k gap x value : ℕ) (whole text : List ℕ) → x < width → value ≡ 0 → value ≡ column cells k x
     → text ++ remainder_text cells width k gap x ≡ whole → text ++ remainder_text cells width k (gap + 1) (x + 1) ≡ whole
 strip_more-empty cells width k gap x value whole text h none is so_far =

@@ -59,7 +59,7 @@ absorb g true h = rw (h refl) refl
 absorb true false h = refl
 absorb false false h = refl
 
--- a number that isn't negative, by its size
+-- a number that isn't negative is its absolute value
 size_of : (z : ℤ) → pos 0 ≤ℤ z → z ≡ pos (unsigned_abs z)
 size_of z h = omega (arith, ints)
 
@@ -115,7 +115,7 @@ small_sides b small =
 abbrev corner_tokens : List Cell → Bounds → List Token
 corner_tokens cells b = tokens_of (at_corner cells) (distance b.left b.right) (distance b.top b.bottom)
 
--- a pattern with a text has a small box, and its text is that of its tokens
+-- a pattern with a text has a small box, and its tokens spell the text
 boxed : (cells : List Cell) (t : List ℕ) → text cells ≡ Some t
     → (b : Bounds) × (box_of cells ≡ Some b) × (fits_forty_square b ≡ true) × (spelled (corner_tokens cells b) ≡ t)
 unfolding text

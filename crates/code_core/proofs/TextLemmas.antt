@@ -70,7 +70,7 @@ lawful-joined (tokens ∷ more ∷ strips) all =
     All-append IsToken tokens (NextStrip ∷ joined_strips (more ∷ strips)) (all 0 [] (omega arith))
     (All-cons IsToken NextStrip (joined_strips (more ∷ strips)) tt (lawful-joined (more ∷ strips) (All-tail (All IsToken) tokens (more ∷ strips) all)))
 
--- a strip of a box that is at most 40 wide
+-- the tokens of a strip that is at most 40 columns wide are valid
 lawful-strip_of : (cells : List Cell) (right k : ℕ) → right < 40 → All IsToken (strip_tokens (strip cells (right + 1) k))
 lawful-strip_of cells right k h =
     lawful-strip (strip cells (right + 1) k)
@@ -91,7 +91,7 @@ long_gap_text : (n : ℕ) → 4 ≤ n → length (gap_text n) ≡ 2
 unfolding gap_text
 long_gap_text n low = rw (ne_eqb n 1 (λ e. absurd (omega arith)), ne_eqb n 2 (λ e. absurd (omega arith)), ne_eqb n 3 (λ e. absurd (omega arith))) refl
 
--- one empty column more costs at most a byte
+-- one more empty column costs at most one byte
 gap_text_more : (n : ℕ) → length (gap_text (n + 1)) ≤ length (gap_text n) + 1
 unfolding gap_text
 gap_text_more zero = omega arith
@@ -110,7 +110,7 @@ length-before zero (Column value ∷ tokens) = omega arith
 length-before zero (NextStrip ∷ tokens) = omega arith
 length-before (suc value) tokens = omega arith
 
--- a strip takes at most a byte a column
+-- a strip takes at most one byte per column
 length-strip : (values : List ℕ) → length (spelled (strip_tokens values)) ≤ length values
 unfolding strip_tokens
 length-strip [] = omega arith
@@ -128,7 +128,7 @@ length-joined tokens (more ∷ strips) all =
     let remainder = length-joined more strips (All-tail (λ tokens. length (spelled tokens) ≤ 40) tokens (more ∷ strips) all) in
     rw (flat_map-append spelling tokens (NextStrip ∷ joined_strips (more ∷ strips)), length-append) (omega arith)
 
--- at most eight strips
+-- at most eight strips take at most 327 bytes
 few_strips : (strips : List (List Token)) → All (λ tokens. length (spelled tokens) ≤ 40) strips → length strips ≤ 8 → length (spelled (joined_strips strips)) ≤ 327
 few_strips [] all few = omega arith
 few_strips (tokens ∷ strips) all few = omega (arith, length-joined tokens strips all)

@@ -98,7 +98,7 @@ lit_cells-column cells k x =
 
 -- ---- the tokens of a strip
 
--- what follows a strip: its cells don't know in which column they begin
+-- the cells of tokens that follow a strip don't depend on the column at which the tokens begin
 abbrev pub FollowsStrip : ℕ → List Token → Type 0
 FollowsStrip k more = (a b : ℕ) → cells_from k a more ≡ cells_from k b more
 

@@ -1,4 +1,4 @@
--- Texts as tokens: what tokens spell is read as these tokens, and what is read is spelled so.
+-- Texts as tokens: a text is read as the tokens that spell it, and the tokens that are read spell the text.
 use Rattle.std.proofs.Common.{◌≡◌, ◌≢◌, ◌==◌, ◌<◌, ◌≤◌, ◌+◌, ◌-◌, ℕ, zero, suc, Bool, true, false, List, [], ◌∷◌, ◌++◌, length, refl, sym, ◌∙◌, ap}
 use Rattle.std.proofs.Common.{subst, arith, ◌⊎◌, inl, inr, length-append, append_assoc, append-nil, codes, Result, Ok, Err}
 use Rattle.std.specs.Prelude.{if◌then◌else◌}
@@ -89,7 +89,7 @@ pub tokens_at-end : (place : ℕ) → tokens_at place (121 ∷ []) ≡ Err (Shor
 unfolding is_character tokens_at
 tokens_at-end place = refl
 
--- a column's character is none of those with a meaning of their own
+-- a column's character is neither `0` (48) nor one of `w` (119) and later letters
 pub column-character : (v : ℕ) → 1 ≤ v → v ≤ 31 → (k : ℕ) → (k ≡ 48) ⊎ (119 ≤ k) → (character v == k) ≡ false
 unfolding character
 column-character v low high k (inl zero_byte) = grind (arith, nat_tests)
@@ -125,7 +125,7 @@ tokens_at-token (Gap (suc (suc (suc (suc n))))) h =
     subst (λ (m : ℕ). IsRead (Gap m)) e (λ place remainder. rw (spelling-long_gap (character n) c) (tokens_at-long place (character n) remainder c))
 tokens_at-token NextStrip h = λ place remainder. tokens_at-single place 122 remainder refl refl
 
--- a token is a byte or two, so the rest is shorter
+-- a token takes at least one byte, so the remainder is shorter
 length-gap_text : (n : ℕ) → 1 ≤ length (gap_text n)
 unfolding gap_text
 length-gap_text n = go (n == 1) (n == 2) (n == 3)
@@ -154,7 +154,7 @@ abbrev pub with_tokens : List Token → Result (List Token) WechslerFault → Re
 with_tokens [] r = r
 with_tokens (token ∷ tokens) r = with_token token (with_tokens tokens r)
 
--- so are tokens
+-- several tokens are read from their spellings, whatever follows
 pub tokens_at-tokens : (tokens : List Token) → All IsToken tokens → (place : ℕ) (remainder : List ℕ)
     → tokens_at place (flat_map spelling tokens ++ remainder) ≡ with_tokens tokens (tokens_at (place + length (flat_map spelling tokens)) remainder)
 tokens_at-tokens [] each place remainder = ap (λ (k : ℕ). tokens_at k remainder) (omega arith)
@@ -175,13 +175,13 @@ pub with_tokens-err : (tokens : List Token) (fault : WechslerFault) → with_tok
 with_tokens-err [] fault = refl
 with_tokens-err (token ∷ tokens) fault = ap (λ (r : Result (List Token) WechslerFault). with_token token r) (with_tokens-err tokens fault)
 
--- what tokens spell is read as these tokens
+-- a text is read as the tokens that spell it
 pub tokens_at-spelled : (tokens : List Token) → All IsToken tokens → (place : ℕ) → tokens_at place (flat_map spelling tokens) ≡ Ok tokens
 unfolding tokens_at
 tokens_at-spelled tokens each place =
     ap (λ (text : List ℕ). tokens_at place text) (sym (append-nil (flat_map spelling tokens))) ∙ tokens_at-tokens tokens each place [] ∙ with_tokens-none tokens
 
--- the token at the prefix of a text
+-- the token that begins a text
 pub Begins_single : (text : List ℕ) (token : Token) (b : ℕ) (remainder : List ℕ) → text ≡ b ∷ remainder → token ≡ single b → is_character b ≡ true → b ≢ 121
     → Begins text token remainder
 Begins_single text token b remainder whole is h other =
@@ -191,7 +191,7 @@ Begins_single text token b remainder whole is h other =
 pub Begins_long_gap : (c : ℕ) (remainder : List ℕ) → is_character c ≡ true → Begins (121 ∷ c ∷ remainder) (long_gap c) remainder
 Begins_long_gap c remainder h = record { is_token = IsToken-long_gap c h; spelled = ap (λ (text : List ℕ). text ++ remainder) (sym (spelling-long_gap c h)) }
 
--- a text begins with a byte that is no character, with a token of one byte, or with `y`
+-- a nonempty text begins with a byte that is no character, with a token, or with `y` (121)
 prefix_cases : (P : List ℕ → Type 0)
     → ((b : ℕ) (remainder : List ℕ) → is_character b ≡ false → P (b ∷ remainder))
     → ((token : Token) (remainder : List ℕ) → IsToken token → P remainder → P (spelling token ++ remainder))
@@ -229,7 +229,7 @@ pub tokens_at-short_run : (place : ℕ) (remainder : List ℕ) → has_character
 tokens_at-short_run place [] h = tokens_at-end place
 tokens_at-short_run place (c ∷ remainder) h = tokens_at-short place c remainder h
 
--- a byte that is no character stands at the front, and so does a `y` without one after it
+-- the text begins with a byte that is no character, or with a `y` (121) that no character follows
 abbrev pub IsBad : List ℕ → Type 0
 IsBad [] = ⊥
 IsBad (b ∷ remainder) = is_character b ≡ false
@@ -238,7 +238,8 @@ abbrev pub IsShort : List ℕ → Type 0
 IsShort [] = ⊥
 IsShort (b ∷ remainder) = (b ≡ 121) × (has_character remainder ≡ false)
 
--- tokens spell the prefix of the text, and its rest begins so, at this place of a longer text in which the text stands at another
+-- Tokens spell a prefix of the text, and `BeginsSo` holds for the remainder, which begins at `place` if the text begins
+-- at `start`.
 pub record Stops (BeginsSo : List ℕ → Type 0) (start : ℕ) (text : List ℕ) (place : ℕ) : Type 0 where
   pub tokens : List Token
   pub remainder : List ℕ
@@ -258,7 +259,7 @@ Stops-more BeginsSo start place token text h s = record {
   so = s.so;
 }
 
--- what is read spells the text, and a fault is where it stops to be spelled
+-- the tokens that are read spell the text; the place of a fault is where reading stops
 abbrev pub Outcome : ℕ → List ℕ → Result (List Token) WechslerFault → Type 0
 Outcome start text (Ok tokens) = Spells tokens text
 Outcome start text (Err (BadByte place)) = Stops IsBad start text place
@@ -297,14 +298,14 @@ tokens_at-outcome = text_induction (λ text. (start : ℕ) → Outcome start tex
     (λ token remainder h o start. rw (tokens_at-token token h start remainder)
     (Outcome-more token remainder h start (tokens_at (start + length (spelling token)) remainder) (o (start + length (spelling token)))))
 
--- what is read spells the text
+-- the tokens that are read spell the text
 pub Spells-tokens_at : (tokens : List Token) (text : List ℕ) (place : ℕ) → tokens_at place text ≡ Ok tokens → Spells tokens text
 Spells-tokens_at tokens text place e = subst (λ (r : Result (List Token) WechslerFault). Outcome place text r) e (tokens_at-outcome text place)
 
 pub tokens_at-Spells : (tokens : List Token) (text : List ℕ) (place : ℕ) → Spells tokens text → tokens_at place text ≡ Ok tokens
 tokens_at-Spells tokens text place s = ap (λ (t : List ℕ). tokens_at place t) (sym s.spelled) ∙ tokens_at-spelled tokens s.each place
 
--- a place where it stops is that of the fault
+-- the place of a fault is where reading stops
 pub Stops-bad : (text : List ℕ) (start place : ℕ) → tokens_at start text ≡ Err (BadByte place) → Stops IsBad start text place
 Stops-bad text start place e = subst (λ (r : Result (List Token) WechslerFault). Outcome start text r) e (tokens_at-outcome text start)
 

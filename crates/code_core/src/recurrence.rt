@@ -88,8 +88,8 @@ pub(crate) fn follow_or_reject(
     follow(alloc, pattern, rule, limit)
 }
 
-/// Follows the pattern until it recurs, and returns its phases. `None` if none of the generations 1 to `limit` is the
-/// pattern again, moved or not.
+/// Follows the pattern until it recurs, and returns its phases, or `None` if none of the generations 1 to `limit` is
+/// the pattern again, moved or not.
 ///
 /// `pattern` must not be empty, and `limit` must be at least 1.
 ///

@@ -1,4 +1,4 @@
--- What `gather` takes is what its input has correct lines for.
+-- `gather` takes exactly the numbers for which its input has correct lines.
 use Rattle.std.proofs.Common.{◌≡◌, ◌∙◌, ap, sym, refl, subst, ℕ, zero, suc, ◌≤◌, ◌^◌, ◌&&◌, ◌||◌, ◌⊎◌, inl, inr, Bool, true, false, cond, nat_eq, nat_le}
 use Rattle.std.proofs.Common.{List, [], ◌∷◌, ◌++◌, Any, Result, Ok, Err, Option, arith, append-nil, count_by, filter, length, map}
 use Rattle.std.specs.List.{list_any}
@@ -35,11 +35,11 @@ use Rattle.commands.proofs.TakenLemmas.{taken_if_eligible, taken_once}
 
 -- ---- a correct line is offered
 
--- a line has one claim
+-- the claim of a line is unique
 same_claim : (line : List ℕ) (one other : Claimed) → Claims line one → Claims line other → one ≡ other
 same_claim line one other h k = one_claim one other h.lawful k.lawful (h.spelled ∙ sym k.spelled)
 
--- the finding of a confirmed report is that of its claim, and agrees with it
+-- a report that confirms a claim has the finding of the claim's soup, and the claim agrees with it
 found_for : (claim : Claimed) (job : Job) (report : Reported) → IsConfirmed claim job report → IsFoundFor claim report.finding
 found_for claim job report confirmed =
     subst (λ (c : Claimed). IsFoundFor c report.finding) confirmed.same_claim confirmed.lawful.finding
@@ -69,7 +69,7 @@ not_faulty terms n line (BadLine p) correct (Front place long fault) =
     let short : length line ≤ 2 ^ 24 = correct.short in
     omega (arith, long, short)
 
--- a report is lawful if its job is the haul's, its worker known and its number in the set
+-- the report has this number, and is lawful: its job is the haul's, its worker known and its number in the set
 abbrev pub IsLawfulFor : Terms → ℕ → Reported → Type 0
 IsLawfulFor terms n report = (report.number ≡ n) × (is_lawful terms report ≡ true)
 
@@ -97,7 +97,7 @@ offered_lawful terms n line report within correct (Whole short checked) =
           (subst (λ (m : ℕ). is_in terms.ranges m ≡ true) (sym number) within)),
     )
 
--- a report that is offered was in a correct line
+-- a line with a report of a known worker is correct for the report's number
 correct_line : (terms : Terms) (line : List ℕ) (report : Reported) → IsLookedAt terms.job line (Ok report) → report.worker ≤ terms.workers
     → IsCorrectFor terms.job terms.workers report.number line
 correct_line terms line report (Whole short checked) known =
@@ -143,12 +143,12 @@ offers-closed : (reports : List Reported) → offered (map Offer reports ++ Clos
 offers-closed [] = refl
 offers-closed (r ∷ reports) = ap (λ (more : List Reported). r ∷ more) (offers-closed reports)
 
--- the line is a report that is lawful for the number
+-- the line has a report that is lawful for the number
 abbrev pub IsOfLawful : Terms → ℕ → List ℕ → Type 0
 IsOfLawful terms n line = (report : Reported) × IsLookedAt terms.job line (Ok report) × IsLawfulFor terms n report
 
--- The arrivals are offers of the reports of lines, one after another. What is offered was in some line, and each line
--- that is correct for a number of the set makes an offer that has it.
+-- The arrivals are offers of the reports of lines. Each lawful report comes from a line, and each number of the set
+-- that has a correct line has a lawful report.
 pub record AreOfLines (terms : Terms) (lines : List (List ℕ)) (arrivals : List Arrival) : Type 0 where
   pub reports : List Reported
   pub offers : arrivals ≡ map Offer reports
@@ -237,7 +237,7 @@ lawful_any terms n (r ∷ reports) h = go (is_lawful terms r) refl h (lawful_any
       | inr other ↦ next (more (sym (ap (λ (b : Bool). b || list_any (has_number n) (filter (is_lawful terms) reports)) other) ∙ h))
     ]
 
--- what is known of a lawful report
+-- the worker of a lawful report is known, and its number is in the set
 lawful_parts : (terms : Terms) (n : ℕ) (report : Reported) → IsLawfulFor terms n report → (report.worker ≤ terms.workers) × (is_in terms.ranges n ≡ true)
 lawful_parts terms n report (number, lawful) =
     let parts = and_parts (same_job terms.job report.job) (nat_le report.worker terms.workers && is_in terms.ranges report.number) lawful in
@@ -250,7 +250,7 @@ module _ (terms : Terms) (lines : List (List ℕ)) (arrivals : List Arrival) (h 
       ap (λ (more : List Arrival). filter (is_lawful terms) (offered (more ++ Closing ∷ []))) h.offers
       ∙ ap (filter (is_lawful terms)) (offers-closed h.reports)
 
-  -- a number is taken if and only if it is in the set and some line is correct for it
+  -- a number is taken if and only if a lawful report has it
   pub taken_is : (n : ℕ) → is_taken (taken_of terms (arrivals ++ Closing ∷ [])) n ≡ list_any (has_number n) (filter (is_lawful terms) h.reports)
   taken_is n = taken_if_eligible terms (arrivals ++ Closing ∷ []) n ∙ ap (list_any (has_number n)) eligible_are
 

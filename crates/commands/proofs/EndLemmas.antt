@@ -40,7 +40,7 @@ use Rattle.commands.proofs.GatherLemmas.{all_begun}
 use Rattle.commands.proofs.LineLemmas.{all_spent}
 use Rattle.commands.proofs.TakeLemmas.{job_refused}
 
--- memory that runs out over a range list hides only what it is needed for
+-- if a set's range list is valid, each refusal of the set needs memory
 list_needs : (set : SoupSet) (refusal : Refusal) → IsListText set.also → IsRefused set refusal → NeedsMemory (Refused refusal)
 list_needs set refusal listed (Bad_list not place fault is) = absurd (not listed)
 list_needs set refusal listed (Too_large ranges named large is) = subst (λ (r : Refusal). NeedsMemory (Refused r)) (sym is) tt
@@ -54,7 +54,7 @@ list_hides plan workers bytes job named listed (ReadFailed error) is = absurd is
 list_hides plan workers bytes job named listed TooLong is = tt
 list_hides plan workers bytes job named listed (WriteFailed error) is = absurd is
 
--- a job that is refused
+-- how `gather` ends if the job is refused
 gathers_job : (plan : Plan) (workers : ℕ) (bytes : List ℕ) (reader : Option (List ℕ)) (complaint : Complaint)
     (output errors : Stream) → job_named plan ≡ Err complaint → IsSilent output errors
     → Reaches (gather_behaviour plan workers) reader bytes (Err complaint) output errors
@@ -64,7 +64,7 @@ gathers_job plan workers bytes reader (ReadFailed error) output errors named sil
 gathers_job plan workers bytes reader TooLong output errors named silent = absurd (job_refused plan TooLong named)
 gathers_job plan workers bytes reader (WriteFailed error) output errors named silent = absurd (job_refused plan (WriteFailed error) named)
 
--- a set that is refused, or memory that runs out over it
+-- how `gather` ends if the set is refused, or memory runs out over it
 gathers_set : (plan : Plan) (workers : ℕ) (bytes : List ℕ) (reader : Option (List ℕ)) (job : Job)
     (complaint : Complaint) (output errors : Stream) → job_named plan ≡ Ok job → StopsSet plan.set complaint → IsSilent output errors
     → Reaches (gather_behaviour plan workers) reader bytes (Err complaint) output errors
@@ -79,7 +79,7 @@ gathers_set plan workers bytes reader job (ReadFailed error) output errors named
 gathers_set plan workers bytes reader job TooLong output errors named stops silent = absurd stops
 gathers_set plan workers bytes reader job (WriteFailed error) output errors named stops silent = absurd stops
 
--- a haul that was not opened
+-- how `gather` ends if no haul was opened
 pub gathers_opening : (plan : Plan) (workers : ℕ) (bytes : List ℕ) (reader : Option (List ℕ)) (complaint : Complaint)
     (output errors : Stream) → StopsOpening plan complaint → IsSilent output errors
     → Reaches (gather_behaviour plan workers) reader bytes (Err complaint) output errors
@@ -88,12 +88,12 @@ gathers_opening plan workers bytes reader complaint output errors (inl refused) 
 gathers_opening plan workers bytes reader complaint output errors (inr (job, named, stops)) silent =
     gathers_set plan workers bytes reader job complaint output errors named stops silent
 
--- a job that is named is read for
+-- if a plan's job is valid, the input is read
 pub reads_named : (plan : Plan) (job : Job) → job_named plan ≡ Ok job
     → gather_reads plan ≡ false → ⊥
 reads_named plan job named unread = let bad : true ≡ false = sym (ap is_ok named) ∙ unread in cc
 
--- what was gathered
+-- all lines were gathered, and the text is the haul text of the closed haul
 is_gathered : (terms : Terms) (held closed : Held) (census : Census) (n : ℕ) (reader left : Option (List ℕ)) (errors : Stream)
     → (all : HasGatheredShort reader left errors held) → held.terms ≡ terms → closed.terms ≡ held.terms
     → closed.taken ≡ held.taken
@@ -125,7 +125,7 @@ long_hides terms bytes (ReadFailed error) is = absurd is
 long_hides terms bytes TooLong is = tt
 long_hides terms bytes (WriteFailed error) is = absurd is
 
--- memory ran out after some lines
+-- how `gather` ends if memory runs out after some lines
 gathers_memory : (terms : Terms) (bytes : List ℕ) (reader : Option (List ℕ)) (output errors : Stream) → HasBegun terms reader errors.before errors.after
     → Has output [] → errors.failed ≡ false → Reaches (haul_behaviour terms) reader bytes (Err (Memory out_of_memory)) output errors
 gathers_memory terms bytes reader output errors begun nothing fine = record {
@@ -135,7 +135,7 @@ gathers_memory terms bytes reader output errors begun nothing fine = record {
   fine = fine;
 }
 
--- a complaint over the lines, on bytes that may be the input
+-- how `gather` ends with a complaint about the lines, for bytes that may be the input
 gathers_on : (terms : Terms) (bytes : List ℕ) (reader left : Option (List ℕ)) (complaint : Complaint) (output errors : Stream)
     → (complaint ≡ TooLong → 2 ^ 32 < length bytes)
     → EndsLines terms reader left errors complaint → Has output []
@@ -152,7 +152,7 @@ gathers_on terms bytes reader left TooLong output errors long ends nothing = (
 gathers_on terms bytes reader left (WriteFailed error) output errors long ends nothing =
     inr (record { cut = ends; nothing = nothing })
 
--- and there are some: where the input is too long, longer ones than may be read
+-- there are bytes that may be the input; if the input is too long, they are longer than `gather` may read
 pub gathers_lines : (terms : Terms) (reader left : Option (List ℕ)) (complaint : Complaint) (output errors : Stream)
     → EndsLines terms reader left errors complaint → Has output []
     → (bytes : List ℕ) × IsInput reader bytes × Reaches (haul_behaviour terms) reader bytes (Err complaint) output errors
@@ -170,7 +170,7 @@ gathers_lines terms (Some all) left complaint output errors ends nothing = (
       (λ is. let long = subst (EndsLines terms (Some all) left errors) is ends in long.2) ends nothing,
 )
 
--- what became of a haul to which all lines have come, when it was finished
+-- how `gather` ends once all lines were gathered and the haul was finished
 pub gathers_haul : (terms : Terms) (held closed : Held) (reader left : Option (List ℕ)) (outcome : Outcome) (output errors : Stream)
     → (all : HasGatheredShort reader left errors held) → held.terms ≡ terms → closed.terms ≡ held.terms
     → closed.taken ≡ held.taken
@@ -211,7 +211,7 @@ gathers_haul terms held closed reader left outcome output errors all same kept t
     go (Err TooLong) is = absurd is
     go (Err (Refused refusal)) is = absurd is
 
--- a haul that was opened is one over the set
+-- a haul that was opened is over the set
 pub is_over : (job : Job) (set : SoupSet) (workers : ℕ) (held : Held) → IsOpened job set workers held → IsHaulOver set workers job held.terms
 is_over job set workers held open_ = record {
   ranges = open_.over.ranges;
@@ -223,14 +223,14 @@ is_over job set workers held open_ = record {
   workers_are = open_.workers_are;
 }
 
--- and so are those of its terms
+-- the same for terms that are equal to the haul's
 opens_over : (plan : Plan) (workers : ℕ) (job : Job) (terms others : Terms) → job_named plan ≡ Ok job
     → IsHaulOver plan.set workers job terms → others ≡ terms → gather_opens plan workers others
 opens_over plan workers job terms others named over same =
     let other : IsHaulOver plan.set workers job others = subst (IsHaulOver plan.set workers job) (sym same) over in
     rw named other
 
--- from what is gathered in an open haul to what is right for the set
+-- an end that is right for an open haul is right for the plan
 pub gathers_over : (plan : Plan) (workers : ℕ) (bytes : List ℕ) (reader : Option (List ℕ)) (job : Job) (terms : Terms)
     (outcome : Outcome) (output errors : Stream) → job_named plan ≡ Ok job → IsHaulOver plan.set workers job terms
     → Reaches (haul_behaviour terms) reader bytes outcome output errors
@@ -297,7 +297,7 @@ unread_opening plan workers remaining input TooLong errors (inl named) silent = 
 unread_opening plan workers remaining input TooLong errors (inr (job, named, stops)) silent = absurd stops
 unread_opening plan workers remaining input (WriteFailed error) errors stops silent = tt
 
--- a complaint that ended the lines
+-- how far the input was read if a complaint ended gathering
 pub stops_lines : {R : Type 0} (terms : Terms) (remaining : R → Option (List ℕ)) (old new : R) (errors : Stream) (complaint : Complaint)
     → EndsLinesAt terms (remaining old) (remaining new) errors complaint
     → HasReadUpTo (IsSame terms) remaining old new errors (Err complaint)
@@ -310,7 +310,7 @@ stops_lines terms remaining old new errors TooLong at_ =
     record { terms = terms; opened = refl; ahead = at_.ahead; few = at_.few; begun = at_.ends.0 }
 stops_lines terms remaining old new errors (WriteFailed error) at_ = tt
 
--- a haul to which all lines have come
+-- how far the input was read if all lines were gathered
 pub stops_finished : {R : Type 0} (terms : Terms) (held : Held) (remaining : R → Option (List ℕ)) (old new : R) (outcome : Outcome)
     (output errors : Stream) → (all : HasGatheredShort (remaining old) (remaining new) errors held) → held.terms ≡ terms
     → Finishes held outcome output → HasReadUpTo (IsSame terms) remaining old new errors outcome
@@ -328,7 +328,7 @@ stops_finished terms held remaining old new (Err (ReadFailed error)) output erro
 stops_finished terms held remaining old new (Err TooLong) output errors all same is = absurd is
 stops_finished terms held remaining old new (Err (WriteFailed error)) output errors all same is = tt
 
--- from an open haul to one that may be opened for the set
+-- what is known for an open haul about how far the input was read holds for the plan
 pub stops_over : {R : Type 0} (plan : Plan) (workers : ℕ) (job : Job) (terms : Terms) (remaining : R → Option (List ℕ)) (old new : R)
     (errors : Stream) (outcome : Outcome) → job_named plan ≡ Ok job → IsHaulOver plan.set workers job terms
     → HasReadUpTo (IsSame terms) remaining old new errors outcome
@@ -364,7 +364,7 @@ if_refused (Ok zero) is = cc
 if_refused (Ok (suc n)) is = cc
 if_refused (Err complaint) is = λ so. so is
 
--- only memory that ran out has its status
+-- only an outcome that memory ran out has the status of out of memory
 pub if_memory : {P : Type 0} (outcome : Outcome) → status_after outcome ≡ statuses.Memory
     → IfErr outcome (λ complaint. complaint ≡ Memory out_of_memory → P) → P
 if_memory (Ok zero) is = cc

@@ -38,7 +38,7 @@ use Rattle.commands.specs.Lines.{HasReadLine, HasReadPart, IsLongerThan, IsOneLi
 use Rattle.commands.proofs.LineLemmas.{after_read, all_lines, all_read, bare_part, ended_more, first_lines, lines_and, lines_bare, lines_ended, long_read, part_lines, with_ahead}
 use Rattle.commands.specs.GatheredLines.{Faulty, Front, Gathered, IsChecked, IsPrefixFault, IsLookedAt, IsWrong, ComesOf, Next, Offered, Start, Whole, offer_fault, fault_lines}
 
--- nothing arrives by a line that gives no report: a bad one, or one of another job, or one that disagrees
+-- a line with a fault causes no arrival: a bad line, a line of another job, or a line that disagrees
 pub faulty : {terms : Terms} {line : List ℕ} {fault : LineFault} {held : Held} (arrivals : List Arrival) → IsLookedAt terms.job line (Err fault)
     → StandsFor arrivals held → (arrived : List Arrival) × ComesOf terms arrivals line arrived (Some fault) × StandsFor (arrivals ++ arrived) held
 faulty {fault} {held} arrivals is stands =
@@ -64,7 +64,7 @@ refused {terms} {line} arrivals report reason fault is (inl reply) memory diagno
     (Offer report ∷ [], subst P (sym (diagnostics ∙ ap (offer_fault report) reply)) (Offered report is), stands)
 refused arrivals report reason fault is (inr reply) memory diagnostics stands = absurd (memory cc)
 
--- the same for all that the call for the fault gives
+-- the same for any result of the call that finds the fault
 pub refused_told : {E : Type 0} (terms : Terms) (line : List ℕ) (held : Held) (arrivals : List Arrival) (report : Reported) (reason : OfferError)
     (result : Result (Option LineFault) E) → IsLookedAt terms.job line (Ok report) → IsReply (Some reason) (refusal_of terms arrivals report)
     → IfOk result (λ _. reason ≢ offer_error.Memory out_of_memory) → IfOk result (λ fault. fault ≡ offer_fault report (Some reason))
@@ -79,7 +79,7 @@ wrong unique claim found is differs finding right agrees =
     let same = unique claim.job.rule claim.job.profile (soup claim.job.seed claim.number) found finding is right in
     differs (ap (said_of claim.version) same ∙ agrees)
 
--- one line more that has come to the haul
+-- one more line was gathered in the haul
 pub come_more : (lines : List (List ℕ)) (line diagnostics : List ℕ) (old new : Held) (before : ℕ) (fault : Option LineFault)
     → before ≡ length lines → (come : HasCome lines old diagnostics) → new.terms ≡ old.terms
     → (arrived : List Arrival) × ComesOf old.terms come.arrivals line arrived fault
@@ -101,7 +101,7 @@ abbrev passage : (reader left : Option (List ℕ)) → Stream → ℕ → ℕ �
 passage reader left errors count size =
     record { reader = reader; left = left; errors = errors; count = count; size = size }
 
--- no line has come, and nothing is ahead
+-- no line was gathered yet, and no bytes are ahead
 pub none_gathered : (reader : Option (List ℕ)) (ahead : List ℕ) (errors : Stream) (held : Held) → ahead ≡ [] → Has errors []
     → StandsFor [] held → HasGatheredLines (passage reader (prepend_known ahead reader) errors 0 0) held
 none_gathered reader ahead errors held none silent stands = record {
@@ -146,7 +146,7 @@ no_more room reader left new errors count size held kept line gathered read none
           written = gathered.written;
         }
 
--- a line more, after which others may follow or none
+-- one more line was gathered, after which others may follow or none
 pub goes_on : {V : Type 0} (contents : V → Option (List ℕ)) (room : ℕ) (reader left new : Option (List ℕ))
     (first old later : Output V) (count size : ℕ) (held next : Held) (kept : List ℕ) (line : LineRead)
     → (gathered : HasGatheredLines (passage reader left (stream contents first old) count size) held)
@@ -197,8 +197,8 @@ pub no_fault : (fault : Option LineFault) → ((x : LineFault) → fault ≢ Som
 no_fault None not = refl
 no_fault (Some x) not = absurd (not x refl)
 
--- What has come so far is a beginning, where no more than one line was read since. If no line feed ends it, all lines that are ended have
--- come.
+-- The lines gathered so far are the first of the input, if at most one line was read after them. If that line has no
+-- line feed, all lines that end with a line feed were gathered.
 begun_and : (way : Passage) (held : Held) (terms : Terms) (new : Option (List ℕ)) (more : List ℕ) → HasGatheredLines way held
     → held.terms ≡ terms → Consumes way.left new more → length (input_lines more) ≤ 1
     → (begun : HasBegunUpTo terms way.reader new way.errors.before way.errors.after)
@@ -233,7 +233,7 @@ begun_part way held terms new complaint gathered same part =
     (begun_and way held terms new (part.line ++ piece_end part.end) gathered same part.consumed
     (part_lines part.line part.end part.one)).0
 
--- after a failed read
+-- the same after a failed read
 begun_cut : (way : Passage) (held : Held) (terms : Terms) (new : Option (List ℕ)) (error : ReadError) → HasGatheredLines way held
     → held.terms ≡ terms → HasReadPart way.left new (ReadFailed error)
     → (begun : HasBegunUpTo terms way.reader new way.errors.before way.errors.after) × AreAllEnded begun.read begun.lines
@@ -244,7 +244,7 @@ begun_cut way held terms new error gathered same part =
     (bare_part part.line part.one) in
     (is.0, is.1 part.one)
 
--- and so is all that has come
+-- the same if all lines were gathered
 pub all_begun : (reader left : Option (List ℕ)) (errors : Stream) (size : ℕ) (held : Held) (terms : Terms)
     → HasGatheredAll reader left errors size held
     → held.terms ≡ terms → HasBegunUpTo terms reader left errors.before errors.after
@@ -264,25 +264,25 @@ all_begun reader left errors size held terms all same = record {
   written = all.written;
 }
 
--- a line after which others may follow
+-- if the line isn't the last, others may follow
 pub goes_further : (way : Passage) (held : Held) (end : LineEnd) → (end ≡ Input → ⊥) → HasGatheredTo way held end → HasGatheredLines way held
 goes_further way held Feed more gathered = gathered
 goes_further way held Input more all = absurd (more refl)
 
--- the last line
+-- if the line is the last, all lines were gathered
 pub goes_no_further : (way : Passage) (held : Held) (end : LineEnd) → end ≡ Input → HasGatheredTo way held end
     → HasGatheredAll way.reader way.left way.errors way.size held
 goes_no_further way held Feed is gathered = let bad : Feed ≡ Input = is in cc
 goes_no_further way held Input is all = all
 
--- what is left of an input is no longer than it is
+-- if more is left of an input than there is room for, the input is too long
 longer : (room : ℕ) (reader left : Option (List ℕ)) (read : List ℕ) → Consumes reader left read → 2 ^ 32 ≤ length read + room
     → IsLongerThan room left → IsTooLong reader
 longer room None left read consumed whole long = tt
 longer room (Some xs) None read consumed whole long = absurd consumed
 longer room (Some xs) (Some ys) read consumed whole long = let all = ap length consumed ∙ length-append read ys in omega (arith, all, whole, long)
 
--- as many lines as there are bytes at most, and a line feed after each, are too many
+-- there are at most as many ended lines as they have bytes
 bytes_of_lines : (lines : List (List ℕ)) → length lines ≤ length (flat_map (with_end Feed) lines)
 bytes_of_lines [] = omega arith
 bytes_of_lines (line ∷ lines) =
@@ -298,28 +298,28 @@ many_lines way held gathered many =
     long_read (2 ^ 32) way.reader way.left gathered.read gathered.consumed
     (omega (arith, spelled, count, many, bytes_of_lines gathered.lines))
 
--- what was read so far, and what is ahead
+-- the bytes read so far, including those ahead, are at most `most`
 pub read_so_far : (most : ℕ) (reader left : Option (List ℕ)) (ahead : List ℕ) (errors : Stream) (count size : ℕ) (held : Held)
     → HasGatheredLines (passage reader (prepend_known ahead left) errors count size) held → size + length ahead ≤ most
     → HasReadAtMost most reader left
 read_so_far most reader left ahead errors count size held gathered few =
     let size_is = gathered.size_is in with_ahead most reader left gathered.read ahead gathered.consumed (omega (arith, size_is, few))
 
--- and what the next line brings
+-- the same after the next line was read
 pub read_further : (room most : ℕ) (reader left new : Option (List ℕ)) (errors : Stream) (count size : ℕ) (held : Held)
     → HasGatheredLines (passage reader left errors count size) held → size + room ≤ most → HasReadAtMost room left new
     → HasReadAtMost most reader new
 read_further room most reader left new errors count size held gathered few more =
     let size_is = gathered.size_is in after_read room most reader left new gathered.read gathered.consumed (omega (arith, size_is, few)) more
 
--- a line that could not be read, with nothing told
+-- if a line could not be read, nothing was written
 pub next_unread : {V : Type 0} (room : ℕ) (left : Option (List ℕ)) (old : Output V) (fault : InputError)
     → (fault ≡ input_error.TooLong → IsLongerThan room left) → EndsNext room left old old (input_complaint fault)
 next_unread room left old (input_error.Unreadable failed) long = refl
 next_unread room left old input_error.TooLong long = (refl, long refl)
 next_unread room left old (input_error.Memory refused) long = refl
 
--- a complaint over a line that was read
+-- what holds after a complaint about a line that was read holds after a complaint about the next line
 pub next_read : {V : Type 0} (room : ℕ) (left : Option (List ℕ)) (old new : Output V) (complaint : Complaint) → EndsLine old new complaint
     → EndsNext room left old new complaint
 next_read room left old new (Refused refusal) ends = ends
@@ -328,7 +328,7 @@ next_read room left old new (ReadFailed error) ends = absurd ends
 next_read room left old new TooLong ends = absurd ends
 next_read room left old new (WriteFailed error) ends = ends
 
--- it is no failed read
+-- after such a complaint, up to 2^16 bytes may be ahead, since it isn't a failed read
 pub line_most : {V : Type 0} (old new : Output V) (complaint : Complaint) (ahead : List ℕ) → EndsLine old new complaint
     → length ahead ≤ 2 ^ 16 → length ahead ≤ most_ahead complaint
 line_most old new (Refused refusal) ahead ends few = few
@@ -337,7 +337,7 @@ line_most old new (ReadFailed error) ahead ends few = absurd ends
 line_most old new TooLong ahead ends few = few
 line_most old new (WriteFailed error) ahead ends few = few
 
--- so its line may have ended
+-- for the same reason, the line may have ended
 pub line_may_end : {V : Type 0} (old new : Output V) (complaint : Complaint) (end : Option LineEnd) → EndsLine old new complaint
     → MayEnd complaint end
 line_may_end old new (Refused refusal) end ends = tt
@@ -346,7 +346,7 @@ line_may_end old new (ReadFailed error) end ends = absurd ends
 line_may_end old new TooLong end ends = tt
 line_may_end old new (WriteFailed error) end ends = tt
 
--- a complaint over a line, after all lines before it
+-- a complaint about a line, after all lines before it
 pub lines_ended_by : {V : Type 0} (contents : V → Option (List ℕ)) (room : ℕ) (reader left now : Option (List ℕ)) (first : Output V)
     (count size : ℕ) (held : Held) (terms : Terms) (old new : Output V) (complaint : Complaint)
     → HasGatheredLines (passage reader left (stream contents first old) count size) held
@@ -369,7 +369,7 @@ lines_ended_by contents room reader left now first count size held terms old new
 
 -- ---- what is looked at of a line
 
--- a line that is kept whole
+-- a line that was kept completely
 pub looked_whole : {outcome : Result Reported LineFault} (job : Job) (kept line : List ℕ) → kept ≡ take (2 ^ 24 + 1) line → length kept ≤ 2 ^ 24
     → IsChecked job kept outcome → IsLookedAt job line outcome
 looked_whole {outcome} job kept line is short checked =
@@ -378,13 +378,13 @@ looked_whole {outcome} job kept line is short checked =
     let same : kept ≡ line = is ∙ take_all (2 ^ 24 + 1) line (omega (arith, fits)) in
     Whole fits (subst (λ (l : List ℕ). IsChecked job l outcome) same checked)
 
--- the same for all that the call gives
+-- the same for any result of the call
 pub ok_whole : {E : Type 0} (job : Job) (kept line : List ℕ) (result : Result (Result Reported LineFault) E) → kept ≡ take (2 ^ 24 + 1) line
     → length kept ≤ 2 ^ 24 → IfOk result (IsChecked job kept) → IfOk result (IsLookedAt job line)
 ok_whole job kept line (Ok outcome) is short checked = looked_whole job kept line is short checked
 ok_whole job kept line (Err e) is short checked = tt
 
--- a line of which the front is kept
+-- a line of which only a prefix was kept
 pub looked_prefix : (job : Job) (kept line : List ℕ) (place : ℕ) → kept ≡ take (2 ^ 24 + 1) line → 2 ^ 24 < length kept
     → IsPrefixFault (take (2 ^ 24) kept) place → IsLookedAt job line (Err (BadLine place))
 looked_prefix job kept line place is long fault =

@@ -8,7 +8,7 @@ use Rattle.crew.specs.Takes.{HasTaken}
 use Rattle.commands.specs.Stopped.{IsLetIn}
 use Rattle.commands.specs.TakeSteps.{HasLetIn, HasTakenMore}
 
--- it has taken more than it had
+-- a crew only adds to what a haul has taken
 pub grown_by_added : {offers : List Reported} (old new : Held) → HasAdded offers old new → HasTakenMore old new
 grown_by_added {offers} old new added = record {
   terms = added.terms;
@@ -20,7 +20,7 @@ grown_by_added {offers} old new added = record {
 pub grown_by : {lets : ℕ → ℕ → Type 0} {workers : ℕ} (old new : Held) → HasTaken lets workers old new → HasTakenMore old new
 grown_by old new h = grown_by_added old new h.added
 
--- what it has taken more is of workers that the gate let survey it
+-- each soup that was added comes from a worker that the gate let survey it
 pub let_in_by : {lets : ℕ → ℕ → Type 0} {workers : ℕ} (old new : Held) → HasTaken lets workers old new → HasLetIn lets workers old new
 let_in_by {lets} {workers} old new h = record {
   more = map entry h.offers;
@@ -29,7 +29,7 @@ let_in_by {lets} {workers} old new h = record {
       let by = h.by_workers k d low in record { least = by.0; most = by.1; let_in = h.let_in k d low });
 }
 
--- a haul that had taken nothing has nothing else
+-- if nothing was taken before, the same holds for all soups that the haul has taken
 pub let_in_all : {lets : ℕ → ℕ → Type 0} {workers : ℕ} (old new : Held) → old.taken ≡ [] → HasLetIn lets workers old new
     → All (IsLetIn lets workers) new.taken
 let_in_all {lets} {workers} old new none h =

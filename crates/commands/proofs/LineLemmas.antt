@@ -19,17 +19,17 @@ use Rattle.commands.specs.Lines.{HasPiece, HasReadLine, HasReadPart, IsLongerTha
 abbrev IsNotFeed : ℕ → Type 0
 IsNotFeed byte = byte ≢ 10
 
--- what is kept of a line to which a piece is added
+-- the first n bytes of a line to which a piece is added depend only on the first n before, and on the piece
 pub kept_more : (n : ℕ) (prefix piece : List ℕ) → take n (take n prefix ++ piece) ≡ take n (prefix ++ piece)
 kept_more zero prefix piece = refl
 kept_more (suc n) [] piece = refl
 kept_more (suc n) (x ∷ xs) piece = ap (λ l. x ∷ l) (kept_more n xs piece)
 
--- it is no more than is kept
+-- at most n bytes are kept
 pub kept_short : (n : ℕ) (kept prefix : List ℕ) → kept ≡ take n prefix → length kept ≤ n
 kept_short n kept prefix is = subst (λ (l : List ℕ). length l ≤ n) (sym is) (omega (arith, length-take n prefix))
 
--- a piece more of a line of which a front was read
+-- one more piece of a line, after the prefix that was read
 pub read_more : (start old new : Option (List ℕ)) (kept after prefix more : List ℕ) (size : ℕ) (piece : Piece)
     → kept ≡ take (2 ^ 24 + 1) prefix
     → IsOneLine prefix → Consumes start old prefix → size ≡ length prefix → after ≡ take (2 ^ 24 + 1) (kept ++ more)
@@ -48,7 +48,7 @@ read_more start old new kept after prefix more size piece kept_is one consumed s
       ap₂ (λ a b. a + b) size_is read.size_is ∙ sym (length-append prefix bytes) ∙ ap length flat,
     )
 
--- of an input from which many bytes were read, there are many
+-- an input from which more than `most` bytes were read is longer than `most`
 pub long_read : (most : ℕ) (reader left : Option (List ℕ)) (read : List ℕ) → Consumes reader left read → most < length read
     → IsLongerThan most reader
 long_read most None left read consumed long = tt
@@ -61,7 +61,7 @@ spent_from None old new prefix consumed spent = tt
 spent_from (Some all) None new prefix consumed spent = absurd consumed
 spent_from (Some all) (Some left) new prefix consumed spent = spent
 
--- all was read
+-- all of the input was read if it is at its end
 pub all_read : (start old new : Option (List ℕ)) (read line : List ℕ) → Consumes start old read → Consumes old new line → IfSome old (λ _. IsAtEnd new)
     → IsInput start (read ++ line)
 all_read None old new read line before now end = tt
@@ -71,7 +71,7 @@ all_read (Some all) (Some left) (Some remainder) read line before now end =
     let whole : all ≡ read ++ (line ++ []) = before ∙ ap (λ l. read ++ l) (now ∙ ap (λ l. line ++ l) end) in
     sym (whole ∙ ap (λ l. read ++ l) (append-nil line))
 
--- one line more
+-- one more line, which a line feed ends
 pub ended_more : (read : List ℕ) (lines : List (List ℕ)) (line : List ℕ) → AreEnded read lines → IsOneLine line
     → AreEnded (read ++ (line ++ 10 ∷ [])) (lines ++ line ∷ [])
 ended_more read lines line before one = record {
@@ -81,7 +81,7 @@ ended_more read lines line before one = record {
   whole = All-push IsOneLine lines line before.whole one;
 }
 
--- the first line, and those after it
+-- a line that a line feed ends is the first line, followed by the lines of the other bytes
 first_line : (line more : List ℕ) → IsOneLine line → input_lines ((line ++ 10 ∷ []) ++ more) ≡ line ∷ input_lines more
 first_line [] more one = refl
 first_line (x ∷ xs) more one =
@@ -89,7 +89,7 @@ first_line (x ∷ xs) more one =
     let remainder = input_lines ((xs ++ 10 ∷ []) ++ more) in
     ap (λ b. cond b ([] ∷ remainder) (begun_with x remainder)) miss ∙ ap (begun_with x) (first_line xs more (All-tail IsNotFeed x xs one))
 
--- the lines that were ended, and those after them
+-- the same for several lines
 ended_lines : (lines : List (List ℕ)) (more : List ℕ) → All IsOneLine lines → input_lines (flat_map (with_end Feed) lines ++ more) ≡ lines ++ input_lines more
 ended_lines [] more whole = refl
 ended_lines (line ∷ lines) more whole =
@@ -97,7 +97,7 @@ ended_lines (line ∷ lines) more whole =
     ap input_lines (append_assoc (line ++ 10 ∷ []) remainder more) ∙ first_line line (remainder ++ more) (All-head IsOneLine line lines whole)
     ∙ ap (λ l. line ∷ l) (ended_lines lines more (All-tail IsOneLine line lines whole))
 
--- a last line that no line feed ends
+-- bytes without a line feed, if there are any, are one line
 bare_line : (x : ℕ) (xs : List ℕ) → IsOneLine (x ∷ xs) → input_lines (x ∷ xs) ≡ (x ∷ xs) ∷ []
 bare_line x [] one = ap (λ b. cond b ([] ∷ []) (begun_with x [])) (ne_eqb x 10 (All-head IsNotFeed x [] one))
 bare_line x (y ∷ ys) one =
@@ -142,7 +142,7 @@ all_spent (Some all) (Some ys) ahead bytes input consumed = none ys (omega (arit
     none [] is = refl
     none (x ∷ xs) is = absurd (omega (arith, is))
 
--- and if all was read, they are all
+-- if all was read, the lines of the bytes are all lines of the input
 pub all_lines : (reader : Option (List ℕ)) (read : List ℕ) → IsInput reader read
     → IfSome reader (λ bytes. (more : List (List ℕ)) × (input_lines bytes ≡ input_lines read ++ more))
 all_lines None read input = tt
@@ -159,12 +159,12 @@ part_lines line (Some Input) one = subst (λ (l : List ℕ). length (input_lines
 part_lines line (Some Feed) one =
     let is = ap length (ap input_lines (sym (append-nil (line ++ 10 ∷ []))) ∙ first_line line [] one) in omega (arith, is)
 
--- what was read after lines that were ended
+-- the lines of ended lines and more bytes are those lines, followed by the lines of the bytes
 pub lines_and : (read : List ℕ) (lines : List (List ℕ)) (more : List ℕ) → AreEnded read lines
     → input_lines (read ++ more) ≡ lines ++ input_lines more
 lines_and read lines more ended = ap (λ l. input_lines (l ++ more)) ended.spelled ∙ ended_lines lines more ended.whole
 
--- a part that no line feed ends may be all that was read
+-- a part that was read before a complaint may lack a line end
 no_end : (complaint : Complaint) → MayEnd complaint None
 no_end (Refused refusal) = tt
 no_end (Memory error) = tt
@@ -172,7 +172,7 @@ no_end (ReadFailed error) = refl
 no_end TooLong = tt
 no_end (WriteFailed error) = tt
 
--- nothing more was read of an input
+-- if nothing more was read, the prefix is the part that was read
 pub part_kept : (start old new : Option (List ℕ)) (complaint : Complaint) (prefix : List ℕ) → IsOneLine prefix → Consumes start old prefix
     → Keeps old new → HasReadPart start new complaint
 part_kept start old new complaint prefix one consumed same = record {
@@ -183,7 +183,7 @@ part_kept start old new complaint prefix one consumed same = record {
   cut = no_end complaint;
 }
 
--- a line was read, and no read failed
+-- a whole line was read before the complaint
 pub part_of_line : (room : ℕ) (old new : Option (List ℕ)) (kept : List ℕ) (read : LineRead) (complaint : Complaint) → HasReadLine room old new kept read
     → MayEnd complaint (Some read.end) → HasReadPart old new complaint
 part_of_line room old new kept read complaint is cut =
@@ -191,12 +191,12 @@ part_of_line room old new kept read complaint is cut =
 
 -- ---- what is at hand, and what a reader has left
 
--- an end is one whatever was known before
+-- an input at its end has nothing left, whatever was known before
 spent : (old new : Option (List ℕ)) → IsAtEnd new → IsSpent old new
 spent None new end = tt
 spent (Some xs) new end = end
 
--- a piece of what is at hand is one of the input
+-- a piece of the bytes that are ahead is a piece of the input
 pub piece_taken : (old left : Option (List ℕ)) (ahead shown next : List ℕ) (read : Piece) → shown ≡ ahead → IsPieceOf shown read
     → Keeps old (prepend_known ahead left) → next ≡ drop read.size ahead → (ahead ≡ [] → IsAtEnd left)
     → HasPiece old (prepend_known next left) (take read.length shown) read
@@ -215,7 +215,7 @@ piece_taken old left ahead shown next read same piece kept is end =
 
 -- ---- how much was read
 
--- a reader has lost what was used, and what is ahead
+-- the bytes read from a reader are those used and those ahead
 pub with_ahead : (most : ℕ) (old left : Option (List ℕ)) (read ahead : List ℕ) → Consumes old (prepend_known ahead left) read
     → length read + length ahead ≤ most → HasReadAtMost most old left
 with_ahead most old left read ahead consumed few =
@@ -226,13 +226,13 @@ with_ahead most old left read ahead consumed few =
     go (Some xs) None consumed = absurd consumed
     go (Some xs) (Some ys) consumed = consumed ∙ sym (append_assoc read ahead ys)
 
--- a prefix of a line was read, and no more than one read's bytes are ahead
+-- a prefix of a line was read, and at most the bytes of one read are ahead
 pub little : (room once size : ℕ) (old left : Option (List ℕ)) (read ahead : List ℕ) → Consumes old (prepend_known ahead left) read
     → size ≡ length read → size ≤ room → length ahead ≤ once → HasReadAtMost (room + once) old left
 little room once size old left read ahead consumed is short few =
     with_ahead (room + once) old left read ahead consumed (omega (arith, is, short, few))
 
--- a piece more was taken of what was ahead
+-- one more piece was taken from the bytes that were ahead
 pub little_more : (room once size more : ℕ) (old left : Option (List ℕ)) (read ahead : List ℕ) → Consumes old (prepend_known ahead left) read
     → size + more ≡ length read → size ≤ room → more + length ahead ≤ once → HasReadAtMost (room + once) old left
 little_more room once size more old left read ahead consumed is short few =
@@ -242,7 +242,7 @@ little_more room once size more old left read ahead consumed is short few =
 pub less_room : (room size more : ℕ) → 0 < more → size + more ≤ room → room + 1 - (size + more) < room + 1 - size
 less_room room size more some within = omega arith
 
--- what is read after something else
+-- bytes that were read after others
 pub after_read : (room most : ℕ) (reader old new : Option (List ℕ)) (read : List ℕ) → Consumes reader old read → length read + room ≤ most
     → HasReadAtMost room old new → HasReadAtMost most reader new
 after_read room most reader old new read consumed few (more, next, short) =

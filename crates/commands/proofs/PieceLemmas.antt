@@ -8,7 +8,7 @@ use Rattle.memchr.specs.Find.{IsFirstByte, Nowhere, Passes, is_byte}
 use Rattle.commands.specs.declared.lines.LineEnd.TheVariants.{Feed, Input}
 use Rattle.commands.specs.Lines.{IsOneLine, IsPieceOf}
 
--- before the first line feed is none
+-- the bytes before the first line feed have none
 none_before : (bytes : List ℕ) (n : ℕ) → n ≤ length bytes → Nowhere (Passes (is_byte 10) bytes) 0 n → IsOneLine (take n bytes)
 none_before bytes n within nowhere =
     All-from_get_or (λ byte. byte ≢ 10) (take n bytes) 0 (λ i less is.
@@ -28,7 +28,7 @@ ended_piece bytes n first =
       some = λ is. cc;
     }
 
--- without one all bytes are a piece, if there are any
+-- bytes without a line feed are a piece, if there are any
 pub whole_piece : (bytes : List ℕ) → IsFirstByte (is_byte 10) bytes None → (length bytes == 0) ≡ false
     → IsPieceOf bytes (record { length = length bytes; size = length bytes; end = None })
 whole_piece bytes nowhere there = record {
@@ -45,7 +45,7 @@ whole_piece bytes nowhere there = record {
     go zero not = absurd (not refl)
     go (suc n) not = omega arith
 
--- no bytes at all are the end of the input
+-- if there are no bytes, the input has ended
 pub empty_piece : (bytes : List ℕ) → (length bytes == 0) ≡ true → IsPieceOf bytes (record { length = 0; size = 0; end = Some Input })
 empty_piece [] none = record { within = omega arith; bound = omega arith; one = All-nil (λ byte. byte ≢ 10); ended = refl; last = λ is. refl; whole = λ is. cc; some = λ is. cc }
 empty_piece (x ∷ xs) none = let bad : length (x ∷ xs) ≡ 0 = eqb-true (length (x ∷ xs)) 0 none in absurd (omega (arith, bad))

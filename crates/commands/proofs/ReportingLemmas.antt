@@ -130,7 +130,7 @@ module _ {V : Type 0} {contents : V → Option (List ℕ)} {plan : Plan} {worker
       go (Err TooLong) not = absurd not
       go (Err (Refused refusal)) not = absurd not
 
--- how it ends once its haul is open
+-- how the command ends once its haul is open
 pub reporting_ends : {V : Type 0} {contents : V → Option (List ℕ)} {plan : Plan} {workers from : ℕ} {opened held : Held} {old new : Output V}
     (taken : Result (Unit {0}) Complaint) (is : IsOpenedFor plan workers opened) (h : HasReportedBy contents workers from opened held old new taken)
     (reader : Option (List ℕ)) (bytes : List ℕ) (outcome : Outcome) (output : Stream)
@@ -154,7 +154,7 @@ reporting_prints plan workers from reader bytes status output errors ends done =
     go (Ok missing) is done = prints_right plan is.made.text output.before output.after is.is.0 is.text
     go (Err complaint) is done = absurd (not_done complaint done)
 
--- if it is done, no write to standard error has failed
+-- if the command is done, no write to standard error has failed
 pub fine_if_done : (plan : Plan) (workers from : ℕ) (outcome : Outcome) (output errors : Stream)
     → Reaches (reporting_behaviour plan workers from) None [] outcome output errors → OnOk outcome (errors.failed ≡ false)
 fine_if_done plan workers from (Ok missing) output errors is = is.fine
@@ -170,7 +170,7 @@ not_refused failed (Err (Refused refusal)) stops = absurd stops
 not_refused failed (Err (ReadFailed error)) stops = absurd stops
 not_refused failed (Err TooLong) stops = absurd stops
 
--- what is said of the reports that were handed over may be replaced by what follows from it
+-- a property of the reports that were handed over may be weakened
 pub heard_as : {lets : ℕ → ℕ → Type 0} {workers : ℕ} {old new : Held} (hears others : List Reported → Type 0)
     → ((reports : List Reported) → hears reports → others reports) → HasHeardCrew lets workers old new hears
     → HasHeardCrew lets workers old new others
@@ -187,7 +187,7 @@ heard_as hears others turn h = record {
   added = h.added;
 }
 
--- the same for both ends of a crew
+-- the same for both ways in which a crew ends
 pub heard_by_both : {E : Type 0} (lets : ℕ → ℕ → Type 0) (workers : ℕ) (old : Held) (hears others : List Reported → Type 0)
     → ((reports : List Reported) → hears reports → others reports) → (ended : Result Held (Held × E))
     → MatchResult ended (λ done. HasHeardCrew lets workers old done hears) (λ back. HasHeardCrew lets workers old back.0 hears)
@@ -195,7 +195,7 @@ pub heard_by_both : {E : Type 0} (lets : ℕ → ℕ → Type 0) (workers : ℕ)
 heard_by_both lets workers old hears others turn (Ok done) h = heard_as hears others turn h
 heard_by_both lets workers old hears others turn (Err back) h = heard_as hears others turn h
 
--- how a crew ended that has reported
+-- how a crew that has reported ended
 pub reported_by : {V : Type 0} {contents : V → Option (List ℕ)} {workers from : ℕ} {opened held : Held} {old new : Output V}
     (failed : Bool) (taken : Result (Unit {0}) Complaint) → HasPutBy contents workers from opened held old new → failed ≡ new.failed
     → IfOk taken (λ _. (failed ≡ false) × IsComplete held.terms.ranges held.taken × AreAll held.terms.ranges (numbers_in held.taken))
@@ -205,7 +205,7 @@ reported_by failed (Ok u) heard same whole stops =
 reported_by failed (Err complaint) heard same whole stops =
     record { heard = heard; whole = tt; stops = subst (λ (b : Bool). StopsReporting b complaint) same stops }
 
--- more is known of a result without a value
+-- a property that a successful result implies may be weakened
 pub ok_with : {E : Type 0} {P Q : Type 0} (r : Result (Unit {0}) E) → (P → Q) → IfOk r (λ _. P) → IfOk r (λ _. Q)
 ok_with (Ok u) turn h = turn h
 ok_with (Err e) turn h = tt

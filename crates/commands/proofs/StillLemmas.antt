@@ -10,13 +10,13 @@ use Rattle.pattern_commands.specs.Streams.{Stream}
 use Rattle.pattern_commands.specs.TextSteps.{TextOutcome}
 use Rattle.commands.specs.WorkSteps.{Puts, reports_on}
 
--- where nothing is refused, whatever is said of a refusal holds
+-- if a command never refuses, any property holds if it refuses
 pub never_refused : {A : Type 0} (P : Type 0) (r : Result A Complaint) → IfErr r (λ complaint. status_of complaint ≢ Refused)
     → IfErr r (λ complaint. status_of complaint ≡ Refused → P)
 never_refused P (Ok a) accepted = tt
 never_refused P (Err e) accepted = λ is. absurd (accepted is)
 
--- reports that are written are never refused
+-- writing reports never ends with a refusal
 pub reports_accepted : (P : Type 0) (job : Job) (worker : ℕ) (numbers : List ℕ) (r : TextOutcome) (output : Stream)
     → Puts (reports_on job worker numbers) r output
     → IfErr r (λ complaint. status_of complaint ≡ Refused → P)

@@ -59,7 +59,7 @@ use Rattle.commands.proofs.NumberLemmas.{numbers_within}
 
 -- ---- refusals
 
--- a refusal of a list that is one needs memory
+-- if a set's range list is valid, each refusal of the set needs memory
 refused_needs_memory : (set : SoupSet) (refusal : Refusal) → IsListText set.also → IsRefused set refusal → NeedsMemory (Refused refusal)
 refused_needs_memory set refusal list (Bad_list not_list place fault diagnostics) = absurd (not_list list)
 refused_needs_memory set refusal list (Too_large ranges named large diagnostics) = subst (λ (r : Refusal). NeedsMemory (Refused r)) (sym diagnostics) tt
@@ -73,7 +73,7 @@ needs_memory set tells (ReadFailed error) list right = absurd right
 needs_memory set tells TooLong list right = absurd right
 needs_memory set tells (WriteFailed error) list right = absurd right
 
--- what stops a command over its set stops it
+-- a complaint about the set stops the command
 Stops_set : (set : SoupSet) (tells : List Range → List ℕ → Type 0) (complaint : Complaint) → StopsSet set complaint
     → Stops (IsRightForSet set tells) complaint
 Stops_set set tells (Refused refusal) stops = stops
@@ -82,7 +82,7 @@ Stops_set set tells (ReadFailed error) stops = absurd stops
 Stops_set set tells TooLong stops = absurd stops
 Stops_set set tells (WriteFailed error) stops = absurd stops
 
--- a range list that is not read stops the command
+-- an error in reading the range list stops the command
 pub Stops_list : (set : SoupSet) (text : List ℕ) (error : ListError) → text ≡ set.also
     → ((ranges : List Range) → FitU64 ranges → list_text ranges ≡ text → error ≡ list_error.Memory out_of_memory)
     → ((place : ℕ) → error ≡ list_error.BadList place → IsFirstListFault text place) → (error ≡ list_error.Memory out_of_memory → IsListText text)
@@ -93,7 +93,7 @@ Stops_list set text (list_error.BadList place) is complete fault memory =
     Bad_list not_list place (subst (λ (t : List ℕ). IsFirstListFault t place) is (fault place refl)) refl
 Stops_list set text (list_error.Memory refused) is complete fault memory = subst IsListText is (memory refl)
 
--- a complaint that stops the command is what it ends with, with nothing on the output
+-- a command that a complaint stops ends with that complaint, with nothing on the output
 pub Reaches_stopped : (right : Right) (complaint : Complaint) (output : Stream) → Stops right complaint → Has output []
     → ReachesText false false right (Err complaint) output
 Reaches_stopped right (Refused refusal) output stops nothing = (stops, nothing)
@@ -102,7 +102,7 @@ Reaches_stopped right (ReadFailed error) output stops nothing = absurd stops
 Reaches_stopped right TooLong output stops nothing = absurd stops
 Reaches_stopped right (WriteFailed error) output stops nothing = absurd stops
 
--- the same for a part of what is right
+-- the same for a command whose job is valid
 pub Stops_given : (plan : Plan) (tells : Job → List Range → List ℕ → Type 0) (job : Job)
     (complaint : Complaint)
     → job_named plan ≡ Ok job → StopsSet plan.set complaint
@@ -124,7 +124,7 @@ IsRefusal (ReadFailed error) = ⊥
 IsRefusal TooLong = ⊥
 IsRefusal (WriteFailed error) = ⊥
 
--- a seed, a profile or a rule is refused, and nothing else happens to them
+-- a complaint about a seed, a profile or a rule is a refusal
 seed_refused : (answer : Result (List ℕ) SeedFault) (complaint : Complaint) → result_map_both (λ seed. seed) seed_complaint answer ≡ Err complaint
     → IsRefusal complaint
 seed_refused (Ok seed) complaint e = cc
@@ -162,7 +162,7 @@ job_refused plan complaint =
     job_of : List ℕ → Settling → Numbers → Result Job Complaint
     job_of seed profile rule = Ok (record { seed = seed; profile = profile; rule = rule })
 
--- what makes up the job is refused
+-- a complaint about the job stops the command
 pub Stops_job : (plan : Plan) (next : Job → Right) (complaint : Complaint)
     → job_named plan ≡ Err complaint → Stops (IsRightGiven (job_named plan) next) complaint
 Stops_job plan next (Refused refusal) refused = rw refused refl
@@ -171,7 +171,7 @@ Stops_job plan next (ReadFailed error) refused = absurd (job_refused plan (ReadF
 Stops_job plan next TooLong refused = absurd (job_refused plan TooLong refused)
 Stops_job plan next (WriteFailed error) refused = absurd (job_refused plan (WriteFailed error) refused)
 
--- what ends a command before its haul is open stops it
+-- a complaint that may end a command before its haul is open stops it
 pub Stops_opening : (plan : Plan) (tells : Job → List Range → List ℕ → Type 0) (complaint : Complaint)
     → StopsOpening plan complaint
     → Stops (IsRightGiven (job_named plan) (λ j. IsRightForSet plan.set (tells j))) complaint
@@ -179,7 +179,7 @@ Stops_opening plan tells complaint (inl refused) =
     Stops_job plan (λ j. IsRightForSet plan.set (tells j)) complaint refused
 Stops_opening plan tells complaint (inr (job, named, stops)) = Stops_given plan tells job complaint named stops
 
--- a haul that is opened for the job is one for the job that is named
+-- a haul that is opened for the plan's job is opened for the plan
 pub opened_for : (plan : Plan) (workers : ℕ) (job : Job) → job_named plan ≡ Ok job
     → (answer : Result Held Complaint) → IfOk answer (IsOpened job plan.set workers) → IfOk answer (IsOpenedFor plan workers)
 opened_for plan workers job named (Ok held) is = record { job = job; named = named; opened = is }
@@ -190,16 +190,16 @@ pub not_opened : (plan : Plan) (job : Job) → job_named plan ≡ Ok job
 not_opened plan job named (Ok held) stops = tt
 not_opened plan job named (Err complaint) stops = inr (job, named, stops)
 
--- what is right for the job is right
+-- an answer that is right for the plan's job is right for the plan
 pub right_given : (plan : Plan) (next : Job → Right) (job : Job) (text : List ℕ)
     → job_named plan ≡ Ok job → next job (Ok text) → IsRightGiven (job_named plan) next (Ok text)
 right_given plan next job text named right = rw named right
 
--- a set whose ranges are known has a list
+-- a set that has ranges has a valid range list
 pub listed : (set : SoupSet) (ranges : List Range) → AreRangesOf set ranges → IsListText set.also
 listed set ranges of = record { ranges = of.listed; fit = of.fit; spelled = of.spelled }
 
--- memory that runs out over a haul that was opened stops the command
+-- if memory runs out after a haul was opened, that stops the command
 pub Stops_memory : {workers : ℕ} (plan : Plan) (held : Held)
     → IsOpenedFor plan workers held → Stops (take_right plan) (Memory out_of_memory)
 Stops_memory plan held is =
@@ -231,7 +231,7 @@ in_set ranges normal taken n form missing =
     ∙ All-contains (λ m. is_in normal m ≡ true) (missing_of normal taken) n
     (All-filter (λ m. not (is_taken taken m)) (λ m. is_in normal m ≡ true) (numbers_of normal) (numbers_within normal)) missing
 
--- its census is that of the job and the set
+-- the census of a haul that was opened for a job and a set is the census of that job and set
 counted_by : {workers : ℕ} (job : Job) (set : SoupSet) (opened held : Held) (census : Census) → IsOpened job set workers opened
     → HasTakenMore opened held → IsCensus held.terms.job held.terms.ranges (numbers_in held.taken) census
     → IsCensus job opened.terms.ranges (numbers_in held.taken) census
@@ -239,7 +239,7 @@ counted_by job set opened held census open_ h is =
     subst (λ (j : Job). IsCensus j opened.terms.ranges (numbers_in held.taken) census) open_.job_is
     (subst (λ (t : Terms). IsCensus t.job t.ranges (numbers_in held.taken) census) h.terms is)
 
--- all of it was taken
+-- if all soups were taken, the haul text is right
 pub complete_right : {workers : ℕ} (job : Job) (set : SoupSet) (opened held : Held) (census : Census) → IsOpened job set workers opened
     → HasTakenMore opened held → AreAll held.terms.ranges (numbers_in held.taken)
     → IsCensus held.terms.job held.terms.ranges (numbers_in held.taken) census → IsRightForSet set (TellsAll job) (Ok (haul_text census))
@@ -264,7 +264,7 @@ complete_right job set opened held census open_ h all is = record {
 abbrev stopped_text : (may_stop lets : ℕ → ℕ → Type 0) → (workers missing : ℕ) → Job → List Range → List ℕ → Type 0
 stopped_text may_stop lets workers missing job ranges text = MayStop may_stop ranges × TellsTaken lets workers job ranges missing text
 
--- some numbers are missing
+-- if some numbers are missing, the haul text says what was taken
 pub stopped_told : (may_stop lets : ℕ → ℕ → Type 0) (workers : ℕ) (job : Job) (set : SoupSet) (opened held : Held) (census : Census) (missing : ℕ)
     → IsOpened job set workers opened → HasTakenMore opened held → All (λ t. is_in held.terms.ranges t.1 ≡ true) held.taken
     → IsDistinct nat_eq (numbers_in held.taken) → All (IsLetIn lets workers) held.taken → missing ≡ length (missing_of held.terms.ranges held.taken)
@@ -295,7 +295,7 @@ stopped_told may_stop lets workers job set opened held census missing open_ h wi
   );
 }
 
--- what was taken of a haul that was opened, with how many are missing
+-- the haul text of what was taken is right, with this many numbers missing
 taken_told : (may_stop lets : ℕ → ℕ → Type 0) (workers : ℕ) (plan : Plan) (held : Held) (census : Census)
     (missing : ℕ) → IsTaken may_stop lets plan workers held → missing ≡ length (missing_of held.terms.ranges held.taken)
     → (missing ≡ 0) ↔ IsComplete held.terms.ranges held.taken → IsCensusOf held census
@@ -316,7 +316,7 @@ taken_told may_stop lets workers plan held census missing h many none is = go mi
 
 -- ---- how `take` ends
 
--- a complaint that stops the command is what it ends with, with nothing on the output
+-- a command that a complaint stops ends with that complaint, with nothing on the output
 pub take_stops : (may_stop lets : ℕ → ℕ → Type 0) (workers : ℕ) (plan : Plan) (reader : Option (List ℕ)) (bytes : List ℕ)
     (complaint : Complaint) (output errors : Stream) → Stops (take_right plan) complaint → Has output [] → IsUntouched errors
     → Reaches (gated_behaviour may_stop lets plan workers) reader bytes (Err complaint) output errors
@@ -328,7 +328,7 @@ take_stops may_stop lets workers plan reader bytes (ReadFailed error) output err
 take_stops may_stop lets workers plan reader bytes TooLong output errors stops nothing still = absurd stops
 take_stops may_stop lets workers plan reader bytes (WriteFailed error) output errors stops nothing still = absurd stops
 
--- the haul that was taken, finished
+-- how `take` ends once its haul was finished
 take_finishes : (may_stop lets : ℕ → ℕ → Type 0) (workers : ℕ) (plan : Plan) (reader : Option (List ℕ))
     (bytes : List ℕ) (held : Held) (outcome : Outcome) (output errors : Stream) → IsTaken may_stop lets plan workers held
     → (length (missing_of held.terms.ranges held.taken) ≡ 0) ↔ IsComplete held.terms.ranges held.taken → Finishes held outcome output → IsUntouched errors
@@ -395,7 +395,7 @@ pub memory_accepted : (taken : Result (Unit {0}) Complaint) → IfErr taken (λ 
 memory_accepted (Ok u) memory = tt
 memory_accepted (Err complaint) memory = λ refused. let bad : statuses.Memory ≡ statuses.Refused = sym (ap status_of memory) ∙ refused in cc
 
--- a gate that stops nobody stops no haul
+-- if a gate stops no worker, no text with missing soups is right
 never_right : (may_stop lets : ℕ → ℕ → Type 0) (workers : ℕ) (plan : Plan) (missing : ℕ) (text : List ℕ)
     → ((worker n : ℕ) → may_stop worker n → ⊥) → stopped_right may_stop lets plan workers missing (Ok text) → ⊥
 never_right may_stop lets workers plan missing text never = go (job_named plan)
@@ -405,7 +405,7 @@ never_right may_stop lets workers plan missing text never = go (job_named plan)
     go (Ok job) diagnostics = let stops = diagnostics.is_text.0 in never stops.0 stops.1 stops.3
     go (Err complaint) is = cc
 
--- so what it makes is a text alone
+-- so `take` with such a gate makes only the text of the complete haul
 never_less : (may_stop lets : ℕ → ℕ → Type 0) (workers : ℕ) (plan : Plan) (made : Made)
     → ((worker n : ℕ) → may_stop worker n → ⊥) → taken_right may_stop lets plan workers (Ok made) → alone (take_right plan) (Ok made)
 never_less may_stop lets workers plan made never is = go made.missing refl is.0

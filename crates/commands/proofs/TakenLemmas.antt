@@ -1,4 +1,4 @@
--- What the book takes of offers: of each eligible number, the first one.
+-- What the book takes: the first eligible offer of each number.
 use Rattle.std.proofs.Common.{◌≡◌, ◌∙◌, ◌||◌, ◌≤◌, ◌⊎◌, ℕ, Bool, true, false, cond, not, nat_eq, List, [], ◌∷◌, Option, None, Some}
 use Rattle.std.proofs.Common.{ap, sym, subst, refl, inl, inr, arith, filter, map, count_by, ⊎_elim}
 use Rattle.std.specs.List.{find, list_any}

@@ -32,7 +32,7 @@ use Rattle.commands.specs.WorkSteps.{EndsAtLine, IsBegun, Puts, reports_on}
 use Rattle.commands.proofs.NumberLemmas.{range_more}
 use Rattle.commands.proofs.TakeLemmas.{listed}
 
--- the bytes of a stream over two calls, of which the first went well
+-- a stream with these bytes before and after, on which a write may have failed
 abbrev pub over : Option (List ℕ) → Option (List ℕ) → Bool → Stream
 over before after failed = record { before = before; after = after; failed = failed }
 
@@ -46,12 +46,12 @@ each-append job worker [] ms (r ∷ rs) ss one two = absurd one
 each-append job worker (n ∷ ns) ms [] ss one two = absurd one
 each-append job worker (n ∷ ns) ms (r ∷ rs) ss one two = (one.0, each-append job worker ns ms rs ss one.1 two)
 
--- no reports on no numbers
+-- no numbers need no reports
 pub puts_nothing : (job : Job) (worker : ℕ) (reader : Option (List ℕ)) (failed : Bool) → failed ≡ false
     → Puts (reports_on job worker []) (Ok tt) (over reader reader failed)
 puts_nothing job worker reader failed fine = record { reports = []; each = tt; is_written = Appends-nil reader; fine = fine }
 
--- memory that runs out over the first of them
+-- memory ran out at the first of the numbers
 pub puts_no_memory : (job : Job) (worker : ℕ) (numbers : List ℕ) (reader : Option (List ℕ)) (failed : Bool) (error : OutOfMemory)
     → Puts (reports_on job worker numbers) (Err (Memory error)) (over reader reader failed)
 puts_no_memory job worker numbers reader failed error =
@@ -67,7 +67,7 @@ puts_one job worker n report output is wrote fine = record {
   fine = fine;
 }
 
--- and one that could not be written whole
+-- a report on one number that could not be written completely
 pub puts_failed : (job : Job) (worker n : ℕ) (report : Reported) (output : Stream) (error : WriteError) → IsReportOn job worker n report → HasPrefix output (report_text report)
     → output.failed ≡ true → Puts (reports_on job worker (n ∷ [])) (Err (WriteFailed error)) output
 puts_failed job worker n report output error is wrote diagnostics = (
@@ -118,7 +118,7 @@ puts_then job worker ns ms (Err (ReadFailed error)) x y z was failed one two = a
 puts_then job worker ns ms (Err TooLong) x y z was failed one two = absurd two
 puts_then job worker ns ms (Err (Refused refusal)) x y z was failed one two = absurd two
 
--- what stops the first of some numbers stops them all
+-- what stops the reports on the first of some numbers stops those on all
 pub puts_stops : (job : Job) (worker : ℕ) (ns ms : List ℕ) (complaint : Complaint) (output : Stream)
     → Puts (reports_on job worker ns) (Err complaint) output
     → Puts (reports_on job worker (ns ++ ms)) (Err complaint) output
@@ -155,7 +155,7 @@ range_split a (suc n) k =
     ap (range_with_len a) here
     ∙ ap (λ (more : List ℕ). a ∷ more) (range_split (a + 1) n k ∙ ap (λ (m : ℕ). range_with_len (a + 1) n ++ range_with_len m k) there)
 
--- one number more of a range
+-- the reports on one more number of a range
 pub puts_next : (job : Job) (worker first number : ℕ) (outcome : TextOutcome) (x y z : Option (List ℕ)) (was failed : Bool) → first ≤ number
     → Puts (reports_on job worker (range_with_len first (number - first))) (Ok tt) (over x y was)
     → Puts (reports_on job worker (number ∷ [])) outcome (over y z failed)
@@ -166,7 +166,7 @@ puts_next job worker first number outcome x y z was failed low one two =
     (sym (range_more first (number - first) number (omega arith)) ∙ ap (range_with_len first) one_more)
     (puts_then job worker (range_with_len first (number - first)) (number ∷ []) outcome x y z was failed one two)
 
--- what stops one number of a range stops the range
+-- what stops the reports at one number of a range stops those on the range
 pub puts_short : (job : Job) (worker first number count : ℕ) (complaint : Complaint) (output : Stream) → first ≤ number → number < first + count
     → Puts (reports_on job worker (range_with_len first (number + 1 - first))) (Err complaint) output
     → Puts (reports_on job worker (range_with_len first count)) (Err complaint) output
@@ -177,7 +177,7 @@ puts_short job worker first number count complaint output low high h =
     (sym (range_split first k (count - k)) ∙ ap (range_with_len first) whole)
     (puts_stops job worker (range_with_len first k) (range_with_len (first + k) (count - k)) complaint output h)
 
--- one range more of some
+-- the reports on one more of some ranges
 pub puts_more : (job : Job) (worker : ℕ) (ranges : List Range) (i : ℕ) (d : Range) (outcome : TextOutcome) (x y z : Option (List ℕ)) (was failed : Bool)
     → i < length ranges → Puts (reports_on job worker (numbers_of (take i ranges))) (Ok tt) (over x y was)
     → Puts (reports_on job worker (numbers_of_range (get_or ranges i d))) outcome (over y z failed)
@@ -189,7 +189,7 @@ puts_more job worker ranges i d outcome x y z was failed more one two =
     ∙ ap (λ (ns : List ℕ). numbers_of (take i ranges) ++ ns) (append-nil (numbers_of_range r))))
     (puts_then job worker (numbers_of (take i ranges)) (numbers_of_range r) outcome x y z was failed one two)
 
--- what stops the first of some ranges stops them all
+-- what stops the reports on the first of some ranges stops those on all
 pub puts_early : (job : Job) (worker : ℕ) (ranges : List Range) (k : ℕ) (complaint : Complaint) (output : Stream)
     → Puts (reports_on job worker (numbers_of (take k ranges))) (Err complaint) output
     → Puts (reports_on job worker (numbers_of ranges)) (Err complaint) output

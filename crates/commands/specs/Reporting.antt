@@ -34,7 +34,7 @@ pub record TellsAllLate (plan : Plan) (workers from : ℕ) (text : List ℕ) : T
   pub all : AreAll are.ranges (map (λ r. r.number) reports)
   pub text_is : text ≡ late_lines from reports
 
--- whole lines of late soups of a plan, none of them twice, were added
+-- whole lines of late soups of a plan, at most one of each, were added
 pub record TellsLate (plan : Plan) (workers from : ℕ) (before after : Option (List ℕ)) : Type 0 where
   pub reports : List Reported
   pub are : AreReportsOf plan workers reports

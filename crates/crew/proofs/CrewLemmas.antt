@@ -68,7 +68,7 @@ added_more xs ys old mid new first more = record {
 
 -- ---- soups that were taken
 
--- what was taken stays taken
+-- a soup that was taken stays taken
 pub taken_stays : (old more : List (ℕ × ℕ)) (n : ℕ) → is_taken old n ≡ true → is_taken (old ++ more) n ≡ true
 taken_stays old more n is =
     ap (list_any (nat_eq n)) (map-append (λ (t : ℕ × ℕ). t.1) old more)
@@ -95,7 +95,7 @@ soups_after r old new rs added h =
     ⊎_elim (λ (same : new ≡ old). subst (λ (held : Held). All (HasSoupOf held) rs) (sym same) h)
     (λ (more : HasAdded (r ∷ []) old new). soups_stay (r ∷ []) old new rs more h) added
 
--- the tests of a refusal in their order: where only the last is left, there is a worker of whom the soup was taken
+-- if only the last test of a refusal is left, the soup was taken from some worker
 double_of : (closed job over inside : Bool) (worker : Option ℕ) (reason : OfferError) → closed ≡ false → job ≡ true → over ≡ false
     → inside ≡ true
     → Some reason
@@ -110,7 +110,7 @@ double_of closed job over inside None reason c j o i is =
     absurd (cc)
 double_of closed job over inside (Some w) reason c j o i is = (w, refl)
 
--- a soup that was taken of a worker was taken
+-- a soup that was taken from a worker was taken
 of_worker_taken : (taken : List (ℕ × ℕ)) (n w : ℕ) → worker_in n taken ≡ Some w → is_taken taken n ≡ true
 of_worker_taken [] n w is = absurd (let bad : None ≡ Some w = is in cc)
 of_worker_taken (t ∷ ts) n w is = go (nat_eq n t.1) is (λ h. of_worker_taken ts n w h)
@@ -120,7 +120,7 @@ of_worker_taken (t ∷ ts) n w is = go (nat_eq n t.1) is (λ h. of_worker_taken 
     go true found more = refl
     go false found more = more found
 
--- a lawful report that an open haul refuses, though there is memory, is of a soup that was taken
+-- if an open haul refuses a lawful report, and not for memory, the report's soup was already taken
 pub refused_was_taken : (held : Held) (r : Reported) (reason : OfferError) → IsReply (Some reason) (refusal_at held r)
     → (Some reason ≢ Some (Memory out_of_memory)) → HasSoupOf held r
 refused_was_taken held r reason (inr none) answered is_open lawful = absurd (answered none.0)
@@ -152,7 +152,7 @@ collected_none begun = record {
 }
 
 module _ {before after : Collector} {answered : Bool} (c : Collected before after answered) where
-  -- a part of what was received before and after this report
+  -- a part of the reports before this one, and this report or nothing, are a part of all reports
   some_more : (r : Reported) (sender : ℕ) (part more : List Reported) → IsSubsequence part (reports_in c.notes)
       → IsSubsequence more (r ∷ [])
       → IsSubsequence (part ++ more) (reports_in (c.notes ++ (sender, Report r) ∷ []))
@@ -160,7 +160,7 @@ module _ {before after : Collector} {answered : Bool} (c : Collected before afte
       subst (λ (l : List Reported). IsSubsequence (part ++ more) l) (sym (reports_push c.notes (sender, Report r)))
       (part_append part (reports_in c.notes) more (r ∷ []) p q)
 
-  -- one was lost before, and of this report the haul has taken `more`
+  -- a report was lost before, and from this one the haul has taken `more`: the report or nothing
   lost_more : (r : Reported) (sender : ℕ) (more : List Reported) → IsSubsequence more (r ∷ [])
       → HasLost (reports_in c.notes) c.part before.haul
       → HasLost (reports_in (c.notes ++ (sender, Report r) ∷ [])) (c.part ++ more) before.haul
@@ -176,7 +176,7 @@ module _ {before after : Collector} {answered : Bool} (c : Collected before afte
         eligible = lost.eligible;
       }
 
-  -- what is taken after a report, and which reports that are
+  -- the haul after a report, and which reports it has taken
   record Takes (r : Reported) (sender : ℕ) (new : Held) : Type 0 where
     part : List Reported
     some : IsSubsequence part (reports_in (c.notes ++ (sender, Report r) ∷ []))
@@ -300,7 +300,7 @@ module _ {O : Type 0} (hears : O → List Reported → O → Type 0)
   pub heard_none : (pass : Received Note) (s t : O) → hears s [] t → HasHeard pass pass (λ reports. hears s reports t)
   heard_none pass s t nothing = record { notes = []; got = sym (append-nil pass.got); heard = nothing }
 
-  -- and nothing more
+  -- the observer was then handed nothing more
   pub heard_still : {old new : Received Note} (s m t : O) → HasHeard old new (λ reports. hears s reports m) → hears m [] t
       → HasHeard old new (λ reports. hears s reports t)
   heard_still s m t h nothing = record {
@@ -309,12 +309,12 @@ module _ {O : Type 0} (hears : O → List Reported → O → Type 0)
     heard = subst (λ (l : List Reported). hears s l t) (append-nil (reports_in h.notes)) (hears_more s m t (reports_in h.notes) [] h.heard nothing);
   }
 
-  -- nothing, and then this
+  -- the observer was first handed nothing, and then these reports
   pub heard_then : {old new : Received Note} (s m t : O) → hears s [] m → HasHeard old new (λ reports. hears m reports t)
       → HasHeard old new (λ reports. hears s reports t)
   heard_then s m t nothing h = record { notes = h.notes; got = h.got; heard = hears_more s m t [] (reports_in h.notes) nothing h.heard }
 
-  -- and the report in one note more, if there is one
+  -- the observer was then handed the report in one more note, if there is one
   pub heard_note : {old new next : Received Note} (note : Note) (s m t : O) → HasHeard old new (λ reports. hears s reports m)
       → GotOne new next note → hears m (report_in note) t → HasHeard old next (λ reports. hears s reports t)
   heard_note {old} note s m t h g more = record {

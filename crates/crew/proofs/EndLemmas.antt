@@ -19,12 +19,12 @@ use Rattle.crew.specs.declared.take.CrewError.{CrewError}
 use Rattle.crew.specs.declared.take.CrewError.TheVariants as crew_error
 use Rattle.crew.proofs.TakeLemmas.{all_numbers}
 
--- what holds of each value that there may be
+-- a property of the value, if there is one
 pub if_some : {X : Type 0} (P : X → Type 0) (o : Option X) → ((x : X) → o ≡ Some x → P x) → IfSome o P
 if_some P None each = tt
 if_some P (Some x) each = each x refl
 
--- how a worker ended, as contracts tell it
+-- how a worker ended, in the terms of contracts
 abbrev kind : End → WorkerEnd
 kind Drained = NoneLeft
 kind Stopped = StoppedByGate
@@ -58,7 +58,7 @@ lowest_is_first (s ∷ ss) = go (is_stopped (end_of s)) (was_stopped s.end) (sam
     go false true same more = absurd (cc)
     go false false same more = more
 
--- the result of a worker says how it may have ended
+-- the end in a worker's result is possible
 may_of : {may_stop lets : ℕ → ℕ → Type 0} (shared : Shared) (missing : List ℕ) → shared.missing.items ≡ missing → (s : WorkerResult)
     → Leaves may_stop lets shared s.sender.number s → IsPossibleEnd may_stop lets missing (end_of s)
 may_of {may_stop} {lets} shared missing listed s left = go s.end refl
@@ -73,7 +73,7 @@ may_of {may_stop} {lets} shared missing listed s left = go s.end refl
     go CalledOff is = tt
     go (Unstarted error) is = tt
 
--- the error that follows from the first that was stopped
+-- if a worker was stopped, the error names the first one that was
 stopped_of : (stopped : Option ℕ) (lacking : Option OutOfMemory) (error : CrewError) → cause_of stopped lacking ≡ Some error
     → IfSome stopped (λ worker. error ≡ crew_error.Stopped worker)
 stopped_of (Some worker) lacking error is = cc
@@ -110,7 +110,7 @@ ends_unbegun may_stop lets missing workers refused =
       memory = subst (λ (o : Option ℕ). IfNone o (crew_error.Memory refused ≡ crew_error.Memory out_of_memory)) (sym none) refl;
     }
 
--- the workers of a crew that ran have ended
+-- the workers of a crew that ran have ended as the error says
 pub crew_ends : {may_stop lets : ℕ → ℕ → Type 0} (shared : Shared) (workers : ℕ) (old new : Crew) (ran : HasRunAll may_stop lets shared old new)
     (begun : old.receiver ≡ deaf shared.belt) (as_many : shared.belt.workers ≡ workers)
     (listed : shared.missing.items ≡ was_missing old.haul) (up : IsStrictlyIncreasing shared.missing.items)

@@ -1,4 +1,4 @@
--- Facts of lists: parts of them, tests that their items pass, numbers that ascend, numbers at places, ranges.
+-- Facts about lists: subsequences, tests of items, ascending numbers, numbers at places, ranges.
 use Rattle.std.proofs.Common.{◌≡◌, ◌<◌, ◌≤◌, ◌+◌, ◌-◌, ◌++◌, ◌∙◌, ℕ, zero, suc, All, Bool, true, false, true≢false, List, [], ◌∷◌, ap, arith}
 use Rattle.std.proofs.Common.{cond, filter, get_or, inl, inr, length, map, nat_eq, refl, subst, sym, ⊎_elim}
 use Rattle.std.specs.Prelude.{AllPairs, Contains, count_by, slice_index}
@@ -48,13 +48,13 @@ module _ {X : Type 0} (P : X → Type 0) where
       (λ (q : (remainder : List X) × (part ≡ x ∷ remainder) × IsSubsequence remainder xs).
       subst (All P) (sym q.1) (All-cons P x q.0 (All-head P x xs h) (all_part q.0 xs q.2 (All-tail P x xs h)))) p
 
--- a fact of each value is one of each item
+-- a property of all images under f is a property of f x for each item x
 pub all_unmap : {X Y : Type 0} (P : Y → Type 0) (f : X → Y) (xs : List X) → All P (map f xs) → All (λ x. P (f x)) xs
 all_unmap P f [] h = All-nil (λ x. P (f x))
 all_unmap P f (x ∷ xs) h =
     All-cons (λ y. P (f y)) x xs (All-head P (f x) (map f xs) h) (all_unmap P f xs (All-tail P (f x) (map f xs) h))
 
--- one item more
+-- the count of a list with one more item
 pub count_cons : {X : Type 0} (p : X → Bool) (x : X) (xs : List X) → count_by p (x ∷ xs) ≡ cond {A = ℕ} (p x) 1 0 + count_by p xs
 count_cons p x xs = sum_by-cons (λ y. cond {A = ℕ} (p y) 1 0) x xs
 
@@ -77,7 +77,7 @@ count_all p (x ∷ xs) every =
     let all = count_cons p x xs in
     omega arith
 
--- if whatever passes the first test passes the second, and of what passes the second nothing passes the first, nothing does
+-- if q implies p, and no item that passes p passes q, then no item passes q
 pub none_pass : (p q : ℕ → Bool) (xs : List ℕ) → ((n : ℕ) → q n ≡ true → p n ≡ true) → All (λ n. q n ≡ false) (filter p xs)
     → filter q xs ≡ []
 none_pass p q [] says none = refl
@@ -142,7 +142,7 @@ rises_at missing (t ∷ ts) up rise below =
     (above missing up t ts (rises_head t ts rise) (All-tail (λ s. s < length missing) t ts below))
     (rises_at missing ts up (rises_tail t ts rise) (All-tail (λ s. s < length missing) t ts below))
 
--- what holds of the numbers at these places holds of the one at t, if t is among them
+-- what holds for the numbers at these places holds for the number at t, if t is one of the places
 pub at_place : (P : ℕ → Type 0) (missing places : List ℕ) (t : ℕ) → All P (map (slice_index missing) places)
     → 1 ≤ count_by (nat_eq t) places → P (slice_index missing t)
 at_place P missing [] t all some = absurd (let none : count_by (nat_eq t) [] ≡ 0 = refl in omega (arith, some, none))
@@ -156,7 +156,7 @@ at_place P missing (u ∷ us) t all some =
 
 -- ---- ranges
 
--- what holds of all numbers of a range holds of each
+-- what holds for all numbers of a range holds for each
 pub in_range : (P : ℕ → Type 0) (first n w : ℕ) → All P (range_with_len first n) → first ≤ w → w < first + n → P w
 in_range P first n w all le lt =
     let long = length-range_with_len first n in

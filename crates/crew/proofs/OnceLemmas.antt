@@ -43,7 +43,7 @@ times_received n [] = refl
 times_received n (m ∷ ms) =
     sum_by-cons (λ (k : ℕ × Note). on n k.1) m ms ∙ ap (λ k. on n m.1 + k) (times_received n ms) ∙ sym (times_append n (report_in m.1) (reports_in ms))
 
--- what holds of the number of each report holds of a number that one of them has
+-- what holds for the number of each report holds for each reported number
 pub of_reported : (P : ℕ → Type 0) (n : ℕ) (reports : List Reported) → All (λ r. P r.number) reports → 1 ≤ times_reported n reports → P n
 of_reported P n [] all some = absurd (let none : times_reported n [] ≡ 0 = refl in omega (arith, some, none))
 of_reported P n (r ∷ rs) all some =
@@ -60,14 +60,14 @@ one_at_most : (b : Bool) → cond {A = ℕ} b 1 0 ≤ 1
 one_at_most true = omega arith
 one_at_most false = omega arith
 
--- some of the numbers below another, none of them twice, are none of them twice
+-- in a list of some numbers below a bound, no number occurs twice
 pub once_if_some_below : (m : ℕ) (numbers : List ℕ) → AreSomeBelow m numbers → (n : ℕ) → count_by (nat_eq n) numbers ≤ 1
 once_if_some_below m numbers some n =
     let below = some n in
     let one = one_at_most (nat_lt n m) in
     omega (arith, below, one)
 
--- a number is at as many of these places as the place where it stands in a list that ascends
+-- in an ascending list, a number occurs at these places at most as often as its own place does
 module _ (missing : List ℕ) (up : Rises missing) (t : ℕ) (lt : t < length missing) where
   other_number : (p : ℕ) → p < length missing → t ≢ p → slice_index missing t ≢ slice_index missing p
   other_number p below apart same =
@@ -101,7 +101,7 @@ drawn_more t places drawn all =
     (λ (last : (n : ℕ) × (drawn ≡ places ++ n ∷ [])).
     let both = ap (count_by (nat_eq t)) last.1 ∙ count_append (nat_eq t) places (last.0 ∷ []) in omega (arith, both)) all
 
--- a worker's notes have at most as many reports on a soup as the worker drew its place
+-- a worker reports on a soup at most as often as it drew the soup's place
 module _ {may_stop lets : ℕ → ℕ → Type 0} (shared : Shared) (got : List (ℕ × Note)) (up : Rises shared.missing.items) (t : ℕ)
     (lt : t < length shared.missing.items) where
   pub of_worker_once : (s : WorkerResult) → HasWorked may_stop lets shared s.sender.number s.end s.pass s.sender → IsWhole got s.sender
@@ -124,7 +124,7 @@ module _ {may_stop lets : ℕ → ℕ → Type 0} (shared : Shared) (got : List 
 
 -- ---- all workers
 
--- what the workers of these results sent is at most what they drew
+-- the values of the notes that were received from these workers add up to at most the number of times they drew t
 pub of_workers : (of : Note → ℕ) (t : ℕ) (got : List (ℕ × Note)) (results : List WorkerResult) (first : ℕ)
     → map (λ s. s.sender.number) results ≡ range_with_len (first + 1) (length results)
     → All (λ s. sum_by of (notes_of s.sender.number got) ≤ count_by (nat_eq t) s.pass.numbers) results

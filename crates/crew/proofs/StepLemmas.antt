@@ -25,7 +25,7 @@ use Rattle.crew.proofs.ListLemmas.{all_left, all_right, count_append, count_cons
 use Rattle.crew.proofs.WorkerLemmas.{stopped_more}
 use Rattle.crew.proofs.TakeLemmas.{all_silent, all_workers, silent_length}
 
--- how a crew stands once only these posts are left, while so many of its workers more are away
+-- the crew with only these endpoints left, and `started` more of its workers away
 abbrev pub left_with : Crew → Endpoints → ℕ → Crew
 left_with crew endpoints started = record {
   endpoints = endpoints;
@@ -37,7 +37,7 @@ left_with crew endpoints started = record {
   lacking = crew.lacking;
 }
 
--- at first all posts are there, and nobody is back
+-- at first all endpoints are there, and no worker is back
 pub ready_first : (shared : Shared) (crew : Crew) (workers : ℕ)
     → All (λ p. p ≡ fresh shared.tickets) crew.endpoints.passes.items → length crew.endpoints.passes.items ≡ workers
     → crew.endpoints.senders.items ≡ map (silent shared.belt.name) (range_with_len 1 workers) → workers ≤ 16 → crew.away ≡ 0
@@ -61,7 +61,7 @@ ready_first shared crew workers passes many senders few away receiver room stopp
 pub heard_if : {E : Type 0} (lacking : Option E) → lacking ≡ None → not (is_some lacking) ≡ true
 heard_if lacking none = ap (λ o. not (is_some o)) none
 
--- what is told of a crew, and why
+-- what the cause says about a crew
 pub cause_stopped : (stopped : Option ℕ) (lacking : Option OutOfMemory) (worker : ℕ)
     → cause_of stopped lacking ≡ Some (crew_error.Stopped worker) → stopped ≡ Some worker
 cause_stopped (Some first) lacking worker is = cc
@@ -78,16 +78,16 @@ cause_open (Some first) lacking is = absurd (cc)
 cause_open None (Some error) is = absurd (cc)
 cause_open None None is = absurd (cc)
 
--- a test counts at most one
+-- a test counts as at most 1
 pub one_at_most : (b : Bool) (n : ℕ) → n ≡ bool_byte b → n ≤ 1
 one_at_most true n is = omega (arith, is)
 one_at_most false n is = omega (arith, is)
 
--- a number is at least what was added
+-- a sum is at least its second summand
 pub not_more : (a b n : ℕ) → n ≡ a + b → b ≤ n
 not_more a b n is = omega arith
 
--- one worker more, for whom a thread was started or not
+-- one more worker, for which a thread was started or not
 started_more : (results : List WorkerResult) (worker_result : WorkerResult) (b : Bool) (n : ℕ) → was_started worker_result.end ≡ b → n ≡ bool_byte b
     → how_many_started (results ++ worker_result ∷ []) ≡ how_many_started results + n
 started_more results worker_result b n is byte =
@@ -103,7 +103,7 @@ started_more results worker_result b n is byte =
     byte_is false e = e
 
 module _ {shared : Shared} where
-  -- the pass of the post that was taken out is fresh
+  -- the pass that was taken out is fresh
   pub pass_out : (next : Endpoints) (crew : Crew) (endpoint : Drawn × Presented Note) → MayRun shared crew
       → IsTakenOut endpoint crew.endpoints next
       → endpoint.0 ≡ fresh shared.tickets
@@ -111,7 +111,7 @@ module _ {shared : Shared} where
       let P : Drawn → Type 0 = λ p. p ≡ fresh shared.tickets in
       All-head P endpoint.0 [] (all_right P next.passes.items (endpoint.0 ∷ []) (subst (All P) is.passes may.passes))
 
-  -- and its sender has sent nothing
+  -- the sender that was taken out has sent nothing
   pub sender_out : (next : Endpoints) (crew : Crew) (endpoint : Drawn × Presented Note) → MayRun shared crew
       → IsTakenOut endpoint crew.endpoints next
       → endpoint.1 ≡ silent shared.belt.name endpoint.1.number
@@ -119,7 +119,7 @@ module _ {shared : Shared} where
       let P : Presented Note → Type 0 = λ s. s ≡ silent shared.belt.name s.number in
       All-head P endpoint.1 [] (all_right P next.senders.items (endpoint.1 ∷ []) (subst (All P) is.senders may.senders))
 
-  -- and it is a worker's
+  -- the sender that was taken out has a worker's number
   pub worker_out : (next : Endpoints) (crew : Crew) (endpoint : Drawn × Presented Note) → MayRun shared crew
       → IsTakenOut endpoint crew.endpoints next
       → IsWorker endpoint.1.number
@@ -127,7 +127,7 @@ module _ {shared : Shared} where
       let P : Presented Note → Type 0 = λ s. IsWorker s.number in
       All-head P endpoint.1 [] (all_right P next.senders.items (endpoint.1 ∷ []) (subst (All P) is.senders may.workers))
 
-  -- with the posts that are left the crew may be run
+  -- the crew may be run with the endpoints that are left
   pub others_may_run : (next : Endpoints) (crew : Crew) (endpoint : Drawn × Presented Note) (started : ℕ) → started ≤ 1
       → MayRun shared crew
       → IsTakenOut endpoint crew.endpoints next → MayRun shared (left_with crew next started)
@@ -160,13 +160,13 @@ module _ {shared : Shared} where
       }
 
 module _ {may_stop lets : ℕ → ℕ → Type 0} {shared : Shared} where
-  -- so many are back as there were posts
+  -- as many workers are back as there were senders
   as_many : (old new : Crew) (ran : HasRunAll may_stop lets shared old new) → length ran.results ≡ length old.endpoints.senders.items
   as_many old new ran =
       sym (length-map ran.results (λ (s : WorkerResult). s.sender.number)) ∙ ap length ran.numbers
       ∙ length-map old.endpoints.senders.items (λ (s : Presented Note). s.number)
 
-  -- the others are back, and there is room for one pass more
+  -- once the others are back, there is room for one more pass
   pub pass_room : (next : Endpoints) (crew mid : Crew) (endpoint : Drawn × Presented Note) (started : ℕ) → MayRun shared crew
       → IsTakenOut endpoint crew.endpoints next → HasRunAll may_stop lets shared (left_with crew next started) mid
       → length mid.back.passes.items < vec_capacity mid.back.passes
@@ -179,7 +179,7 @@ module _ {may_stop lets : ℕ → ℕ → Type 0} {shared : Shared} where
       let room = may.back.for_passes in
       omega (arith, senders, back, all, same, room)
 
-  -- and for one sender more
+  -- once the others are back, there is room for one more sender
   pub sender_room : (next : Endpoints) (crew mid : Crew) (endpoint : Drawn × Presented Note) (started : ℕ) → MayRun shared crew
       → IsTakenOut endpoint crew.endpoints next → HasRunAll may_stop lets shared (left_with crew next started) mid
       → length mid.back.senders.items < vec_capacity mid.back.senders
@@ -193,7 +193,7 @@ module _ {may_stop lets : ℕ → ℕ → Type 0} {shared : Shared} where
       let room = may.back.for_senders in
       omega (arith, senders, back, all, same, room)
 
-  -- no post is left, and the notes of all that were started are collected
+  -- no endpoints are left, and the notes of all workers that were started are collected
   pub run_none : (crew new : Crew) (answered : Bool) → MayRun shared crew → crew.endpoints.senders.items ≡ []
       → Collected (collector_of crew.away crew) (collector_of 0 new) answered → (new.lacking ≡ None → answered ≡ true)
       → new.back ≡ crew.back → new.stopped ≡ crew.stopped → new.away ≡ crew.away → HasRunAll may_stop lets shared crew new
@@ -215,7 +215,7 @@ module _ {may_stop lets : ℕ → ℕ → Type 0} {shared : Shared} where
             subst (λ (n : ℕ). Collected (collector_of n crew) (collector_of 0 new) answered) same collected;
       }
 
-  -- the others are back, and then the worker that was started first of these
+  -- the others are back, and then the worker that was started first
   pub run_more : (next : Endpoints) (crew mid new : Crew) (endpoint : Drawn × Presented Note) (worker_result : WorkerResult) (b : Bool) (started : ℕ)
       → IsTakenOut endpoint crew.endpoints next → HasRunAll may_stop lets shared (left_with crew next started) mid
       → Leaves may_stop lets shared endpoint.1.number worker_result → was_started worker_result.end ≡ b → started ≡ bool_byte b

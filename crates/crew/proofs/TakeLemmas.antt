@@ -76,7 +76,7 @@ received_of {lets} shared places got sender up h whole =
           (subst Rises (sym numbers) (rises_at missing places up h.ascending h.below));
     }
 
--- what holds of the number of each shift holds of each worker's
+-- what holds for the number in each result holds for each worker's number
 pub each_worker : (P : ℕ → Type 0) (workers : ℕ) (results : List WorkerResult) → map (λ s. s.sender.number) results ≡ range_with_len 1 workers
     → All (λ s. P s.sender.number) results → (worker : ℕ) → 1 ≤ worker → worker ≤ workers → P worker
 each_worker P workers results numbers all worker le ge =
@@ -96,7 +96,7 @@ received_each {lets = lets} shared got results workers up numbers left whole =
 reported_first : (p : ℕ) (note : Note) (more : List (ℕ × Note)) → reported (notes_of p ((p, note) ∷ more)) ≡ report_in note ++ reported (notes_of p more)
 reported_first p note more = ap reported (notes_first p p note more refl)
 
--- each report stands beside its worker's number
+-- what holds for the reports of each worker holds for each report beside its sender's number
 pub all_own : (Q : ℕ → Reported → Type 0) (got : List (ℕ × Note)) (workers : ℕ) → All (λ m. (1 ≤ m.0) × (m.0 ≤ workers)) got
     → ((w : ℕ) → 1 ≤ w → w ≤ workers → All (Q w) (reported (notes_of w got))) → All (λ m. All (Q m.0) (report_in m.1)) got
 all_own Q [] workers few each = All-nil (λ m. All (Q m.0) (report_in m.1))
@@ -119,7 +119,7 @@ all_reports Q P (m ∷ ms) turn all =
     All-append P (report_in m.1) (reports_in ms) (turn m (All-head (λ (n : ℕ × Note). All (Q n.0) (report_in n.1)) m ms all))
     (all_reports Q P ms turn (All-tail (λ (n : ℕ × Note). All (Q n.0) (report_in n.1)) m ms all))
 
--- what is taken of a worker, were all its reports taken, is what was received of it
+-- if all reports were taken, the numbers taken from a worker are those received from it
 by_yes : (w : ℕ) (t : ℕ × ℕ) (ts : List (ℕ × ℕ)) → w ≡ t.0 → taken_by w (t ∷ ts) ≡ t.1 ∷ taken_by w ts
 by_yes w t ts e =
     ap (λ (b : Bool). map (λ (s : ℕ × ℕ). s.1) (cond b (t ∷ filter (λ (s : ℕ × ℕ). nat_eq w s.0) ts) (filter (λ (s : ℕ × ℕ). nat_eq w s.0) ts)))
@@ -170,7 +170,7 @@ taken_all lets job missing w ((p, Report r) ∷ ms) own =
 
 -- ---- the whole crew
 
--- some of the reports that were received of the workers
+-- some of the reports that were received from the workers
 pub record OfCrew (lets : ℕ → ℕ → Type 0) (workers : ℕ) (job : Job) (missing : List ℕ) (part : List Reported) : Type 0 where
   pub of_job : All (λ r. r.job ≡ job) part
   pub by_workers : All (λ r. (1 ≤ r.worker) × (r.worker ≤ workers)) part
@@ -233,7 +233,7 @@ taken_none lets workers held = record {
   in_order = λ w le ge i j d lt small. absurd (omega arith);
 }
 
--- an observer with this relation was handed nothing before and after
+-- an observer that was handed nothing before the crew ran and nothing after it
 pub heard_between : {lets : ℕ → ℕ → Type 0} {workers : ℕ} {old new : Held} {O : Type 0} (hears : O → List Reported → O → Type 0)
     → ((s m t : O) (xs ys : List Reported) → hears s xs m → hears m ys t → hears s (xs ++ ys) t) → (begun first last ended : O)
     → hears begun [] first → HasHeardCrew lets workers old new (λ reports. hears first reports last) → hears last [] ended
@@ -412,7 +412,7 @@ module _ {may_stop lets : ℕ → ℕ → Type 0} (shared : Shared) (workers : �
       (subst (All P) (sym all_numbers) (range_within 1 workers workers (omega arith))) in
       subst (λ (o : Option ℕ). IfSome o P) (sym ran.stopped ∙ is) (of_first_stopped P ran.results (λ k d lt stopped. all k d lt))
 
-  -- and its gate may stop it at what was missing
+  -- the gate may stop the worker that was stopped at a missing number
   pub crew_stops : (worker : ℕ) → new.stopped ≡ Some worker → StopsAt may_stop (was_missing old.haul) worker
   crew_stops worker is =
       let P : ℕ → Type 0 = StopsAt may_stop (was_missing old.haul) in

@@ -1,4 +1,4 @@
--- A worker's notes, one after another, and what its shift leaves.
+-- A worker's notes, one after another, and the worker's result.
 use Rattle.std.proofs.Common.{◌≡◌, ◌<◌, ◌++◌, ◌∙◌, ℕ, All, Bool, true, false, List, [], ◌∷◌, ap, append-nil, arith, cond, inl, inr}
 use Rattle.std.proofs.Common.{length, map, refl, subst, subst₂, sym}
 use Rattle.std.specs.Prelude.{IfSome, Option, None, Some, option_map, slice_index}
@@ -23,7 +23,7 @@ use Rattle.crew.specs.declared.worker.End.TheVariants.{CalledOff, Drained, Memor
 use Rattle.crew.specs.declared.worker.WorkerResult.{WorkerResult}
 use Rattle.crew.specs.declared.shared.Shared.{Shared}
 
--- what a worker leaves, of its parts
+-- a worker's result, from its parts
 abbrev pub result_of : Drawn → Presented Note → End → WorkerResult
 result_of pass sender ended = record { pass = pass; sender = sender; end = ended }
 
@@ -60,7 +60,7 @@ module _ {lets : ℕ → ℕ → Type 0} (shared : Shared) where
             (All-push (IsOwnReport lets shared.job sender.number) (reported sender.notes) r h.own own);
       }
 
-  -- the same of a pass and a sender that drew and presented
+  -- the same for the pass after it drew and the sender after it presented the report
   pub reported_next : (places now : List ℕ) (sender next : Presented Note) (n : ℕ) (r : Reported)
       → HasReported lets shared places sender
       → All (λ m. m < n) places → n < length shared.missing.items → IsOwnReport lets shared.job sender.number r
@@ -71,7 +71,7 @@ module _ {lets : ℕ → ℕ → Type 0} (shared : Shared) where
       (subst (λ (l : List ℕ). HasReported lets shared l (with_note (Report r) sender)) (sym drawn)
       (reported_more places sender n r h less below own number))
 
-  -- a worker that says that it is done
+  -- a note "done" adds no report
   reported_done : (places : List ℕ) (sender : Presented Note) (worker : ℕ) → HasReported lets shared places sender
       → HasReported lets shared places (with_note (Done worker) sender)
   reported_done places sender worker h =
@@ -85,7 +85,7 @@ module _ {lets : ℕ → ℕ → Type 0} (shared : Shared) where
         own = subst (All (IsOwnReport lets shared.job sender.number)) (sym whole) h.own;
       }
 
--- a report of what the gate let the worker survey
+-- a report of a soup that the gate let the worker survey
 pub own_report : (lets : ℕ → ℕ → Type 0) {job : Job} {worker number sender : ℕ} (r : Reported) → sender ≡ worker → r.worker ≡ worker
     → r.job ≡ job → r.number ≡ number → lets worker number → IsOwnReport lets job sender r
 own_report lets r same mine of is let_in = (mine ∙ sym same, of, subst₂ lets (sym same) (sym is) let_in)
@@ -98,7 +98,7 @@ not_done_more notes now r none is = subst AreNotDone (sym is) (All-push (λ note
 
 module _ {may_stop lets : ℕ → ℕ → Type 0} (shared : Shared) (worker : ℕ) (old new : Drawn) (sender : Presented Note)
     (series : old.series ≡ shared.tickets) (number : sender.number ≡ worker) (h : HasReported lets shared old.numbers sender) where
-  -- none is left
+  -- no number is left
   pub worked_drained : new ≡ with_none old → HasWorked may_stop lets shared worker Drained new sender
   worked_drained is = record {
     number = number;
@@ -112,7 +112,7 @@ module _ {may_stop lets : ℕ → ℕ → Type 0} (shared : Shared) (worker : �
     lacks = λ error lacking. absurd (let bad : false ≡ true = ap lacks_memory lacking in cc);
   }
 
-  -- it has drawn a number that it doesn't report: its gate stopped it, or there was no memory
+  -- the worker has drawn a number that it doesn't report: its gate stopped it, or memory ran out
   pub worked_stopped : (n : ℕ) → new ≡ with_drawn n old → StopsAt may_stop shared.missing.items worker
       → HasWorked may_stop lets shared worker Stopped new sender
   worked_stopped n is stops = record {
@@ -173,7 +173,7 @@ module _ {may_stop lets : ℕ → ℕ → Type 0} (shared : Shared) where
     started = refl;
   }
 
-  -- and one that has worked, and then said that it is done
+  -- a worker that has worked, and has then said that it is done
   pub returned : (worker : ℕ) (ended : End) (pass : Drawn) (sender now : Presented Note)
       → HasWorked may_stop lets shared worker ended pass sender
       → has_begun ended ≡ true → AreNotDone sender.notes → now ≡ with_note (Done worker) sender
@@ -222,7 +222,7 @@ module _ {may_stop lets : ℕ → ℕ → Type 0} (shared : Shared) where
 
 -- ---- the first that was stopped
 
--- one more that is back
+-- one more worker is back
 pub stopped_more : (results : List WorkerResult) (worker_result : WorkerResult)
     → first_stopped (results ++ worker_result ∷ []) ≡ stopped_with (first_stopped results) worker_result.sender.number worker_result.end
 stopped_more [] worker_result = go (was_stopped worker_result.end)
@@ -248,7 +248,7 @@ stopped_is (Memory error) h = absurd (cc)
 stopped_is CalledOff h = absurd (cc)
 stopped_is (Unstarted error) h = absurd (cc)
 
--- what holds of all that were stopped holds of the first
+-- what holds for all workers that were stopped holds for the first
 pub of_first_stopped : (P : ℕ → Type 0) (results : List WorkerResult) → All (λ s. s.end ≡ Stopped → P s.sender.number) results
     → IfSome (first_stopped results) P
 of_first_stopped P [] h = tt
@@ -260,7 +260,7 @@ of_first_stopped P (s ∷ ss) h =
     go true is more = All-head (λ t. t.end ≡ Stopped → P t.sender.number) s ss h (stopped_is s.end is)
     go false is more = more
 
--- if none is the first, none was stopped
+-- if there is no first worker that was stopped, none was stopped
 pub none_stopped : (results : List WorkerResult) → first_stopped results ≡ None → All (λ s. was_stopped s.end ≡ false) results
 none_stopped [] none = All-nil (λ s. was_stopped s.end ≡ false)
 none_stopped (s ∷ ss) none = go (was_stopped s.end) refl none

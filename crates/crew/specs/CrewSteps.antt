@@ -38,7 +38,7 @@ pub record HasAddedEndpoint (pass : Drawn) (sender : Presented Note) (old new : 
   pub for_passes : vec_capacity new.passes ≡ vec_capacity old.passes
   pub for_senders : vec_capacity new.senders ≡ vec_capacity old.senders
 
--- the first worker that was stopped, among those that came back before and this one
+-- the first stopped worker among those that came back before and this one
 abbrev pub stopped_with : Option ℕ → ℕ → End → Option ℕ
 stopped_with (Some first) worker ended = Some first
 stopped_with None worker ended = if was_stopped ended then Some worker else None

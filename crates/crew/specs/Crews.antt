@@ -11,7 +11,7 @@ use Rattle.handover.specs.Belts.{Received}
 use Rattle.crew.specs.declared.note.Note.{Note}
 use Rattle.crew.specs.declared.note.Note.TheVariants.{Done, Report}
 
--- the report in a note, if the note is one
+-- the report in a note, if there is one
 abbrev pub report_in : Note → List Reported
 report_in (Report report) = report ∷ []
 report_in (Done worker) = []

@@ -33,7 +33,7 @@ is_none p q e = ap (λ (b : Bool). cond {A = ℕ} b 1 0) (ne_eqb p q e)
 off : false ≡ true → ⊥
 off e = true≢false (sym e)
 
--- what holds anyway, of an option
+-- a proposition that holds anyway holds if the option is `None`
 pub if_none : {T : Type 0} (o : Option T) (P : Type 0) → P → IfNone o P
 if_none None P p = p
 if_none (Some x) P p = tt
@@ -238,7 +238,7 @@ module _ {N : Type 0} where
             });
       }
 
-  -- the passes made so far, and one more
+  -- one more sender is appended to those made so far
   pub senders_more : (name : TableId) (n : ℕ)
       → map (silent {N = N} name) (range_with_len 1 n) ++ silent {N = N} name (n + 1) ∷ [] ≡ map (silent {N = N} name) (range_with_len 1 (n + 1))
   senders_more name n =
@@ -296,7 +296,7 @@ module _ {N : Type 0} where
   drop_prefix [] more = refl
   drop_prefix (x ∷ xs) more = drop_prefix xs more
 
-  -- the passes that are handed back, with what the rule tells of them
+  -- what was received from a sender is a prefix of the notes on its pass, for each pass that was handed back
   pub told : (passes : List (Presented N)) (v : Share N) (items : List (ℕ × N)) → v.senders ≡ []
       → HoldsTheRest (with_senders passes v) items
       → All (λ (p : Presented N). IsPrefix (notes_of p.number v.got) p.notes) passes
@@ -324,7 +324,7 @@ module _ {N : Type 0} where
       let prefix = notes_of p.number got in
       ap (λ (l : List N). prefix ++ l) (ap (λ (l : List N). drop (length prefix) l) f.1 ∙ drop_prefix prefix f.0) ∙ sym f.1
 
-  -- what is seen of the rest, and what it keeps
+  -- the notes left over are the same by the rule and in contracts
   pub seen_remainder : (passes : List (Presented N)) (v : Share N) → v.senders ≡ []
       → map (left_over v.got) (with_senders passes v).senders ≡ map (left_of v.got) passes
   seen_remainder passes v none =
@@ -386,7 +386,7 @@ module _ {N : Type 0} where
       (ap (λ (l : List N). drop (length prefix) l) (is ∙ sym (append-nil prefix)) ∙ drop_prefix prefix [])
       (left_none got es (All-tail (λ (e : ℕ × List N). e.1 ≡ notes_of e.0 got) e es whole))
 
-  -- an empty queue
+  -- if the queue is empty, nothing is left
   pub none_left : (v : Share N) → Held 0 (HoldsTheRest v)
       → NothingLeft (record { workers = v.made; lists = map (left_over v.got) v.senders })
   none_left v (items, none, tells) =

@@ -13,13 +13,13 @@ module _ {X : Type 0} (f : X → ℕ) where
   sum_set (x ∷ xs) zero v w at = let e : f x ≡ f v = ap f (some-injective x v at) in omega (arith, sum_by-cons f w xs, sum_by-cons f x xs)
   sum_set (x ∷ xs) (suc i) v w at = let h = sum_set xs i v w at in omega (arith, sum_by-cons f x (set xs i w), sum_by-cons f x xs)
 
-  -- one view is at most the sum
+  -- the value of one view is at most the sum
   pub sum_at : (l : List X) (i : ℕ) (v : X) → get_elem? l i ≡ some v → f v ≤ sum_by f l
   sum_at [] i v at = absurd (some-ne-none v (sym at))
   sum_at (x ∷ xs) zero v at = let e : f x ≡ f v = ap f (some-injective x v at) in omega (arith, sum_by-cons f x xs)
   sum_at (x ∷ xs) (suc i) v at = let h = sum_at xs i v at in omega (arith, sum_by-cons f x xs)
 
-  -- two views are at most the sum
+  -- the values of two views add up to at most the sum
   pub sum_two : (l : List X) (i j : ℕ) (v w : X) → i ≢ j → get_elem? l i ≡ some v → get_elem? l j ≡ some w → f v + f w ≤ sum_by f l
   sum_two [] i j v w apart at there = absurd (some-ne-none v (sym at))
   sum_two (x ∷ xs) zero zero v w apart at there = absurd (apart refl)
@@ -29,7 +29,7 @@ module _ {X : Type 0} (f : X → ℕ) where
       let e : f x ≡ f w = ap f (some-injective x w there) in let h = sum_at xs i v at in omega (arith, sum_by-cons f x xs)
   sum_two (x ∷ xs) (suc i) (suc j) v w apart at there = let h = sum_two xs i j v w (λ e. apart (ap suc e)) at there in omega (arith, sum_by-cons f x xs)
 
-  -- a sum that is at most another, view by view
+  -- a sum is at most another if it is at most the other view by view
   pub sum_below : (g : X → ℕ) (l : List X) → ((j : ℕ) (u : X) → get_elem? l j ≡ some u → f u ≤ g u) → sum_by f l ≤ sum_by g l
   sum_below g [] le = omega arith
   sum_below g (x ∷ xs) le =
@@ -44,7 +44,7 @@ module _ {X : Type 0} (f : X → ℕ) where
       let b = sum_none g xs others (λ j u e. zeros (suc j) u e) in
       omega (arith, sum_by-cons f x xs)
 
-  -- a view that has all of g has all of f, if f is 0 where g is 0
+  -- if one view has the whole sum of g, and f is 0 wherever g is 0, that view has the whole sum of f
   pub sum_alone : (g : X → ℕ) (l : List X) (i : ℕ) (v : X) → get_elem? l i ≡ some v → sum_by g l ≡ g v
       → ((j : ℕ) (u : X) → get_elem? l j ≡ some u → g u ≡ 0 → f u ≡ 0) → sum_by f l ≡ f v
   sum_alone g [] i v at all zeros = absurd (some-ne-none v (sym at))
@@ -68,13 +68,13 @@ module _ {X : Type 0} (f : X → ℕ) where
       remainder g (x ∷ xs) (suc i) v at = let h = remainder g xs i v at in omega (arith, sum_by-cons g x xs)
 
 module _ {X : Type 0} (P : X → Type 0) where
-  -- a fact of all views, after one changed
+  -- a property of all views, after one of them changed
   pub each_set : (l : List X) (i : ℕ) (w : X) → ((j : ℕ) (u : X) → j ≢ i → get_elem? l j ≡ some u → P u) → P w
       → (j : ℕ) (u : X) → get_elem? (set l i w) j ≡ some u → P u
   each_set l i w others mine j u e =
       ⊎_elim (λ (x : (j ≡ i) × (w ≡ u)). subst P x.1 mine) (λ (x : (j ≢ i) × (get_elem? l j ≡ some u)). others j u x.0 x.1) (at_set l i j w u e)
 
-  -- and after one came
+  -- a property of all views, after one was appended
   pub each_push : (l : List X) (w : X) → ((j : ℕ) (u : X) → get_elem? l j ≡ some u → P u) → P w → (j : ℕ) (u : X) → get_elem? (l ++ w ∷ []) j ≡ some u → P u
   each_push l w others mine j u e =
       ⊎_elim (λ (x : get_elem? l j ≡ some u). others j u x) (λ (x : w ≡ u). subst P x mine) (at_snoc l w u j e)

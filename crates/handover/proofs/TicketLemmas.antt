@@ -46,7 +46,7 @@ is_one n m h = ap (λ (b : Bool). cond {A = ℕ} b 1 0) (eq-eqb n m h)
 is_none : (n m : ℕ) → n ≢ m → one_if n m ≡ 0
 is_none n m h = ap (λ (b : Bool). cond {A = ℕ} b 1 0) (ne_eqb n m h)
 
--- a bound that is one more
+-- `once_below` for a bound that is one higher
 once_next : (m n : ℕ) → once_below (m + 1) n ≡ once_below m n + one_if n m
 once_next m n = elim (dec_le (suc n) m) [
   | yes h ↦ let a = once_yes (m + 1) n (omega arith) in let b = once_yes m n h in let c = is_none n m (λ e. omega arith) in omega arith
@@ -58,7 +58,7 @@ once_next m n = elim (dec_le (suc n) m) [
 times_push : (n : ℕ) (xs : List ℕ) (x : ℕ) → times n (xs ++ x ∷ []) ≡ times n xs + one_if n x
 times_push n xs x = sum_by_push (λ y. one_if n y) xs x
 
--- numbers that stand below a bound at most once are below it
+-- if no number occurs more often than `once_below` allows, all are below the bound
 pub all_below : (m : ℕ) (xs : List ℕ) → ((n : ℕ) → times n xs ≤ once_below m n) → All (λ n. n < m) xs
 all_below m [] few = All-nil (λ n. n < m)
 all_below m (x ∷ xs) few =
@@ -73,7 +73,7 @@ none_distinct : IsDistinct nat_eq []
 unfolding IsDistinct
 none_distinct = tt
 
--- a list that has each number at most once has no two equal numbers
+-- a list in which each number occurs at most once has no two equal numbers
 distinct_of : (xs : List ℕ) → ((n : ℕ) → times n xs ≤ 1) → IsDistinct nat_eq xs
 distinct_of [] once = none_distinct
 distinct_of (x ∷ xs) once =
@@ -90,7 +90,7 @@ distinct_of (x ∷ xs) once =
           apart x ys (omega (arith, zeros, sum)),
         )
 
--- numbers that stand below a bound at most once are no more than the bound
+-- if no number occurs more often than `once_below` allows, there are at most as many as the bound
 few_below : (m : ℕ) (xs : List ℕ) → ((n : ℕ) → times n xs ≤ once_below m n) → length xs ≤ m
 few_below m xs few =
     length-le_from_distinct_below xs m (distinct_of xs (λ n. let all = few n in let one = once_most n in omega (arith, all, one)))
@@ -306,7 +306,7 @@ joins issue id v other w s h at apart there =
     was other id b w views apart there = ⊎_elim (λ (x : (other ≡ id) × (b ≡ w)). absurd (apart x.0)) (λ (x : (other ≢ id) ×
         (get_elem? views other ≡ some w)). x.1) (at_set views id other b w there)
 
--- what the last state tells the kept pass
+-- what the kept pass knows in the last state
 pub closes : (issue : Issue) (id : ℕ) (v : Holding) (s : State (Unit {0}) Holding) (counter : ℕ) → IsLawful issue s → get_elem? s.views id ≡ some v
     → get_elem? s.words 0 ≡ some counter
     → KnowsAtEnd issue v (min counter issue.count)
@@ -349,7 +349,7 @@ pub ended : (issue : Issue) (id : ℕ) (v : Holding) (words : List ℕ) (slots :
     → get_elem? words 0 ≡ some counter → KnowsAtEnd issue v (min counter issue.count)
 ended issue id v words slots counter f is = closes issue id v f.0 counter f.1.0 f.1.1 (ap (λ (l : List ℕ). get_elem? l 0) f.2 ∙ is)
 
--- what the last state tells of all passes that were handed back
+-- what is known at the end about all passes that were handed back
 pub gathers : (issue : Issue) (name : TableId) (left : List Drawn) (first : Drawn) (before after : Holding) (m : ℕ) → before.shares ≡ 1
     → before.marks ≡ cond {A = ℕ} first.heard_none 1 0 → before.numbers ≡ first.numbers → Joining left [] before after → KnowsAtEnd issue after m
     → Gathers (series_of name issue) (left ++ first ∷ []) m

@@ -57,7 +57,7 @@ module _ {N : Type 0} where
   abbrev pub receives : Share N → ℕ
   receives v = cond v.receives 1 0
 
-  -- Each sender of the pass has presented what was received from it, followed by what the queue holds of it. If the
+  -- Each sender of the pass has presented what was received from it, followed by what the queue holds for it. If the
   -- pass receives, it knows all that was received, and the senders that it hasn't made have presented nothing and are
   -- in no pass.
   pub record KnowsItsNotes (all got : List (ℕ × N)) (owned : ℕ → ℕ) (v : Share N) : Type 0 where

@@ -38,7 +38,7 @@ how_many_heard passes = count_by (λ p. p.heard_none) passes
 abbrev pub once_below : ℕ → ℕ → ℕ
 once_below m n = if nat_lt n m then 1 else 0
 
--- some of the numbers below m, none of them twice
+-- some of the numbers below m, each at most once
 abbrev pub AreSomeBelow : ℕ → List ℕ → Type 0
 AreSomeBelow m numbers = (n : ℕ) → count_by (nat_eq n) numbers ≤ once_below m n
 

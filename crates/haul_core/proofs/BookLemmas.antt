@@ -55,7 +55,7 @@ eligible_unlawful terms arrivals r before lawful =
 
 -- ---- the first of each number
 
--- the first worker among the first reports of each number is the first worker among all
+-- the first report of a number is the same among the first reports of each number as among all reports
 other : ℕ → Reported → Bool
 other n s = not (has_number n s)
 
@@ -88,7 +88,7 @@ find_first n (r ∷ rs) = go (cases_Bool (has_number n r)) (find_first n rs)
         ap (λ (o : Option Reported). cond (has_number n r) (Some r) o)
         (find_other n r.number (first_of_each rs) (λ e. false≢true (sym apart ∙ eq-eqb n r.number e)) ∙ remainder)
 
--- one report more, of a number that none before has
+-- one more report of a number that wasn't reported yet
 pub first_new : (rs : List Reported) (r : Reported) → find (has_number r.number) rs ≡ None → first_of_each (rs ++ r ∷ []) ≡ first_of_each rs ++ r ∷ []
 first_new [] r h = refl
 first_new (s ∷ rs) r h = go (λ remainder. first_new rs r remainder) (cases_Bool (has_number r.number s))
@@ -134,7 +134,7 @@ first_old (x ∷ rs) r s h = go (λ y found. first_old rs r y found) (cases_Bool
 
 -- ---- replies
 
--- the reasons in their order, as tests
+-- the reason for which these tests refuse an offer: the first that fits
 abbrev pub refuses : Bool → Bool → Bool → Bool → Option ℕ → Option OfferError
 refuses closed job over inside worker =
     if closed then Some Closed
@@ -188,7 +188,7 @@ lawful_is : (terms : Terms) (r : Reported)
     → is_lawful terms r ≡ (same_job terms.job r.job && (not (nat_lt terms.workers r.worker) && is_in terms.ranges r.number))
 lawful_is terms r = ap (λ (b : Bool). same_job terms.job r.job && (b && is_in terms.ranges r.number)) (le_not_lt r.worker terms.workers)
 
--- a refused offer leaves what is taken
+-- a refused offer doesn't change what is taken
 pub refused_leaves : (terms : Terms) (arrivals : List Arrival) (r : Reported) (reason : OfferError) → refusal_of terms arrivals r ≡ Some reason
     → taken_of terms (arrivals ++ Offer r ∷ []) ≡ taken_of terms arrivals
 refused_leaves terms arrivals r reason e = go (why (has_closing arrivals) (same_job terms.job r.job) (nat_lt terms.workers r.worker)
@@ -287,7 +287,7 @@ replies_push terms before (x ∷ xs) a =
     (replies_push terms (before ++ x ∷ []) xs a
     ∙ ap (λ (b : List Arrival). replies_to terms (before ++ x ∷ []) xs ++ reply_to terms b a ∷ []) (append_assoc before (x ∷ []) xs))
 
--- no reason of the book is memory
+-- the book never refuses an offer because memory ran out
 no_memory : (closed job over inside : Bool) (worker : Option ℕ) → refuses closed job over inside worker ≢ Some (Memory out_of_memory)
 no_memory true job over inside worker e = absurd (cc)
 no_memory false false over inside worker e = absurd (cc)
@@ -296,14 +296,14 @@ no_memory false true false false worker e = absurd (cc)
 no_memory false true false true None e = absurd (cc)
 no_memory false true false true (Some w) e = absurd (cc)
 
--- where memory runs out, the book takes the offer
+-- if memory runs out for an offer, the book takes the offer
 pub is_taken : (terms : Terms) (before : List Arrival) (r : Reported) (given : Option OfferError) → IsReply given (refusal_of terms before r)
     → given ≡ Some (Memory out_of_memory) → refusal_of terms before r ≡ None
 is_taken terms before r given (inl same) e = absurd (no_memory (has_closing before) (same_job terms.job r.job) (nat_lt terms.workers r.worker)
     (is_in terms.ranges r.number) (first_worker r.number (eligible terms before)) (sym same ∙ e))
 is_taken terms before r given (inr none) e = none.1
 
--- where it doesn't, the reply is the book's
+-- if memory doesn't run out, the reply is the book's
 pub answered : (given wanted : Option OfferError) → IsReply given wanted → given ≢ Some (Memory out_of_memory) → given ≡ wanted
 answered given wanted (inl same) not_memory = same
 answered given wanted (inr none) not_memory = absurd (not_memory none.0)
@@ -312,7 +312,7 @@ pub on_err_from : {T E P : Type 0} (r : Result T E) → P → OnErr r P
 on_err_from (Ok x) p = tt
 on_err_from (Err e) p = p
 
--- an item that there is room for is pushed
+-- if there is room for an item, it is pushed
 pub pushed : {X T E : Type 0} (r : Result T E) (more same : List X) → IsOk r → (if is_ok r then more else same) ≡ more
 pushed r more same ok = ap (λ (b : Bool). if b then more else same) ok
 
@@ -336,7 +336,7 @@ stopped_at r before arrivals prefix next more held new cut same taken s = on_err
     is_next terms before (Offer r) more taken = taken
     is_next terms before Closing more taken = taken
 
--- what the iterator of a vector has given is a prefix of its items
+-- the items that a vector's iterator has yielded are a prefix of its items
 pub taken_prefix : {X A : Type 0} (s : IntoIter X A) (xs : List X) (t : IntoIter X A) → Yields into_iter_steps s xs t
     → into_iter_items s ≡ xs ++ into_iter_items t
 taken_prefix s [] t y = ap into_iter_items y

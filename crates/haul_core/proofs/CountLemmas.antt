@@ -1,4 +1,4 @@
--- Profiles and counts as fields: where a text is cut, and why nothing else has the field.
+-- Profiles and counts as fields: where a text is cut, and why a field spells only one value.
 use Rattle.std.proofs.Common.{◌≡◌, ◌∙◌, ◌++◌, ◌∷◌, ℕ, List, Some, Ok, sym, refl, decimal, arith}
 use Rattle.std.proofs.lemmas.Bool.{le-leb}
 use Rattle.std.proofs.lemmas.Fmt.{decimal_injective}
@@ -8,13 +8,13 @@ use Rattle.haul_core.specs.ReportLines.{count_field}
 use Rattle.haul_core.specs.LawfulClaims.{IsCount}
 use Rattle.haul_core.proofs.SpaceLemmas.{code_lacks_star, cut_once, decimal_lacks}
 
--- a field that is cut at `*` (42) and is that of a count has its code and its number
+-- if the field of a count is cut at `*` (42), the parts are the count's code and its number in decimal
 pub same_count : (field prefix text : List ℕ) (object : List ℕ × ℕ) → Cuts 42 field prefix (Some text) → IsCount object → field ≡ count_field object
     → (prefix ≡ object.0) × (text ≡ decimal object.1)
 same_count field prefix text object cut lawful e =
     cut_once 42 prefix object.0 text (decimal object.1) cut.1 (code_lacks_star object.0 lawful.code.bytes) (sym cut.0 ∙ e)
 
--- the number before a `,` (44) is one, and so is what follows
+-- the number that ends at the first `,` (44) of a text is unique, and so is the text after the `,`
 pub same_first : (text remainder more : List ℕ) (n m : ℕ) → IsSmall n → IsSmall m → text ≡ decimal n ++ 44 ∷ remainder → text ≡ decimal m ++ 44 ∷ more
     → (n ≡ m) × (remainder ≡ more)
 same_first text remainder more n m p q e f =

@@ -1,4 +1,4 @@
--- The counts of a line, one more at a time, and the fault where no count may stand.
+-- The counts of a line, one at a time, and the fault at a field that no count may have.
 use Rattle.std.proofs.Common.{◌≡◌, ◌≢◌, ◌∙◌, ◌-◌, ◌++◌, ◌∷◌, ℕ, Bool, List, Option, [], Some, None, ap, sym, refl, length, arith, append-nil}
 use Rattle.std.proofs.Common.{append_assoc, codes, decimal, map, subst}
 use Rattle.std.proofs.lemmas.Fmt.{decimal_injective}
@@ -83,7 +83,7 @@ one_count a b h k e =
     let n = decimal_injective a.1 b.1 h.fits k.fits c.1 in
     λ i. (c.0 i, n i)
 
--- the counts of a claim that has these fields and then one more
+-- `all` begins with `counts` and one more count, whose field is this one
 record IsNext (counts all : Counts) (field : List ℕ) : Type 0 where
   object : List ℕ × ℕ
   more : Counts

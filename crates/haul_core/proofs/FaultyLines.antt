@@ -1,4 +1,4 @@
--- Where a line stops being that of a claim: a field that may not stand there, or none.
+-- Where a line stops being a claim's: at a field that no claim has there, or at a missing field.
 use Rattle.std.proofs.Common.{◌≡◌, ◌≢◌, ◌∙◌, ◌+◌, ◌-◌, ◌<◌, ◌≤◌, ◌++◌, ◌==◌, ◌⊎◌, ◌∷◌, ℕ, List, Option, [], Some, None, ap, sym, refl, length, arith, append-nil}
 use Rattle.std.proofs.Common.{append_assoc, codes, drop, flat_map, get_or, inl, inr, length-append, subst, take, true, false, Bool}
 use Rattle.std.proofs.lemmas.List.{length-take-le, take-append-drop}
@@ -33,7 +33,7 @@ followed_last (b ∷ before) field remainder =
     followed-cons b before (field ++ 32 ∷ remainder) ∙ ap (λ (t : List ℕ). b ++ 32 ∷ t) (followed_last before field remainder)
     ∙ sym (followed-cons b (before ++ field ∷ []) remainder)
 
--- past the next field
+-- the line follows its fields past the next field
 pub follows_more : (line : List ℕ) (before : List (List ℕ)) (here field : List ℕ) (more : Option (List ℕ)) → FollowsFields line before (Some here)
     → Cuts 32 here field more
     → FollowsFields line (before ++ field ∷ []) more
@@ -56,7 +56,7 @@ ends : (more : Option (List ℕ)) → (remainder_of more ≡ []) ⊎ has_byte 32
 ends None = inl refl
 ends (Some more) = inr refl
 
--- a field that no lawful claim has there
+-- a field that no lawful claim has there is the first fault
 pub bad_at : (line : List ℕ) (before : List (List ℕ)) (here field : List ℕ) (more : Option (List ℕ)) → FollowsFields line before (Some here) → Cuts 32 here field more
     → BeginClaim before → ((claim : Claimed) → IsClaim claim → (remainder : List (List ℕ)) → fields_of claim ≡ before ++ field ∷ remainder → ⊥)
     → IsFirstFaultOf line (length line - length here)
@@ -73,7 +73,7 @@ bad_at line before here field more f c b none =
       is = omega (arith, ap length f, length-append (followed before) here);
     })
 
--- a field is missing
+-- a missing field is the first fault
 pub lacks_at : (line : List ℕ) (before : List (List ℕ)) (there : List ℕ) → FollowsFields line before None → there ≡ [] → BeginClaim before
     → ((claim : Claimed) → IsClaim claim → fields_of claim ≢ before) → IsFirstFaultOf line (length line - length there)
 lacks_at line [] there f e b none = absurd f
@@ -89,7 +89,7 @@ lacks_at line (first ∷ more) there f e b none = inr (record {
   is = omega (arith, ap length e);
 })
 
--- each text is cut somewhere
+-- a text, cut at its first space (32), if it has one
 record IsCut (text : List ℕ) : Type 0 where
   prefix : List ℕ
   remainder : Option (List ℕ)
@@ -107,7 +107,7 @@ cut_anywhere (b ∷ text) = go (b == 32) refl (cut_anywhere text)
         more prefix None k = record { prefix = b ∷ prefix; remainder = None; cut = (ap (λ (t : List ℕ). b ∷ t) k.0, or_from _ _ e k.1) }
         more prefix (Some remainder) k = record { prefix = b ∷ prefix; remainder = Some remainder; cut = (ap (λ (t : List ℕ). b ∷ t) k.0, or_from _ _ e k.1) }
 
--- nothing may follow
+-- if no field may follow, the next field is the first fault
 pub over_at : (line : List ℕ) (before : List (List ℕ)) (here : List ℕ) → FollowsFields line before (Some here) → BeginClaim before
     → ((claim : Claimed) → IsClaim claim → (field : List ℕ) (remainder : List (List ℕ)) → fields_of claim ≡ before ++ field ∷ remainder → ⊥)
     → IsFirstFaultOf line (length line - length here)
@@ -117,7 +117,7 @@ over_at line before here f b none =
 
 -- ---- the head
 
--- so many fields of a lawful claim begin one
+-- the first `place` fields of a lawful claim's head begin a claim
 pub begin_head : (place : ℕ) (claim : Claimed) → IsClaim claim → BeginClaim (take place (head_of claim))
 begin_head place claim lawful = record {
   claim = claim;
@@ -131,7 +131,7 @@ head_length : (claim : Claimed) → length (head_of claim) ≡ 7
 unfolding head_fields
 head_length claim = refl
 
--- a field of the head that no lawful claim has at this place
+-- a field of the head that no lawful claim has at this place is the first fault
 pub head_bad : (line : List ℕ) (place : ℕ) (head : LineStart) (here field : List ℕ) (more : Option (List ℕ)) → place < 7 → HasHead line place head (Some here)
     → Cuts 32 here field more → ((claim : Claimed) → IsClaim claim → get_or (head_of claim) place [] ≢ field) → IsFirstFaultOf line (length line - length here)
 head_bad line place head here field more within h c none =
@@ -148,7 +148,7 @@ unfolding found_fields
 some_found None h = absurd (omega arith)
 some_found (Some told) h = absurd (omega arith)
 
--- the line ends within the head
+-- if the line ends within the head, the missing field is the first fault
 pub head_lacks : (line : List ℕ) (place : ℕ) (head : LineStart) (there : List ℕ) → place ≤ 7 → HasHead line place head None → there ≡ []
     → IsFirstFaultOf line (length line - length there)
 head_lacks line place head there within h e =
@@ -163,7 +163,7 @@ head_lacks line place head there within h e =
       length-take-le place (head_of own) (omega (arith, head_length own)),
     )))
 
--- a field of the head more
+-- one more field of the head was read
 pub head_more : (line : List ℕ) (place : ℕ) (head next : LineStart) (here field : List ℕ) (more : Option (List ℕ)) → HasHead line place head (Some here)
     → Cuts 32 here field more → HasFilled place head next field → HasHead line (place + 1) next more
 head_more line place head next here field more h c f = record {

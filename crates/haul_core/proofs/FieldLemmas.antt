@@ -18,19 +18,19 @@ use Rattle.ranges.proofs.CutLemmas.{cut}
 use Rattle.ranges.proofs.DecimalLemmas.{IsDecimal-decimal}
 use Rattle.ranges.proofs.FaultLemmas.{first_digit, small_decimal, zero_first}
 
--- a decimal that ends the text is the text
+-- a text that ends after its first decimal is that decimal
 pub whole_decimal : (text : List ℕ) (n : ℕ) (remainder : List ℕ) → BeginsDecimal text n remainder → (length remainder == 0) ≡ true → text ≡ decimal n
 whole_decimal text n [] b h = b.spelled ∙ append-nil (decimal n)
 whole_decimal text n (a ∷ remainder) b h = let e : length (a ∷ remainder) ≡ 0 = eqb-true _ _ h in absurd (omega arith)
 
--- a text that doesn't begin with a decimal below 2^64 is none
+-- a text that doesn't begin with a decimal below 2^64 isn't such a decimal
 pub no_decimal : (text : List ℕ) (m : ℕ) → BeginsNoDecimal text → m < 2 ^ 64 → text ≢ decimal m
 no_decimal text m none fits e =
     let some : has_digit text ≡ true =
     ap has_digit (e ∙ sym (append-nil (decimal m))) ∙ first_digit (decimal m) [] (IsDecimal-decimal m fits) in
     small_decimal m [] text fits refl (none some) (append-nil (decimal m) ∙ sym e)
 
--- a text that goes on after its first decimal is none
+-- a text that goes on after its first decimal isn't a decimal below 2^64
 pub longer_decimal : (text : List ℕ) (n m : ℕ) (remainder : List ℕ) → BeginsDecimal text n remainder → (length remainder == 0) ≡ false → m < 2 ^ 64 → text ≢ decimal m
 longer_decimal text n m remainder b h fits e =
     let c = cut (decimal n) (decimal m) remainder [] (IsDecimal-decimal n b.fits) (IsDecimal-decimal m fits) (λ d. zero_first n (b.ends d)) (λ d. absurd (cc))
@@ -38,11 +38,11 @@ longer_decimal text n m remainder b h fits e =
     let none : (length remainder == 0) ≡ true = ap (λ (r : List ℕ). length r == 0) c.1 in
     absurd (cc)
 
--- what stands after the name is told apart
+-- fields that have the same name and different texts after it differ
 pub after_name : (field name remainder more : List ℕ) → field ≡ name ++ remainder → remainder ≢ more → field ≢ name ++ more
 after_name field name remainder more e other f = other (append_cancel_left name remainder more (sym e ∙ f))
 
--- what a field tells after a name
+-- if the text after a name spells a value, the field spells the name and the value
 pub tells_after : {A : Type 0} (MayBe : A → Type 0) (text : A → List ℕ) (name field remainder : List ℕ) (found : Option A) → field ≡ name ++ remainder
     → SpellsField MayBe text remainder found → SpellsField MayBe (λ a. name ++ text a) field found
 tells_after MayBe text name field remainder None e none = λ a lawful. after_name field name remainder (text a) e (none a lawful)
@@ -52,7 +52,7 @@ tells_after MayBe text name field remainder (Some a) e told = (told.0, e ∙ ap 
 pub one_number : (name field : List ℕ) (n m : ℕ) → n < 2 ^ 64 → m < 2 ^ 64 → field ≡ name ++ decimal n → field ≡ name ++ decimal m → n ≡ m
 one_number name field n m a b e f = decimal_injective n m a b (append_cancel_left name (decimal n) (decimal m) (sym e ∙ f))
 
--- how far a text goes without the byte
+-- the length of a text's longest prefix without the byte
 abbrev prefix_of : ℕ → List ℕ → ℕ
 prefix_of byte text = prefix_len (λ b. not (b == byte)) text
 
@@ -150,7 +150,7 @@ all_passed (b ∷ bytes) h =
     go true e h = omega arith
     go false e h = absurd (cc)
 
--- a seed is read as itself
+-- a valid seed is read unchanged
 pub seed_accepted : (bytes : List ℕ) → IsSeed bytes → seed_read bytes ≡ Ok bytes
 seed_accepted bytes h = long (nat_lt 64 (length bytes)) refl (found (nat_lt (prefix_len (λ b. not (is_invisible b)) bytes) (length bytes)) refl)
   where
@@ -172,13 +172,13 @@ pub version_bounds : (v : ℕ) → IsVersion v → 1 ≤ v × v ≤ 2
 version_bounds v (inl e) = (omega arith, omega arith)
 version_bounds v (inr e) = (omega arith, omega arith)
 
--- a field that is neither mark
+-- a field that is neither `good=yes` nor `good=no` is the field of no mark
 pub two_marks : (field : List ℕ) (for_good : Bool) → field ≢ codes "good=yes" → field ≢ codes "good=no" → field ≢ mark_field for_good
 unfolding mark_field
 two_marks field true y n e = y e
 two_marks field false y n e = n e
 
--- a field that says neither
+-- a field that is neither `unsettled` nor `at=` with a checkpoint is the field of no state
 pub no_state : (field : List ℕ) (state : Option ℕ) → field ≢ codes "unsettled" → ((n : ℕ) → IsSmall n → field ≢ codes "at=" ++ decimal n) → IsState state
     → field ≢ state_field state
 no_state field None u n h e = u e

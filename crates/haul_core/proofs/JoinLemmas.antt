@@ -1,4 +1,4 @@
--- Two hauls as one.
+-- Two hauls, joined into one.
 use Rattle.std.proofs.Common.{◌≡◌, ◌∙◌, ◌+◌, ◌^◌, ◌<◌, ◌≤◌, ◌||◌, ◌++◌, ℕ, zero, suc, Bool, true, false, cond, List, [], ◌∷◌}
 use Rattle.std.proofs.Common.{None, Some, true≢false}
 use Rattle.std.proofs.Common.{ap, sym, refl, subst, arith, rules, map, filter, take, get_or, length, length-append, max, nat_eq, zero-add}
@@ -33,7 +33,7 @@ apart_at n [] i d low h = absurd (omega arith)
 apart_at n (t ∷ ts) zero d low h = h.0
 apart_at n (t ∷ ts) (suc i) d low h = apart_at n ts i d (omega arith) h.1
 
--- a number is not among those before it
+-- each taken number is distinct from those taken before it
 pub fresh : (taken : List (ℕ × ℕ)) (i : ℕ) (d : ℕ × ℕ) → IsDistinct nat_eq (numbers_in taken) → i < length taken
     → lookup (nat_eq (get_or taken i d).1) (map (λ (t : ℕ × ℕ). (t.1, t.0)) (take i taken)) ≡ None
 unfolding IsDistinct
@@ -60,7 +60,7 @@ size_from place bound (r ∷ rs) low h k below =
     let sum : size_of (r ∷ rs) ≡ r.count + size_of rs = sum_by-cons (λ r. r.count) r rs in
     omega arith
 
--- ranges in normal form have no more numbers than there are below their bound
+-- ranges in normal form below a bound have at most as many numbers as the bound
 pub size_below : (bound : ℕ) (rs : List Range) → AreNormal rs → AreBelow bound rs → size_of rs ≤ bound
 size_below bound [] h below = omega arith
 size_below bound (r ∷ rs) h below =
@@ -106,7 +106,7 @@ other_numbers a b (t ∷ ts) others apart h k = (
   other_numbers a b ts others apart (All-tail (λ t. is_in a t.1 ≡ true) t ts h) k,
 )
 
--- the numbers of both differ
+-- if the sets share no number, the numbers taken by both hauls are distinct
 pub distinct_both : (a b : List Range) (taken others : List (ℕ × ℕ)) → ¬ ShareNumber a b → All (λ t. is_in a t.1 ≡ true) taken
     → All (λ t. is_in b t.1 ≡ true) others → IsDistinct nat_eq (numbers_in taken) → IsDistinct nat_eq (numbers_in others)
     → IsDistinct nat_eq (numbers_in (taken ++ others))
@@ -135,7 +135,7 @@ score_both sa sb code = λ i. record { total = sum i; samples = least i }
         ∙ sym (ap (λ (t : List ℕ). with_each t (samples sb code)) (least_of_both [] (map (λ (s : Survey). s.number) (filter (has_object code) sa)))
         ∙ least_of_both (map (λ (s : Survey). s.number) (filter (has_object code) sa)) (map (λ (s : Survey). s.number) (filter (has_object code) sb)))
 
--- what is asked of two hauls before their totals are added
+-- the totals of two hauls have sums that don't overflow
 pub record HaveRoom (sa sb : Sums) : Type 0 where
   pub scores : (code : List ℕ) → (score_in sa.scores code).total + (score_in sb.scores code).total < 2 ^ 128
   pub unsettled_room : sa.unsettled + sb.unsettled < 2 ^ 64

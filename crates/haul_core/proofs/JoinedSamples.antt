@@ -1,4 +1,4 @@
--- The least three of two lists are those of the least three of each.
+-- The three lowest numbers of two lists are the three lowest among the three lowest of each.
 use Rattle.std.proofs.Common.{◌≡◌, ◌∙◌, ◌≤◌, ◌<◌, ◌++◌, ℕ, zero, suc, List, [], ◌∷◌, take, ap, sym, refl, arith, subst, inl, inr, ◌⊎◌}
 use Rattle.std.proofs.lemmas.Bool.{cases_lt}
 use Rattle.std.proofs.lemmas.List.{append_assoc, append-nil}
@@ -6,7 +6,7 @@ use Rattle.haul_core.specs.SampleSteps.{ascending, least_three, with_each, with_
 use Rattle.haul_core.specs.Samples.{IsAscending}
 use Rattle.haul_core.proofs.SampleLemmas.{ascending_push, take_with, with_first, with_greater, with_least}
 
--- with a number more the numbers still ascend
+-- inserting a number keeps a list ascending
 with-ascending : (n : ℕ) (xs : List ℕ) → IsAscending xs → IsAscending (with_number n xs)
 with-ascending n [] h = tt
 with-ascending n (x ∷ []) h = go (cases_lt x n)
@@ -38,13 +38,13 @@ take-ascending (suc k) (x ∷ []) h = go k
 take-ascending (suc zero) (x ∷ y ∷ xs) h = tt
 take-ascending (suc (suc k)) (x ∷ y ∷ xs) h = (h.0, take-ascending (suc k) (y ∷ xs) h.1)
 
--- numbers that ascend stay as they are
+-- sorting ascending numbers doesn't change them
 ascending-same : (xs : List ℕ) → IsAscending xs → ascending xs ≡ xs
 ascending-same [] h = refl
 ascending-same (x ∷ []) h = refl
 ascending-same (x ∷ y ∷ xs) h = ap (with_number x) (ascending-same (y ∷ xs) h.1) ∙ with_first x (y ∷ xs) h
 
--- numbers before others: only the least three of the others matter
+-- the three lowest of two lists depend on the three lowest of the second list only
 least_after : (xs ys zs : List ℕ) → least_three ys ≡ least_three zs → least_three (xs ++ ys) ≡ least_three (xs ++ zs)
 least_after [] ys zs h = h
 least_after (x ∷ xs) ys zs h =
@@ -69,7 +69,7 @@ each_is xs (n ∷ ns) =
 pub least_of_both : (xs ys : List ℕ) → with_each (least_three xs) (least_three ys) ≡ least_three (xs ++ ys)
 least_of_both xs ys = each_is xs (least_three ys) ∙ least_after xs (least_three ys) ys (least_of_least ys)
 
--- the least three of the least three of each are those of both
+-- the three lowest among the three lowest of each list are the three lowest of both lists
 pub least_of_leasts : (xs ys : List ℕ) → least_three (least_three xs ++ least_three ys) ≡ least_three (xs ++ ys)
 least_of_leasts xs ys =
     sym (each_is (least_three xs) (least_three ys)) ∙ ap (λ (t : List ℕ). with_each t (least_three ys)) (least_of_least xs)

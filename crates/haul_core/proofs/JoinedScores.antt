@@ -1,4 +1,4 @@
--- Rows of two totals added up.
+-- Adding the scores of two hauls.
 use Rattle.std.proofs.Common.{◌≡◌, ◌≢◌, ◌∙◌, ◌+◌, ◌<◌, ℕ, Bool, true, false, cond, List, [], ◌∷◌, Option, None, Some, ap, sym, subst}
 use Rattle.std.proofs.Common.{inl, inr, ◌⊎◌}
 use Rattle.std.proofs.Common.{take, drop, get_or, length, nat_eq, unwrap_or, add-zero}
@@ -16,7 +16,7 @@ use Rattle.haul_core.specs.Scores.{no_score, found_score, score_in, together}
 use Rattle.haul_core.proofs.CensusLemmas.{got, row_before}
 use Rattle.haul_core.proofs.ScoreLemmas.{code_itself, code_same, lookup_append, or_none, pair_written}
 
--- a score is written over that of a code
+-- a code's score is replaced by its sum with another score
 pub score_set : (scores : List (List ℕ × Score)) (i : ℕ) (before score other : Score) (code : List ℕ)
     → position (pointwise nat_eq code) (keys_of scores) ≡ Some i → found_score scores code ≡ Some before → score ≡ together before other
     → (q : List ℕ) → found_score (set_value_at scores i score) q ≡ cond (pointwise nat_eq code q) (Some (together (score_in scores code) other)) (found_score scores q)
@@ -29,7 +29,7 @@ score_set scores i before score other code at is e q =
 together_none : (t : Score) → together t no_score ≡ t
 together_none t = λ i. record { total = add-zero t.total i; samples = t.samples }
 
--- the scores up to a place are added
+-- the first `i` of the other scores were added
 abbrev pub Added : List (List ℕ × Score) → List (List ℕ × Score) → List (List ℕ × Score) → ℕ → Type 0
 Added old new others i = (code : List ℕ) → score_in new code ≡ together (score_in old code) (score_in (take i others) code)
 
@@ -62,7 +62,7 @@ module _ (old new others : List (List ℕ × Score)) (i : ℕ) (code : List ℕ)
   here : score_in (take (i + 1) others) code ≡ score
   here = ap (λ (o : Option Score). unwrap_or o no_score) found_here
 
-  -- the scores have that score of the code
+  -- the other scores have this score for the code
   pub row_at : score_in others code ≡ score
   row_at = ap (λ (o : Option Score). unwrap_or o no_score) (ap (λ (scores : List (List ℕ × Score)). found_score scores code) (sym (take-append-drop (i + 1) others))
       ∙ lookup_append (pointwise nat_eq code) (take (i + 1) others) (drop (i + 1) others)

@@ -108,7 +108,7 @@ pub same_length : (held : Held) (count : ℕ) (workers : List (ℕ × ℕ)) (sum
 same_length held count workers sums k =
     sym (length-map k.surveys (λ s. s.number)) ∙ ap length k.surveyed.each ∙ length-map held.taken (λ t. t.1)
 
--- scores with nothing in them change nothing
+-- adding blank scores keeps the invariant
 pub keeps_extended : (held : Held) (count : ℕ) (workers : List (ℕ × ℕ)) (old new : Sums) → Extends old.scores new.scores → new.unsettled ≡ old.unsettled
     → new.for_good ≡ old.for_good → KeepsBook held count workers old → KeepsBook held count workers new
 keeps_extended held count workers old new x u g k = record {
@@ -130,7 +130,7 @@ keeps_extended held count workers old new x u g k = record {
   };
 }
 
--- a number that nobody reported is not among the numbers
+-- a number without a worker isn't among the taken numbers
 unreported : (n : ℕ) (taken : List (ℕ × ℕ)) → worker_in n taken ≡ None → list_any (nat_eq n) (numbers_in taken) ≡ false
 unreported n [] h = refl
 unreported n (t ∷ ts) h = go (cases_Bool (nat_eq n t.1)) (unreported n ts)
@@ -141,7 +141,7 @@ unreported n (t ∷ ts) h = go (cases_Bool (nat_eq n t.1)) (unreported n ts)
     go (inr apart) remainder =
         ap (λ (b : Bool). b || list_any (nat_eq n) (numbers_in ts)) apart ∙ remainder (sym (ap (λ (b : Bool). cond b (Some t.0) (worker_in n ts)) apart) ∙ h)
 
--- one report more
+-- the invariant holds after one more report
 pub keeps_more : (terms : Terms) (closed : Bool) (taken : List (ℕ × ℕ)) (count : ℕ) (workers : List (ℕ × ℕ)) (old new : Sums) (r : Reported) → IsReport r
     → HasLawfulObjects r.finding → refusal_at (record { terms = terms; closed = closed; taken = taken }) r ≡ None
     → ((code : List ℕ) → score_in new.scores code ≡ added (found_in code r.finding) r.number (score_in old.scores code))
@@ -179,7 +179,7 @@ keeps_more terms closed taken count workers old new r is lawful e scores u g k =
       };
     }
 
--- what a haul needs for one report more
+-- the totals have room for one more report
 pub record HasRoom (sums : Sums) : Type 0 where
   pub scores : (code : List ℕ) → (score_in sums.scores code).total + 2 ^ 64 ≤ 2 ^ 128
   pub unsettled_room : sums.unsettled + 1 < 2 ^ 64
@@ -195,7 +195,7 @@ has_room held count workers sums short k =
       for_good_room = omega (arith, k.sum.for_good_sum, count_by-le-length (λ s. is_for_good s.finding) k.surveys);
     }
 
--- after room was made
+-- the invariant holds after room was made
 pub keeps_mid : (terms : Terms) (closed : Bool) (taken more_taken : List (ℕ × ℕ)) (count : ℕ) (workers more_workers : List (ℕ × ℕ)) (old new : Sums)
     → more_taken ≡ taken → more_workers ≡ workers → Extends old.scores new.scores → new.unsettled ≡ old.unsettled → new.for_good ≡ old.for_good
     → KeepsBook (record { terms = terms; closed = closed; taken = taken }) count workers old
@@ -205,7 +205,7 @@ keeps_mid terms closed taken more_taken count workers more_workers old new t w x
     (subst (λ (ts : List (ℕ × ℕ)). KeepsBook (record { terms = terms; closed = closed; taken = ts }) count more_workers old) (sym t)
     (subst (λ (ws : List (ℕ × ℕ)). KeepsBook (record { terms = terms; closed = closed; taken = taken }) count ws old) (sym w) k))
 
--- and after the report was noted
+-- the invariant holds after the report was noted
 pub keeps_noted : (terms : Terms) (closed : Bool) (taken new_taken : List (ℕ × ℕ)) (count : ℕ) (workers new_workers : List (ℕ × ℕ)) (sums : Sums) (t w : ℕ × ℕ) (r : Reported)
     → new_taken ≡ taken ++ t ∷ [] → new_workers ≡ workers ++ w ∷ [] → t ≡ entry r → w ≡ (r.number, r.worker)
     → KeepsBook (record { terms = terms; closed = closed; taken = taken ++ entry r ∷ [] }) count (workers ++ (r.number, r.worker) ∷ []) sums
@@ -222,7 +222,7 @@ pub lawful_of : (rule : Numbers) (profile : Settling) (cells : List Cell) (findi
 lawful_of rule profile cells (Settled t objects good) h = h.2.counted.lawful
 lawful_of rule profile cells Unsettled h = tt
 
--- a haul that was just opened
+-- the invariant holds for a haul that was just opened
 pub keeps_none : (job : Job) (ranges : List Range) (workers count : ℕ) (taken numbers : List (ℕ × ℕ)) (sums : Sums) → AreNormal ranges
     → AreBelow number_bound ranges
     → count ≡ size_of ranges → count ≤ 2 ^ 24 → IsWorker workers → taken ≡ [] → numbers ≡ [] → sums.scores ≡ [] → sums.unsettled ≡ 0 → sums.for_good ≡ 0
@@ -256,7 +256,7 @@ keeps_none job ranges workers count taken numbers sums normal below size small w
     distinct_none : IsDistinct nat_eq []
     distinct_none = IsDistinct-from_apart nat_eq [] (λ i j d low short. absurd (omega arith))
 
--- the number of a report that is taken has no worker yet
+-- if a report isn't refused, its number has no worker yet
 pub none_noted : (held : Held) (workers : List (ℕ × ℕ)) (r : Reported) → workers ≡ map (λ t. (t.1, t.0)) held.taken → refusal_at held r ≡ None
     → lookup (nat_eq r.number) workers ≡ None
 none_noted held workers r by_number taken =

@@ -1,4 +1,4 @@
--- The least three of some numbers, by order and by membership.
+-- The three lowest of some numbers, by order and by membership.
 use Rattle.std.proofs.Common.{◌≡◌, ◌∙◌, ◌+◌, ◌≤◌, ◌++◌, ◌⊎◌, ℕ, zero, suc, cond, nat_eq, List, [], ◌∷◌, All, append-nil, drop, length, take}
 use Rattle.std.proofs.Common.{ap, arith, inl, inr, refl, sym}
 use Rattle.std.specs.List.{AllByRecursion}
@@ -11,7 +11,7 @@ use Rattle.haul_core.proofs.JoinedSamples.{ascending-ascending, take-ascending}
 use Rattle.haul_core.proofs.MissingLemmas.{counted}
 use Rattle.haul_core.proofs.NumberLemmas.{IsUp, all_lower, all_with, one_up, sum_ascending, up_ascending}
 
--- 1 for this number
+-- 1 for this number, and 0 for any other
 abbrev unit : ℕ → ℕ → ℕ
 unit n z = cond {A = ℕ} (nat_eq n z) 1 0
 
@@ -20,7 +20,7 @@ all_drop zero x xs all = all
 all_drop (suc k) x [] all = tt
 all_drop (suc k) x (y ∷ ys) all = all_drop k x ys all.1
 
--- the first numbers are no greater than the others
+-- the first k of ascending numbers are no greater than the others
 firsts_lower : (k : ℕ) (xs : List ℕ) → IsUp xs → AllByRecursion (λ m. All (λ n. m ≤ n) (drop k xs)) (take k xs)
 firsts_lower zero xs up = tt
 firsts_lower (suc k) [] up = tt
@@ -62,7 +62,7 @@ all_ascending : (x : ℕ) (xs : List ℕ) → AllByRecursion (λ y. x ≤ y) xs 
 all_ascending x [] all = tt
 all_ascending x (y ∷ ys) all = all_with x y (ascending ys) all.0 (all_ascending x ys all.1)
 
--- numbers that ascend, and then others in order, none of which is less
+-- ascending numbers, followed by sorted numbers that aren't lower, ascend
 up_both : (xs ys : List ℕ) → IsUp xs → AllByRecursion (λ m. All (λ n. m ≤ n) ys) xs → IsUp (xs ++ ascending ys)
 up_both [] ys up lower = up_ascending ys
 up_both (x ∷ xs) ys up lower =

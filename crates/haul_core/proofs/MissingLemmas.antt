@@ -23,7 +23,7 @@ use Rattle.haul_core.specs.Missing.{AreAll, IsComplete, is_taken, missing_of, nu
 use Rattle.haul_core.specs.MissingSteps.{has_no_worker}
 use Rattle.ranges.specs.Ranges.{AreBelow, AreNormal, BeginAfter, end_of, is_in, is_in_range, size_of}
 
--- how often a number stands in a list
+-- how often a number occurs in a list
 abbrev pub counted : ℕ → List ℕ → ℕ
 counted n xs = count_by (nat_eq n) xs
 
@@ -33,7 +33,7 @@ count_yes p x xs h = sum_by-cons (λ y. cond {A = ℕ} (p y) 1 0) x xs ∙ ap (�
 pub count_no : {X : Type 0} (p : X → Bool) (x : X) (xs : List X) → p x ≡ false → count_by p (x ∷ xs) ≡ count_by p xs
 count_no p x xs h = sum_by-cons (λ y. cond {A = ℕ} (p y) 1 0) x xs ∙ ap (λ (b : Bool). cond {A = ℕ} b 1 0 + count_by p xs) h ∙ zero-add (count_by p xs)
 
--- a filter keeps a number as often as it stands there, or drops it
+-- a filter keeps all occurrences of a number, or none
 pub counted_filter : (q : ℕ → Bool) (n : ℕ) (xs : List ℕ) → counted n (filter q xs) ≡ cond {A = ℕ} (q n) (counted n xs) 0
 counted_filter q n [] = go (q n)
   where
@@ -74,14 +74,14 @@ counted_range n a (suc k) = elim (cases_Bool (nat_eq n a)) [
       count_no (nat_eq n) a (range_with_len (a + 1) k) other ∙ counted_range n (a + 1) k ∙ ap (λ (b : Bool). cond {A = ℕ} b 1 0) alike
 ]
 
--- a number before the ranges is in none
+-- a number before all ranges is in none of them
 pub none_before : (n place : ℕ) (ranges : List Range) → n ≤ place → BeginAfter place ranges → AreNormal ranges → is_in ranges n ≡ false
 none_before n place [] low begin normal = refl
 none_before n place (r ∷ more) low begin normal =
     let out : is_in_range n r ≡ false = grind (arith, nat_tests) in
     ap (λ (b : Bool). b || is_in more n) out ∙ none_before n (end_of r) more (omega (arith, begin)) normal.1 normal.2
 
--- each number of the set stands once in its list, and no other
+-- the list of a set's numbers has each of them once, and no other number
 pub counted_numbers : (n : ℕ) (ranges : List Range) → AreNormal ranges → counted n (numbers_of ranges) ≡ cond {A = ℕ} (is_in ranges n) 1 0
 counted_numbers n [] normal = refl
 counted_numbers n (r ∷ more) normal =
@@ -128,7 +128,7 @@ filter_all : (xs : List ℕ) → filter (λ n. true) xs ≡ xs
 filter_all [] = refl
 filter_all (x ∷ xs) = ap (λ (ys : List ℕ). x ∷ ys) (filter_all xs)
 
--- a number among those that differ from t isn't t
+-- a member of a list whose numbers all differ from t isn't t
 apart_in : (n t : ℕ) (ts : List ℕ) → AllByRecursion (λ y. nat_eq t y ≡ false) ts → list_any (nat_eq n) ts ≡ true → nat_eq n t ≡ false
 apart_in n t [] apart h = absurd (false≢true h)
 apart_in n t (x ∷ ts) apart h = elim (cases_Bool (nat_eq n x)) [
@@ -140,7 +140,7 @@ or_right : (b d : Bool) → d ≡ true → (b || d) ≡ true
 or_right true d h = refl
 or_right false d h = h
 
--- of numbers that stand once in a list, so many fewer are left
+-- filtering out k distinct numbers, each of which occurs once in a list, leaves k numbers fewer
 left_over : (ts xs : List ℕ) → IsDistinct nat_eq ts → ((n : ℕ) → list_any (nat_eq n) ts ≡ true → counted n xs ≡ 1)
     → length (filter (λ n. not (list_any (nat_eq n) ts)) xs) + length ts ≡ length xs
 left_over [] xs distinct each = let all : length (filter (λ n. true) xs) ≡ length xs = ap length (filter_all xs) in omega (arith, all)
@@ -210,7 +210,7 @@ none_missing ranges taken normal complete =
     go false true h = absurd (false≢true (h refl))
     go false false h = refl
 
--- numbers that differ stand once each
+-- a list of distinct numbers has each of its members once
 once : (n : ℕ) (ns : List ℕ) → IsDistinct nat_eq ns → counted n ns ≡ cond {A = ℕ} (list_any (nat_eq n) ns) 1 0
 once n [] distinct = refl
 once n (t ∷ ts) distinct = go (nat_eq n t) refl (list_any (nat_eq n) ts) refl (once n ts (IsDistinct-tail nat_eq t ts distinct))
@@ -284,14 +284,14 @@ keys_turned : (taken : List (ℕ × ℕ)) → keys_of (map (λ t. (t.1, t.0)) ta
 keys_turned [] = refl
 keys_turned (t ∷ ts) = ap (λ (ns : List ℕ). t.1 ∷ ns) (keys_turned ts)
 
--- who has no worker has not been taken
+-- the numbers of a set that have no worker are the missing ones
 pub same_missing : (ranges : List Range) (taken workers : List (ℕ × ℕ)) → workers ≡ map (λ t. (t.1, t.0)) taken
     → filter (has_no_worker workers) (numbers_of ranges) ≡ missing_of ranges taken
 same_missing ranges taken workers turned =
     filter_agree (has_no_worker workers) (λ n. not (is_taken taken n))
     (λ n. ap not (is_some-lookup (nat_eq n) workers ∙ ap (list_any (nat_eq n)) (ap keys_of turned ∙ keys_turned taken))) (numbers_of ranges)
 
--- what a range adds from a number on
+-- the numbers without a worker from `place` on, up to the end of a range
 abbrev pub adds : List (ℕ × ℕ) → ℕ → ℕ → List ℕ
 adds workers place end = filter (has_no_worker workers) (range_with_len place (end - place))
 

@@ -61,7 +61,7 @@ pub up_ascending : (xs : List ℕ) → IsUp (ascending xs)
 up_ascending [] = tt
 up_ascending (x ∷ xs) = up_with x (ascending xs) (up_ascending xs)
 
--- a number below those of a list isn't among them
+-- a number below all numbers of a list isn't among them
 uncounted_low : (n p : ℕ) (xs : List ℕ) → n < p → AllByRecursion (λ y. p ≤ y) xs → counted n xs ≡ 0
 uncounted_low n p [] low all = refl
 uncounted_low n p (x ∷ xs) low all =

@@ -1,4 +1,4 @@
--- No line is that of two claims.
+-- A line is the line of at most one claim.
 use Rattle.std.proofs.Common.{◌≡◌, ◌∙◌, ◌++◌, ◌∷◌, ℕ, Bool, List, Option, [], Some, None, Ok, ap, sym, refl, arith, codes, decimal, get_or, map, subst, true, false, ◌==◌}
 use Rattle.std.proofs.lemmas.Fmt.{decimal_injective}
 use Rattle.std.proofs.lemmas.List.{append_cancel_left}
@@ -73,7 +73,7 @@ one_found version (Some s) (Some t) h k e =
     let counts = one_list s.counts t.counts (recursion_from_All IsCount s.counts h.counts) (recursion_from_All IsCount t.counts k.counts) marks.1 in
     λ i. Some (record { checkpoint = checkpoint i; for_good = marks.0 i; counts = counts i })
 
--- two claims with the same fields
+-- two claims with the same fields are equal
 one_of_fields : (c d : Claimed) → IsClaim c → IsClaim d → fields_of c ≡ fields_of d → c ≡ d
 unfolding head_fields
 one_of_fields c d h k e =

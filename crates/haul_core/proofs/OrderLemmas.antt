@@ -1,4 +1,4 @@
--- Counts in the order of their codes, one more at the end.
+-- Counts in the order of their codes, with one more at the end.
 use Rattle.std.proofs.Common.{◌≡◌, ◌++◌, ◌∷◌, ℕ, List, [], Some, refl}
 use Rattle.std.proofs.lemmas.Cmp.{nat_list_cmp_total}
 use Rattle.std.specs.Cmp.Lexicographic.{slice_cmp}
@@ -20,7 +20,7 @@ last_code-push [] object = refl
 last_code-push (a ∷ []) object = refl
 last_code-push (a ∷ b ∷ more) object = last_code-push (b ∷ more) object
 
--- a code stands after the one before it
+-- each code comes after the code before it
 pub seam : (counts : Counts) (object : List ℕ × ℕ) (more : Counts) → AreOrdered (counts ++ object ∷ more) → IsAfter (last_code counts) object.0
 unfolding IsStrictlySortedBy
 seam [] object more h = tt

@@ -1,4 +1,4 @@
--- The line of a report, written a piece after another.
+-- The line of a report, written piece by piece.
 use Rattle.std.proofs.Common.{◌≡◌, ◌∙◌, ℕ, Bool, List, [], ◌++◌, None, Some, ap, sym, arith, append_assoc, codes, decimal, flat_map, map, refl}
 use Rattle.std.proofs.lemmas.Fmt.{decimal_digit}
 use Rattle.std.proofs.lemmas.Grind.{flat_map-append}

@@ -1,4 +1,4 @@
--- The least three of some numbers, kept while numbers come.
+-- Keeping the three lowest of some numbers, one number at a time.
 use Rattle.std.proofs.Common.{◌≡◌, ◌∙◌, ◌+◌, ◌<◌, ◌≤◌, ℕ, zero, suc, Bool, cond, List, []}
 use Rattle.std.proofs.Common.{◌∷◌, ◌++◌, ap, sym, subst, refl, arith, length, take, drop, get_or, set, inl, inr, ◌⊎◌, add-zero}
 use Rattle.std.proofs.lemmas.Bool.{cases_lt, cases_order, le-leb, lt-leb}
@@ -13,7 +13,7 @@ with_least n x more h = ap (λ (b : Bool). cond b (n ∷ x ∷ more) (x ∷ with
 pub with_greater : (n x : ℕ) (more : List ℕ) → x < n → with_number n (x ∷ more) ≡ x ∷ with_number n more
 with_greater n x more h = ap (λ (b : Bool). cond b (n ∷ x ∷ more) (x ∷ with_number n more)) (lt-leb n x h)
 
--- the first of ascending numbers goes before the others
+-- inserting the first of ascending numbers into the others puts it first
 pub with_first : (x : ℕ) (more : List ℕ) → IsAscending (x ∷ more) → with_number x more ≡ x ∷ more
 with_first x [] h = refl
 with_first x (y ∷ more) h = with_least x y more h.0
@@ -32,7 +32,7 @@ take_with (suc k) n (x ∷ more) = elim (cases_lt x n) [
 
 -- ---- a number is put in its place among the first of an array
 
--- the places before have the least numbers, the others are as they were, and one number is left
+-- the places before `place` are done, those from it on are unchanged, and `left` remains to be inserted
 pub record Putting (old : List ℕ) (count number : ℕ) (numbers : List ℕ) (left place : ℕ) : Type 0 where
   pub long : length numbers ≡ length old
   pub done : take place numbers ++ with_number left (drop place (take count old)) ≡ with_number number (take count old)
@@ -43,7 +43,7 @@ ascending_tail : (x : ℕ) (xs : List ℕ) → IsAscending (x ∷ xs) → IsAsce
 ascending_tail x [] h = tt
 ascending_tail x (y ∷ ys) h = h.1
 
--- the number at the place, in the list as it was
+-- the number at the place is still that of the old list
 next_old : (old : List ℕ) (count number : ℕ) (numbers : List ℕ) (left place : ℕ) → count ≤ length old → place < count
     → Putting old count number numbers left place
     → drop place (take count old) ≡ get_or numbers place 0 ∷ drop (place + 1) (take count old)

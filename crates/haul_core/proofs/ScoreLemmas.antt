@@ -1,4 +1,4 @@
--- Rows of codes: how they are found and changed, and that scores with nothing in them change no total.
+-- Scores of codes: how they are found and changed, and that adding blank scores changes no total.
 use Rattle.std.proofs.Common.{◌≡◌, ◌≢◌, ◌∙◌, ◌+◌, ◌<◌, ℕ, zero, suc, Bool, true, false, cond, List, [], ◌∷◌, ◌++◌, Option, None}
 use Rattle.std.proofs.Common.{Some, IsSome, ap, sym, subst, refl, arith, inl, inr, length}
 use Rattle.std.proofs.Common.{take, get_or, nat_eq, unwrap_or, is_some, ◌⊎◌, Result, Ok, Err, is_ok}
@@ -90,7 +90,7 @@ blank_score (score ∷ more) code blank =
     go true first remainder = first
     go false first remainder = remainder
 
--- scores that come with nothing in them change no score
+-- adding blank scores changes no score
 pub score-Extends : (old new : List (List ℕ × Score)) → Extends old new → (code : List ℕ) → score_in new code ≡ score_in old code
 score-Extends old new x code =
     ap (λ (scores : List (List ℕ × Score)). score_in scores code) x.is
@@ -117,7 +117,7 @@ Extends-then a b c x y = record {
   blank = All-append (λ score. score.1 ≡ no_score) x.more y.more x.blank y.blank;
 }
 
--- no scores have come
+-- scores extend themselves by no scores
 pub Extends-none : (scores : List (List ℕ × Score)) → Extends scores scores
 Extends-none scores = record { more = []; is = sym (append-nil scores); blank = All-nil (λ score. score.1 ≡ no_score) }
 
@@ -179,7 +179,7 @@ lookup_none {X} test (x ∷ xs) h =
     ap (λ (b : Bool). cond b (Some x.1) (lookup test xs)) (All-head (λ e. test e.0 ≡ false) x xs h)
     ∙ lookup_none test xs (All-tail (λ e. test e.0 ≡ false) x xs h)
 
--- a code stands once
+-- the code of an object isn't among the objects before it
 pub not_before : (objects : List (List ℕ × ℕ)) (i : ℕ) (d : List ℕ × ℕ) → AreObjects objects → i < length objects
     → lookup (is_code (get_or objects i d).0) (take i objects) ≡ None
 not_before objects i d lawful low =

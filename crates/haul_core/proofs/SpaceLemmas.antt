@@ -28,12 +28,12 @@ lacks-append byte x y p q = list_any-append (λ b. b == byte) x y ∙ or_from _ 
 lacks-cons : (byte b : ℕ) (x : List ℕ) → b ≢ byte → Lacks byte x → Lacks byte (b ∷ x)
 lacks-cons byte b x n p = or_from _ _ (ne_eqb b byte n) p
 
--- nothing, or a text that the byte begins
+-- the text is empty or begins with the byte
 abbrev pub Stops : ℕ → List ℕ → Type 0
 Stops byte [] = Unit {0}
 Stops byte (c ∷ remainder) = byte ≡ c
 
--- what lies before the first such byte is one text
+-- the text before the first such byte is unique, and so is the remainder
 pub cut_ends : (byte : ℕ) (x y r s : List ℕ) → Lacks byte x → Lacks byte y → Stops byte r → Stops byte s → x ++ r ≡ y ++ s → (x ≡ y) × (r ≡ s)
 cut_ends byte [] [] r s p q h k e = (refl, e)
 cut_ends byte [] (b ∷ y) [] s p q h k e = absurd (cc)
@@ -50,7 +50,7 @@ cut_ends byte (a ∷ x) (b ∷ y) r s p q h k e =
     let more = cut_ends byte x y r s (or_parts _ _ p).1 (or_parts _ _ q).1 h k remainder in
     (λ i. same i ∷ more.0 i, more.1)
 
--- the same where the byte is there in both
+-- the same if both texts have the byte
 pub cut_once : (byte : ℕ) (x y r s : List ℕ) → Lacks byte x → Lacks byte y → x ++ byte ∷ r ≡ y ++ byte ∷ s → (x ≡ y) × (r ≡ s)
 cut_once byte x y r s p q e =
     let c = cut_ends byte x y (byte ∷ r) (byte ∷ s) p q refl refl e in
@@ -170,7 +170,7 @@ found_lack version (Some told) h =
           (counts_lack told.counts (recursion_from_All IsCount told.counts h.counts)),
     )
 
--- the version is a small number
+-- the version of a claim is below 2^64
 pub version_small : (claim : Claimed) → IsClaim claim → claim.version < 2 ^ 64
 version_small claim h = go h.version
   where
@@ -226,7 +226,7 @@ tails (f ∷ fs) (g ∷ gs) h k e =
     let more = tails fs gs h.1 k.1 c.1 in
     λ i. c.0 i ∷ more i
 
--- a line has one list of fields
+-- the list of fields of a line is unique
 pub one_cut : (f g : List ℕ) (fs gs : List (List ℕ)) → AreSpaceless (f ∷ fs) → AreSpaceless (g ∷ gs) → lined (f ∷ fs) ≡ lined (g ∷ gs) → f ∷ fs ≡ g ∷ gs
 one_cut f g fs gs h k e =
     let c = cut_ends 32 f g (flat_map spaced fs) (flat_map spaced gs) h.0 k.0 (spaced-stops fs) (spaced-stops gs) e in
@@ -237,7 +237,7 @@ pub followed-cons : (b : List ℕ) (before : List (List ℕ)) (x : List ℕ) →
 followed-cons b before x =
     append_assoc (b ++ 32 ∷ []) (followed before) x ∙ append_assoc b (32 ∷ []) (followed before ++ x)
 
--- a line that begins with fields and then has this one has them in its list
+-- if a line begins with some fields and then this one, so does its list of fields
 pub fields_begin : (before : List (List ℕ)) (g : List ℕ) (gs : List (List ℕ)) (field remainder : List ℕ) → AreSpaceless (g ∷ gs) → AreSpaceless before
     → Lacks 32 field
     → Stops 32 remainder → lined (g ∷ gs) ≡ followed before ++ (field ++ remainder) → (more : List (List ℕ)) × (g ∷ gs ≡ before ++ field ∷ more)
@@ -283,7 +283,7 @@ no_bad_field line place bad own =
       spelled = f.1 ∙ sym (append_assoc bad.before (bad.field ∷ []) f.0);
     })
 
--- a line with a fault is no claim's
+-- a line with a fault is the line of no claim
 pub no_claim : (line : List ℕ) (place : ℕ) → IsFirstFaultOf line place → ¬ IsClaimLine line
 no_claim line place (inl bad) = no_bad_field line place bad
 no_claim line place (inr short) = short.short

@@ -1,4 +1,4 @@
--- What stands for a joined haul.
+-- Arrivals that lead to a joined haul.
 use Rattle.std.proofs.Common.{◌≡◌, ◌∙◌, ◌≤◌, ◌||◌, ◌++◌, ℕ, Bool, true, false, not, nat_le, List, [], ◌∷◌, ap, sym, refl, subst, arith}
 use Rattle.std.proofs.Common.{rules, map, filter, if◌then◌else◌}
 use Rattle.std.specs.List.{All}
@@ -25,7 +25,7 @@ closing-offers : (xs : List Reported) (remainder : List Arrival) → has_closing
 closing-offers [] remainder = refl
 closing-offers (x ∷ xs) remainder = closing-offers xs remainder
 
--- no two of the reports have one number
+-- no two of the reports have the same number
 abbrev Differ : List Reported → Type 0
 Differ [] = Unit {0}
 Differ (r ∷ more) = All (λ s. has_number r.number s ≡ false) more × Differ more
@@ -69,7 +69,7 @@ first_same (r ∷ rs) h =
     ∙ ap (λ (t : List Reported). r ∷ t) (filter_same p rs
     (All-weaker (λ s. has_number r.number s ≡ false) (λ s. p s ≡ true) (λ s k. not_true (has_number r.number s) k) rs h.0))
 
--- reports of numbers of two sets that share none
+-- reports that differ, with numbers from two sets that share none, differ when appended
 differ-append : (a b : List Range) (xs ys : List Reported) → ¬ ShareNumber a b → All (λ r. is_in a r.number ≡ true) xs → All (λ r. is_in b r.number ≡ true) ys
     → Differ xs → Differ ys → Differ (xs ++ ys)
 differ-append a b [] ys apart h k d e = e

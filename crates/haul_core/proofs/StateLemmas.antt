@@ -1,4 +1,4 @@
--- What a line says of the soup: that it didn't settle, or when it did, and in version 2 the mark.
+-- What a line says about the soup: that it didn't settle, or when it did, and in version 2 the mark.
 use Rattle.std.proofs.Common.{◌≡◌, ◌≢◌, ◌∙◌, ◌==◌, ◌-◌, ◌≤◌, ◌++◌, ◌⊎◌, ◌∷◌, ℕ, Bool, List, Option, [], Some, None, ap, sym, refl, length, arith, append-nil}
 use Rattle.std.proofs.Common.{append_assoc, codes, decimal, get_or, inl, inr, map, subst, take, true, false}
 use Rattle.std.proofs.lemmas.Fmt.{decimal_injective}
@@ -18,7 +18,7 @@ whole_head : (claim : Claimed) → take 7 (head_of claim) ≡ head_of claim
 unfolding head_fields
 whole_head claim = refl
 
--- two claims whose fields begin with the head of one
+-- if the fields of c are the head of d and then ys, both have the same version, and ys are c's fields about its soup
 pub cut_head : (c d : Claimed) (ys : List (List ℕ)) → fields_of c ≡ head_of d ++ ys → (decimal c.version ≡ decimal d.version) × (found_fields c.found ≡ ys)
 unfolding head_fields
 cut_head c d ys e = (cc, cc)
@@ -99,7 +99,7 @@ unsettled_over line head there h f =
 abbrev pub at_field : ℕ → List ℕ
 at_field checkpoint = codes "at=" ++ decimal checkpoint
 
--- the start with this state
+-- the start of a line, with this checkpoint and mark
 abbrev pub settled_start : LineStart → ℕ → Option Bool → LineStart
 settled_start head checkpoint for_good = record head { settled = Some (record { checkpoint = checkpoint; for_good = for_good }) }
 
@@ -131,7 +131,7 @@ is_settled line head checkpoint for_good remainder h most mark f = record {
   settled = λ here e g. absurd (cc);
 }
 
--- version 1 has no mark
+-- in version 1, the start ends with the checkpoint
 pub settled_first : (line : List ℕ) (head start : LineStart) (checkpoint : ℕ) (remainder : Option (List ℕ)) → IsHead head → checkpoint ≤ 100000 → head.version ≡ 1
     → FollowsFields line (head_of (claimed head []) ++ at_field checkpoint ∷ []) remainder → start ≡ settled_start head checkpoint None → HasReadStart line start remainder
 unfolding mark_fields
@@ -145,7 +145,7 @@ is_second head h n = go h.lawful.version
     go (inl e) = absurd (n e)
     go (inr e) = e
 
--- version 2 has one
+-- in version 2, the start ends with the mark
 pub settled_second : (line : List ℕ) (head start : LineStart) (checkpoint : ℕ) (here field : List ℕ) (for_good : Bool) (more : Option (List ℕ)) → IsHead head
     → checkpoint ≤ 100000 → head.version ≢ 1 → FollowsFields line (head_of (claimed head []) ++ at_field checkpoint ∷ []) (Some here) → Cuts 32 here field more
     → field ≡ mark_field for_good → start ≡ settled_start head checkpoint (Some for_good) → HasReadStart line start more
@@ -169,7 +169,7 @@ begin_mark head checkpoint h most two = record {
       ∙ sym (append_assoc (head_of (claimed head [])) (at_field checkpoint ∷ []) (mark_field false ∷ []));
 }
 
--- a mark stands after the checkpoint in version 2
+-- in version 2, a mark follows the checkpoint
 marked : (version : ℕ) (found : Option SaidOfSoup) (checkpoint : ℕ) (remainder : List (List ℕ)) → version ≡ 2 → IsFound version found
     → found_fields found ≡ at_field checkpoint ∷ remainder → (for_good : Bool) × ((more : List (List ℕ)) × (remainder ≡ mark_field for_good ∷ more))
 unfolding found_fields mark_fields

@@ -68,7 +68,7 @@ zeros : (codes : List (List ℕ)) → sum_by (λ (code : List ℕ). 0) codes ≡
 zeros [] = refl
 zeros (c ∷ cs) = sum_by-cons (λ (code : List ℕ). 0) c cs ∙ zero-add (sum_by (λ (code : List ℕ). 0) cs) ∙ zeros cs
 
--- codes that stand once weigh a count once
+-- the count of a code adds nothing to a sum over other codes
 unweighed : (c k : List ℕ) (n : ℕ) (codes : List (List ℕ)) → is_code c k ≡ true → AllByRecursion (λ y. eq_by_cmp (slice_cmp nat_cmp) c y ≡ false) codes
     → sum_by (λ code. cond (is_code code k) n 0) codes ≡ 0
 unweighed c k n [] same apart = refl

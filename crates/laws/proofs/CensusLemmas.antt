@@ -1,4 +1,4 @@
--- Censuses over the same soups are one, and so are their texts.
+-- Censuses over the same soups are equal, and so are their texts.
 use Rattle.std.proofs.Common.{◌≡◌, ◌∙◌, ◌+◌, ◌<◌, ◌≤◌, ℕ, Bool, true, false, cond, nat_eq, List, [], ◌∷◌, ◌||◌, ap, sym, subst, refl, inl, inr}
 use Rattle.std.proofs.Common.{count_by, filter, get_or, map, sum_by}
 use Rattle.std.specs.Cmp.{nat_eq_equiv}
@@ -57,7 +57,7 @@ found_at job one (s ∷ ss) each n finding found h = elim (cases_Bool (nat_eq n 
       (sym (ap (λ (b : Bool). b || list_any (nat_eq n) (numbers_of_surveys ss)) other) ∙ h)
 ]
 
--- each survey's number is one of their numbers
+-- the number of each survey is among the numbers of the surveys
 among : (surveys : List Survey) → All (λ s. list_any (nat_eq s.number) (numbers_of_surveys surveys) ≡ true) surveys
 among surveys i d low =
     let here : get_or (numbers_of_surveys surveys) i d.number ≡ (get_or surveys i d).number = get_or-map (λ s. s.number) surveys i d d.number low in
@@ -95,7 +95,7 @@ samples_surveys f code (n ∷ ns) = go (has_object code (survey_of f n)) (sample
     go true ih = ap (λ (xs : List ℕ). n ∷ xs) ih
     go false ih = ih
 
--- two lists of surveys are those of one function, over the same numbers
+-- two lists of surveys are those of one function, over the same numbers in any order
 record AreAlike (surveys others : List Survey) : Type 0 where
   found : ℕ → Finding
   numbers : List ℕ
@@ -173,7 +173,7 @@ complete_hauls law job ranges others numbers more one other normal also set all 
 
 -- ---- the same soups in another order
 
--- rows are those of the same soups in another order
+-- the rows over some soups are those over the same soups in another order
 rows_reordered : (surveys others : List Survey) (rows : List Row) → AreAlike surveys others → AreRowsOf surveys rows → AreRowsOf others rows
 rows_reordered surveys others rows a are = record {
   in_order = are.in_order;

@@ -31,7 +31,7 @@ use Rattle.laws.proofs.TurnedCodes.{after-image, in_order-image}
 
 -- ---- the text in a code
 
--- what is after the first `_` (95)
+-- the bytes after the first `_` (95)
 abbrev past_mark : List ℕ → List ℕ
 past_mark [] = []
 past_mark (b ∷ bs) = cond (b == 95) bs (past_mark bs)
@@ -53,7 +53,7 @@ past_mark-plain (b ∷ bs) t all =
 digit_plain : (n : ℕ) → n < 10 → is_plain (digit_glyph false n) ≡ true
 digit_plain n low = grind (arith, nat_tests)
 
--- a number of any size is written in digits
+-- the digits of a number have no `_`
 digits_plain : (k n : ℕ) (others : List ℕ) → list_all is_plain others ≡ true → list_all is_plain (digits_onto k 10 false n others) ≡ true
 digits_plain zero n others all = all
 digits_plain (suc k) n others all =
@@ -70,7 +70,7 @@ decimal_plain : (n : ℕ) → list_all is_plain (decimal n) ≡ true
 unfolding digits
 decimal_plain n = digits_plain 64 n [] refl
 
--- so the text of a code is what is after its first `_`
+-- so the text of a code is the part after its first `_`
 text_of_code : (kind : Kind) (number : ℕ) (t : List ℕ) → past_mark (code_text kind number (Some t)) ≡ t
 unfolding code_text
 text_of_code Still number t = past_mark-plain (decimal number) t (decimal_plain number)
@@ -106,7 +106,7 @@ in_order-turned : (o : Orientation) (S : List Cell) → InOrder (turned o S)
 unfolding turned
 in_order-turned o S = in_order-corner (image o S) (in_order-image o S)
 
--- a pattern at the corner, and moved there once more
+-- a pattern at the corner is its image under the identity
 turned-same : (S : List Cell) → InOrder S → at_corner S ≡ turned Same S
 unfolding turned
 turned-same S order = ap at_corner (sym (image-same S order))
@@ -115,7 +115,7 @@ corner-turned : (o : Orientation) (S : List Cell) → InOrder (turned o S) → a
 corner-turned o S order =
     turned-same (turned o S) order ∙ turned-turned o Same S ∙ ap (λ (p : Orientation). turned p S) (same_is_identity o).1
 
--- patterns whose images have the same text have the same images
+-- images that have the same text are equal
 same_image : (o p : Orientation) (S T : List Cell) (t : List ℕ) → text (turned o S) ≡ Some t → text (turned p T) ≡ Some t → turned o S ≡ turned p T
 same_image o p S T t one other =
     let here : wechsler_read t ≡ Ok (at_corner (turned o S)) = texts_are_read (turned o S) t (in_order-turned o S) one in
@@ -123,7 +123,7 @@ same_image o p S T t one other =
     let same : at_corner (turned o S) ≡ at_corner (turned p T) = cc in
     sym (corner-turned o S (in_order-turned o S)) ∙ same ∙ corner-turned p T (in_order-turned p T)
 
--- where a pattern is doesn't change what it becomes, up to a move
+-- the generations of a pattern don't depend on where it is, up to a move
 corner-after : (rule : Numbers) (S : List Cell) (n : ℕ) → InOrder S → at_corner (after rule (at_corner S) n) ≡ at_corner (after rule S n)
 corner-after rule [] n order = refl
 corner-after rule (c ∷ cs) n order =
@@ -137,8 +137,8 @@ unfolding turned
 turned-after o rule S n order =
     corner-after rule (image o S) n (in_order-image o S) ∙ ap at_corner (after-image o rule S n order)
 
--- if a phase of a pattern looks like a phase of another one that recurs, it looks like the other pattern itself after the
--- generations that complete the other's period
+-- if a phase of a pattern looks like a phase of another pattern that recurs, it looks like the other pattern itself
+-- after the generations that complete the other's period
 reached : (o p : Orientation) (rule : Numbers) (cells others : List Cell) (g h n period : ℕ) (dx dy : _) → InOrder cells → InOrder others → h + n ≡ period
     → after rule others period ≡ shifted dx dy others → turned o (after rule cells g) ≡ turned p (after rule others h)
     → turned o (after rule cells (g + n)) ≡ turned p others

@@ -1,4 +1,4 @@
--- The counts of objects add up to their clusters: the codes that aren't the first object's are those of the other objects.
+-- The counts of objects add up to the number of clusters. The codes other than the first object's are the others'.
 use Rattle.std.proofs.Common.{◌≡◌, ◌∙◌, ap, sym, refl, ℕ, ◌+◌, Bool, true, false, not, cond, List, [], ◌∷◌, count_by, length, sum, Some, unwrap_or, arith}
 use Rattle.std.specs.Cmp.{tied_itself}
 use Rattle.std.specs.Cmp.Lexicographic.{nat_list_cmp_total, slice_cmp}
@@ -25,7 +25,7 @@ one_more p c cs = sum_by-cons (λ x. cond (p x) 1 0) c cs
 is_itself : (code : List ℕ) → is_code code code ≡ true
 is_itself code = ap is_eq (tied_itself nat_list_cmp_total code)
 
--- where no code is counted there is none
+-- a list in which no code occurs is empty
 no_codes : (codes : List (List ℕ)) → ((code : List ℕ) → 0 ≡ count_by (is_code code) codes) → length codes ≡ 0
 no_codes [] none = refl
 no_codes (x ∷ xs) none =
@@ -34,7 +34,7 @@ no_codes (x ∷ xs) none =
     let zero : 0 ≡ count_by (is_code x) (x ∷ xs) = none x in
     absurd (omega (arith, one, zero))
 
--- a code isn't among the others
+-- a code isn't among the codes other than itself
 none_left : (k : List ℕ) (codes : List (List ℕ)) → count_by (is_code k) (others k codes) ≡ 0
 none_left k [] = refl
 none_left k (c ∷ cs) = go (is_code k c) refl (none_left k cs)
@@ -48,7 +48,7 @@ none_left k (c ∷ cs) = go (is_code k c) refl (none_left k cs)
         one_more (is_code k) c (others k cs) ∙ ap (λ (b : Bool). cond b 1 0 + count_by (is_code k) (others k cs)) e in
         omega (arith, kept, one, remainder)
 
--- and another code isn't among those that are this one
+-- another code isn't among the codes that equal k
 none_counted : (code k : List ℕ) → is_code code k ≡ false → (codes : List (List ℕ)) → count_by (is_code code) (filter (is_code k) codes) ≡ 0
 none_counted code k other [] = refl
 none_counted code k other (c ∷ cs) = go (code_cmp k c) refl (none_counted code k other cs)
@@ -69,7 +69,7 @@ none_counted code k other (c ∷ cs) = go (code_cmp k c) refl (none_counted code
     go Less e remainder = dropped (ap is_eq e) remainder
     go Greater e remainder = dropped (ap is_eq e) remainder
 
--- so another code is counted among the others as it is among all
+-- so another code occurs as often among the codes other than k as among all
 same_count : (code k : List ℕ) (codes : List (List ℕ)) → is_code code k ≡ false
     → count_by (is_code code) (others k codes) ≡ count_by (is_code code) codes
 same_count code k codes other =

@@ -1,4 +1,4 @@
--- A text has its first fault at one place.
+-- The place of a text's first fault is unique.
 use Rattle.std.proofs.Common.{◌≡◌, ◌<◌, ◌≤◌, ◌+◌, ◌-◌, ◌++◌, ◌⊎◌, ◌∙◌, ℕ, zero, suc, true, false, All, List, [], ◌∷◌, length, map, decimal, take, drop, refl, sym, ap, subst, arith, inl, inr, rules}
 use Rattle.std.proofs.Common.{append_assoc, append-nil, get_or, length-append}
 use Rattle.std.specs.Char.{is_ascii_digit}
@@ -21,7 +21,7 @@ use Rattle.ranges.proofs.FaultLemmas.{Apart, FitsU64, LastByte, large_some, list
 none_last : (l : LastByte []) → ⊥
 none_last l = let e = ap length l.spelled in omega (arith, length-append l.start (l.byte ∷ []))
 
--- digits begin what ends with another byte
+-- x begins with the digits d and ends with a byte that isn't a digit, and z is the remainder of x, followed by y
 record Skipped (d x y z : List ℕ) : Type 0 where
   more : List ℕ
   prefix : x ≡ d ++ more
@@ -53,7 +53,7 @@ record StartsAt (x y : List ℕ) : Type 0 where
   is : x ≡ ranges_and_commas prefix
   remainder : y ≡ joined (map written back)
 
--- or where a count does
+-- the text is cut where a count begins
 record CountsAt (x y : List ℕ) : Type 0 where
   prefix : List Range
   range : Range
@@ -66,7 +66,7 @@ record CountsAt (x y : List ℕ) : Type 0 where
 abbrev At : List ℕ → List ℕ → Type 0
 At x y = StartsAt x y ⊎ CountsAt x y
 
--- with a range more in front
+-- the same cut, with one more range in front
 consed : (r : Range) → FitsU64 r → (x more y : List ℕ) → x ≡ pair_text (written r) ++ 44 ∷ more → At more y → At x y
 consed r fits x more y e (inl a) = inl (record {
   prefix = r ∷ a.prefix;
@@ -87,7 +87,7 @@ consed r fits x more y e (inr a) = inr (record {
   remainder = a.remainder;
 })
 
--- after the count of the first range
+-- the cut is after the count of the first range
 after_count : (r : Range) (rs : List Range) → FitsU64 r → ((x y : List ℕ) → Apart x → joined (map written rs) ≡ x ++ y → At x y) → (x y more : List ℕ)
     → x ≡ pair_text (written r) ++ more → tail (map written rs) ≡ more ++ y → LastByte more → At x y
 after_count r rs fits go x y [] e s last = absurd (none_last last)
@@ -102,7 +102,7 @@ after_count r (q ∷ rs) fits go x y (b ∷ more) e s last =
     apart (c ∷ start) f = let left : more ≡ start ++ last.byte ∷ [] = cc in
         inr (record { start = start; byte = last.byte; spelled = left; other = last.other })
 
--- after its first number
+-- the cut is after the first number of the first range
 after_first : (r : Range) (rs : List Range) → FitsU64 r → ((x y : List ℕ) → Apart x → joined (map written rs) ≡ x ++ y → At x y) → (x y more : List ℕ)
     → x ≡ decimal r.first ++ more → 43 ∷ (decimal r.count ++ tail (map written rs)) ≡ more ++ y → (last : LastByte more) → (start : List ℕ)
     → more ≡ start ++ last.byte ∷ [] → At x y
@@ -149,7 +149,7 @@ begins_at : (x remainder : List ℕ) → Apart x → IsListText (x ++ remainder)
 begins_at x remainder apart list =
     at list.ranges (recursion_from_All FitsU64 list.ranges list.fit) x remainder apart (sym (list_text-joined list.ranges) ∙ list.spelled)
 
--- no list has a decimal of 2^64 or more after a byte that is no digit
+-- no text of a list has a decimal of 2^64 or more after a byte that isn't a digit
 no_large : (x there : List ℕ) → Apart x → BeginsLargeDecimal there → ¬ IsListText (x ++ there)
 no_large x there apart large list = go (begins_at x there apart list)
   where
@@ -186,7 +186,7 @@ are_written rs w fit one =
 zero_is_decimal : IsDecimal (48 ∷ [])
 zero_is_decimal = record { digits = refl; some = omega arith; plain = λ e. refl }
 
--- after such a byte any decimal may stand, if numbers of any size are allowed
+-- any decimal may follow such a byte if numbers of any size are allowed
 goes_on : (x number : List ℕ) → Apart x → BeginsList x → IsDecimal number → BeginsLongList (x ++ number)
 goes_on x number apart b is = go (begins_at x b.remainder apart b.whole)
   where

@@ -1,4 +1,4 @@
--- A haul text is cut into its lines, and each line tells its part of the census.
+-- A haul text determines its lines, and each line determines its part of the census.
 use Rattle.std.proofs.Common.{◌≡◌, ◌∙◌, ap, sym, refl, ℕ, ◌≤◌, ◌==◌, Bool, true, false, List, [], ◌∷◌, ◌++◌, codes, decimal, get_or, length, map, flat_map, arith}
 use Rattle.std.specs.List.{AllByRecursion, list_all}
 use Rattle.std.proofs.lemmas.List.{append_cancel_left}
@@ -140,7 +140,7 @@ ranges_once (r ∷ rs) (s ∷ ss) h k e =
     let more : rs ≡ ss = ranges_once rs ss h.1 k.1 (cc) in
     λ i. first i ∷ more i
 
--- the line of no range is no range's in normal form
+-- the line for an empty list of ranges is the line of no nonempty list in normal form
 no_range : (s : Range) (ss : List Range) → AreNormal (s ∷ ss) → IsShortRange s → range_line (record { first = 0; count = 0 }) ∷ [] ≡ map range_line (s ∷ ss) → ⊥
 no_range s ss normal short e =
     let same : record { first = 0; count = 0 } ≡ s =
@@ -178,7 +178,7 @@ number_once name n m h low less e = ap (λ (ns : List ℕ). get_or ns 0 0) (line
 
 -- ---- the parts of a haul text
 
--- a line of a range, by its second byte: `R` (82) and not `N`
+-- whether a line is a range's, by its second byte: `R` (82) and not `N`
 abbrev is_range_line : List ℕ → Bool
 is_range_line line = get_or line 1 0 == 82
 
@@ -206,7 +206,7 @@ totals_filled (row ∷ rows) h = go row.code h.0.code.some (totals_filled rows h
     go [] some more = absurd (omega arith)
     go (b ∷ code) some more = more
 
--- the tables
+-- the two tables determine the rows
 tables_once : (rows others : List Row) → AllByRecursion IsShortRow rows → AllByRecursion IsShortRow others
     → total_lines rows ++ sample_lines rows ≡ total_lines others ++ sample_lines others → rows ≡ others
 unfolding total_lines sample_lines
@@ -217,7 +217,7 @@ tables_once rows others h k e =
     let samples : map sample_line rows ≡ map sample_line others = (let t = cut.1 in cc) in
     rows_once rows others h k cut.0 samples
 
--- what comes after the ranges
+-- the censuses agree in everything after the ranges
 record SameSums (one other : Census) : Type 0 where
   soups : one.soups ≡ other.soups
   unsettled : one.unsettled ≡ other.unsettled
@@ -237,7 +237,7 @@ sums_once one other h k e = record {
   rows = tables_once one.rows other.rows (recursion_from_All IsShortRow one.rows h.rows) (recursion_from_All IsShortRow other.rows k.rows) (cc);
 }
 
--- the job
+-- the first lines determine the job
 job_once : (j k : Job) (rs ss : List (List ℕ)) → IsJob j → IsJob k → head_lines j ++ rs ≡ head_lines k ++ ss → (j ≡ k) × (rs ≡ ss)
 unfolding head_lines
 job_once j k rs ss h g e =

@@ -1,4 +1,4 @@
--- Patterns under a map of cells that keeps distances, as a move or a turn is one: their generations, clusters and partitions.
+-- Patterns under a map of cells that keeps distances, such as a move or a turn: generations, clusters and partitions.
 use Rattle.std.proofs.Common.{◌≡◌, ◌∙◌, ap, sym, refl, subst, ℕ, zero, suc, ◌<◌, true, ◌||◌, List, [], ◌∷◌, All, map, length, get_or, arith}
 use Rattle.std.specs.Cmp.{both_ways as both_true}
 use Rattle.std.specs.List.{list_any}
@@ -23,7 +23,7 @@ use Rattle.survey_core.proofs.lemmas.PartitionLemmas.{has-joined, joined, length
 use Rattle.survey_core.proofs.lemmas.rest.RestLemmas.{cluster_some}
 use Rattle.laws.proofs.SortedClusters.{first, sorted, sorted-permutes, sorted_in_order}
 
--- a partition in another order
+-- the parts of a partition form a partition in any order
 pub partition-permuted : (whole : List Cell) (parts others : List (List Cell)) → InOrder whole → All InOrder parts → IsPermutation parts others
     → Partition whole parts → Partition whole others
 partition-permuted whole parts others order orders same is =
@@ -72,7 +72,7 @@ module _ (f g : Cell → Cell) (rigid : IsRigid f g) where
     leads = leads-image cells c d a.path a.leads;
   }
 
-  -- the image of a partition
+  -- the image of a partition is a partition
   pub partition-image : (whole : List Cell) (parts : List (List Cell)) → Partition whole parts → Partition (image_by f whole) (map (image_by f) parts)
   partition-image whole parts is = record {
     disjoint = λ i j d lt low c h.
@@ -92,14 +92,14 @@ module _ (f g : Cell → Cell) (rigid : IsRigid f g) where
       some c [] = refl
       some c (part ∷ parts) = λ i. has-image part c i || some c parts i
 
--- an image, and back
+-- the inverse map takes the image of a pattern back to the pattern
 pub image-back : (f g : Cell → Cell) → IsRigid f g → (cells : List Cell) → InOrder cells → image_by g (image_by f cells) ≡ cells
 image-back f g rigid cells order =
     same_lists (image_by g (image_by f cells)) cells (in_order-set_of (map g (image_by f cells))) order
     (λ c. has-image g f (inverse f g rigid) (image_by f cells) c ∙ has-image f g rigid cells (f c) ∙ ap (has cells) (rigid.back c))
 
 module _ (f g : Cell → Cell) (rigid : IsRigid f g) (cells : List Cell) (order : InOrder cells) where
-  -- what is linked in the image was linked
+  -- cells that are linked in the image are linked in the pattern
   linked-home : (c d : Cell) → Linked (image_by f cells) (f c) d → Linked cells c (g d)
   linked-home c d a =
       subst (λ (x : Cell). Linked cells x (g d)) (rigid.back c)

@@ -30,7 +30,7 @@ use Rattle.haul_core.proofs.LeastLemmas.{least_is, one_least}
 use Rattle.laws.proofs.RowLemmas.{has_row, one_code, one_order}
 use Rattle.haul_core.proofs.SumLemmas.{rows_summed}
 
--- surveys of one list of numbers are one list
+-- surveys with the same list of numbers are equal
 one_list : (job : Job) → FindingsAreDetermined → (surveys others : List Survey) → numbers_of_surveys surveys ≡ numbers_of_surveys others
     → All (λ s. IsFound job s.number s.finding) surveys → All (λ s. IsFound job s.number s.finding) others → surveys ≡ others
 one_list job law [] [] same each were = refl
@@ -60,7 +60,7 @@ at_least_one : (n : ℕ) → cond {A = ℕ} (nat_le 1 n) n 0 ≡ n
 at_least_one zero = refl
 at_least_one (suc n) = ap (λ (b : Bool). cond {A = ℕ} b (suc n) 0) (le-leb 1 (suc n) (omega arith))
 
--- what rows say of a code, and nothing where there is no row
+-- what rows say about a code, and `nothing` if the code has no row
 module _ {X : Type 0} (said : Row → X) (meant : List ℕ → X) (nothing : X) where
   in_row : (rows : List Row) (code : List ℕ) → All (λ row. said row ≡ meant row.code) rows
       → unwrap_or (option_map said (find (λ row. is_code code row.code) rows)) nothing
@@ -88,7 +88,7 @@ row_total surveys rows are code =
 
 -- ---- the samples in a row
 
--- no soup left an object with a code of which there is none
+-- if the total of a code is 0, no soup left an object with it
 none_with : (surveys : List Survey) (code : List ℕ) → total surveys code ≡ 0 → numbers_with surveys code ≡ []
 none_with [] code none = refl
 none_with (s ∷ ss) code none =
@@ -113,7 +113,7 @@ row_samples surveys rows are code =
     ∙ ap (λ (b : Bool). cond b (samples surveys code) []) (has_row surveys rows are code)
     ∙ samples_if_any surveys code (total surveys code) refl
 
--- the soups of both that left one
+-- the soups of both lists that left an object with a code
 numbers_of_both : (surveys others : List Survey) (code : List ℕ)
     → numbers_with (surveys ++ others) code ≡ numbers_with surveys code ++ numbers_with others code
 numbers_of_both surveys others code =
@@ -145,7 +145,7 @@ both_known : (b c : Bool) → (b ≡ true → c ≡ true) → (b && c) ≡ b
 both_known true c h = h refl
 both_known false c h = refl
 
--- the codes of the wider census that have an object here are those of the rows here
+-- the totals of these rows add up to the totals, over these surveys, of the codes of the wider census
 rows_within : (surveys wider : List Survey) (rows more : List Row) → AreRowsOf surveys rows → AreRowsOf wider more
     → ((code : List ℕ) → total surveys code ≤ total wider code) → sum_by (λ row. row.total) rows ≡ sum_by (total surveys) (codes_of more)
 rows_within surveys wider rows more are were less =

@@ -20,7 +20,7 @@ use Rattle.code_core.proofs.LeastLemmas.{least_of_same}
 use Rattle.code_core.proofs.MovedCodes.{after-shifted, after-suc, in_order-after, length-shifted, shifted-same, shifted-swap}
 use Rattle.laws.specs.Codes.{CodesLater}
 
--- some generations after some generations
+-- h generations after generation g is generation g + h
 pub after-after : (rule : Numbers) (cells : List Cell) (g h : ℕ) → after rule (after rule cells g) h ≡ after rule cells (g + h)
 after-after rule cells g zero = after-none rule (after rule cells g) ∙ ap (after rule cells) (sym (add-zero g))
 after-after rule cells g (suc h) = after-suc rule (after rule cells g) h ∙ ap (next rule) (after-after rule cells g h)
@@ -40,7 +40,7 @@ module _ (rule : Numbers) (cells : List Cell) (limit : ℕ) (r : Recurrence) (or
     least = λ p ex ey some less is. h.least p ex ey some less (sooner p ex ey is);
   }
     where
-      -- what the next generation does after p generations, the pattern did before it
+      -- if the next generation recurs after p generations, so does the pattern
       sooner : (p : ℕ) (ex ey : ℤ) → after rule (after rule cells 1) p ≡ shifted ex ey (after rule cells 1) → after rule cells p ≡ shifted ex ey cells
       sooner p ex ey is =
           let remainder : 1 + (r.period - 1) ≡ r.period = omega (arith, h.some) in
@@ -54,7 +54,7 @@ module _ (rule : Numbers) (cells : List Cell) (limit : ℕ) (r : Recurrence) (or
           ∙ shifted-swap ex ey r.dx r.dy cells in
           shifted-same r.dx r.dy (after rule cells p) (shifted ex ey cells) (sym early ∙ ap (λ (S : List Cell). after rule S (r.period - 1)) is ∙ late)
 
-  -- the images of a generation a period later are the same
+  -- a period later, the images of a generation have the same texts
   text_later : (o : _) (g : ℕ) → text (turned o (after rule cells (r.period + g))) ≡ text (turned o (after rule cells g))
   text_later o g = ap (λ (S : List Cell). text (turned o S)) (a_period_later g) ∙ ap text (turning_moved o r.dx r.dy (after rule cells g))
 
@@ -106,7 +106,7 @@ still_period r is = eqb-true r.period 1 (only (int_eq r.dx (pos 0) && int_eq r.d
     only true false is = cc
     only false one is = cc
 
--- of a still life the next generation has the population
+-- the number in the name of the next generation is the same; for a still life, it is the population
 number-next : (rule : Numbers) (cells : List Cell) (limit : ℕ) (r : Recurrence) (kind : Kind) → Recurs rule cells limit r → kind_of r ≡ kind
     → number_of kind cells r ≡ number_of kind (after rule cells 1) r
 number-next rule cells limit r Still h is =

@@ -103,7 +103,7 @@ first_line (b ∷ line) more one =
     (ne_eqb b 10 (one 0 b (omega arith)))
     ∙ ap (begun_with b) (first_line line more (λ k d low. one (suc k) d (omega arith)))
 
--- a text tells its lines
+-- the lines of a text are those that it was made of
 pub lines_of_text : (lines : List (List ℕ)) → AllByRecursion IsOneLine lines → input_lines (text_of lines) ≡ lines
 unfolding text_of
 lines_of_text [] each = refl

@@ -52,7 +52,7 @@ objects_once (x ∷ xs) (o ∷ os) h k e =
     let more : xs ≡ os = objects_once xs os h.1 k.1 count.1 in
     λ i. (line.0 i, number i) ∷ more i
 
--- the objects of a small finding
+-- the objects of a small finding are short
 short_objects : (objects : List (List ℕ × ℕ)) → All (λ object. HasCodeShape object.0) objects → sum (values_of objects) < 2 ^ 64
     → AllByRecursion IsShortObject objects
 short_objects [] shape few = tt

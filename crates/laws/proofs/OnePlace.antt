@@ -1,4 +1,4 @@
--- A line has its first fault at one place.
+-- The place of a line's first fault is unique.
 use Rattle.std.proofs.Common.{◌≡◌, ◌∙◌, ◌++◌, ◌⊎◌, ◌∷◌, ℕ, List, [], append_assoc, ap, inl, inr, length, refl, subst, sym}
 use Rattle.haul_core.specs.Claims.{BeginClaim, IsBadField, IsFirstFaultOf, LacksField, followed}
 use Rattle.haul_core.specs.FieldSteps.{Lacks}
@@ -12,11 +12,11 @@ begin_prefix before field more b = record {
   spelled = b.spelled ∙ append_assoc before (field ∷ more) b.more ∙ sym (append_assoc before (field ∷ []) (more ++ b.more));
 }
 
--- the fields are those of the other list that stand before more, the first of which is this one
+-- the other list begins with the fields `before` and then this field
 abbrev Goes : List (List ℕ) → List ℕ → List (List ℕ) → Type 0
 Goes before field other = (more : List (List ℕ)) × (other ≡ before ++ field ∷ more)
 
--- of two ways to begin a line, one goes on as the other does
+-- if a line is cut into fields in two ways, the cuts are the same or one continues the other
 compare : (a b : List (List ℕ)) (f g r s : List ℕ) → AreSpaceless a → AreSpaceless b → Lacks 32 f → Lacks 32 g → Stops 32 r → Stops 32 s
     → followed a ++ (f ++ r) ≡ followed b ++ (g ++ s) → (a ≡ b) ⊎ (Goes a f b ⊎ Goes b g a)
 compare [] [] f g r s h k p q u v e = inl refl

@@ -1,4 +1,4 @@
--- What is taken of a worker is a part of what it offered.
+-- What is taken from a worker is a subsequence of what it offered.
 use Rattle.std.proofs.Common.{◌≡◌, ◌&&◌, ℕ, Bool, true, false, nat_eq, nat_le, List, [], ◌∷◌, All}
 use Rattle.std.proofs.Common.{not, subst, arith, filter, map}
 use Rattle.std.proofs.lemmas.Bool.{false≢true}

@@ -97,7 +97,7 @@ lefts-sorted (pair ∷ pairs) = lefts-place pair (sorted (λ p. first p.0) pairs
         go true ih = refl
         go false ih = ap (λ (more : List (List Cell)). other.0 ∷ more) ih
 
--- the clusters, ordered by their first cells, have the same codes, as often as before
+-- sorting the clusters by their first cells keeps how often each code occurs
 sorted_codes : (R : List Cell → List ℕ → Type 0) (xs : List (List Cell)) (ys : List (List ℕ)) → AllZip R xs ys
     → (zs : List (List ℕ)) × AllZip R (sorted first xs) zs × ((p : List ℕ → Bool) → count_by p zs ≡ count_by p ys)
 sorted_codes R xs ys all = (
@@ -118,7 +118,7 @@ sorted_codes R xs ys all = (
 -- ---- the image of a pattern at rest
 
 module _ (f g : Cell → Cell) (rigid : IsRigid f g) (there : KeepsObjects f) (home : KeepsObjects g) (rule : Numbers) where
-  -- what recurs does so in the image, wherever the image is then
+  -- if a pattern recurs with a move, so does its image, with the image of the move
   recurs-image : (limit : ℕ) (cells : List Cell) → InOrder cells → (r : Recurrence) → Recurs rule cells limit r → (ex ey : ℤ)
       → image_by f (shifted r.dx r.dy cells) ≡ shifted ex ey (image_by f cells)
       → Recurs rule (image_by f cells) limit (record { period = r.period; dx = ex; dy = ey })
@@ -246,7 +246,7 @@ module _ (f g : Cell → Cell) (rigid : IsRigid f g) (there : KeepsObjects f) (h
     at_rest-image : IsAtRest rule profile cells → IsAtRest rule profile (image_by f cells)
     at_rest-image (clusters, rest) = (images f g rigid cells order clusters rest.parts, rests-image clusters rest)
 
-    -- with the same objects
+    -- the image of a settled pattern is settled, with the same objects
     settled-image : (objects : List (List ℕ × ℕ)) (good : Bool) → IsSettled rule profile cells objects good
         → IsSettled rule profile (image_by f cells) objects good
     settled-image objects good is = record {
@@ -350,7 +350,7 @@ turned-rigid o = record {
   keeps = turned-keeps o;
 }
 
--- a pattern is one at the corner, moved
+-- each pattern is a moved copy of the pattern at the corner
 corner-back : (cells : List Cell) → (dx : ℤ) × (dy : ℤ) × (shifted dx dy (at_corner cells) ≡ cells)
 corner-back [] = (pos 0, pos 0, refl)
 corner-back (c ∷ cs) =
@@ -392,7 +392,7 @@ findings_of_images o rule profile cells finding order is =
     (finding-image (turned_cell o) (turned_cell (turning_back o).0) (turned-rigid o) (turned-keeps_objects o)
     (turned-keeps_objects (turning_back o).0) rule profile cells finding order is)
 
--- an image at the corner is a moved image
+-- a pattern keeps its finding when it is moved to the corner
 finding-corner : (rule : Numbers) (profile : Settling) (cells : List Cell) (finding : Finding) → InOrder cells → IsFinding rule profile cells finding
     → IsFinding rule profile (at_corner cells) finding
 finding-corner rule profile [] finding order is = is

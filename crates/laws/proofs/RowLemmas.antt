@@ -25,7 +25,7 @@ code_cmp a b = slice_cmp nat_cmp a b
 pub one_code : (a b : List ℕ) → is_code a b ≡ true → a ≡ b
 one_code a b h = code_same a b (sym (is_code-same a b) ∙ h)
 
--- a code before those of a list isn't among them
+-- a code that comes before all codes of a list isn't among them
 not_among : (code : List ℕ) (codes : List (List ℕ)) → AllByRecursion (λ c. code_cmp code c ≡ Less) codes → list_any (is_code code) codes ≡ false
 not_among code [] before = refl
 not_among code (c ∷ cs) before = ap (λ (o : Ordering). is_eq o || list_any (is_code code) cs) before.0 ∙ not_among code cs before.1
@@ -41,7 +41,7 @@ among_first code codes = ap (λ (o : Ordering). is_eq o || list_any (is_code cod
 both_false : {b d : Bool} → b ≡ false → b ≡ d → d ≡ true → ⊥
 both_false e same h = false≢true (sym e ∙ same ∙ h)
 
--- lists of codes in order with the same members are one
+-- sorted lists of codes with the same members are equal
 pub one_order : (xs ys : List (List ℕ)) → IsStrictlySortedBy (slice_cmp nat_cmp) xs → IsStrictlySortedBy (slice_cmp nat_cmp) ys
     → ((code : List ℕ) → list_any (is_code code) xs ≡ list_any (is_code code) ys) → xs ≡ ys
 unfolding IsStrictlySortedBy
@@ -73,7 +73,7 @@ one_order (x ∷ xs) (y ∷ ys) h k same = go (code_cmp x y) refl (one_order xs 
 
 -- ---- rows
 
--- a code has a row exactly if the soups left it
+-- a code with a row has a total of at least 1
 known : (surveys : List Survey) (rows : List Row) → All (IsRowOf surveys) rows → (code : List ℕ) → list_any (is_code code) (codes_of rows) ≡ true
     → 1 ≤ total surveys code
 known surveys [] each code h = absurd (false≢true h)

@@ -89,7 +89,7 @@ few_after c (d ∷ cells) order within =
     let less = rank_less c d parts.0 (and_parts (is_within 101000 d) (list_all (is_within 101000) cells) parts.1).0 (in_order-head c (d ∷ cells) order).0 in
     omega (arith, more, less)
 
--- there are few such cells
+-- a pattern within 101,000 columns and rows of the origin has fewer than 2^64 cells
 few_cells : (cells : List Cell) → InOrder cells → lies_within 101000 cells ≡ true → length cells < 2 ^ 64
 few_cells [] order within = omega arith
 few_cells (c ∷ cells) order within = omega (arith, few_after c cells order within)

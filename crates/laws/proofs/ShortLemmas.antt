@@ -89,7 +89,7 @@ in_below (r ∷ ranges) n below h = elim (cases_Bool (is_in_range n r)) [
   | inr other ↦ in_below ranges n (λ k d low. below (suc k) d (omega arith)) (sym (ap (λ (b : Bool). b || is_in ranges n) other) ∙ h)
 ]
 
--- a member of a list that has a property
+-- each member of a list has a property that all its items have
 any_member : (P : ℕ → Type 0) (numbers : List ℕ) → All P numbers → (n : ℕ) → list_any (nat_eq n) numbers ≡ true → P n
 any_member P [] all n h = absurd (false≢true h)
 any_member P (m ∷ ms) all n h = elim (cases_Bool (nat_eq n m)) [
@@ -120,7 +120,7 @@ least_member numbers least are k d low =
     there (x ∷ xs) ys zero d low = ap (λ (b : Bool). b || list_any (nat_eq x) (xs ++ ys)) (nat_eq_equiv.refl x)
     there (x ∷ xs) ys (suc k) d low = or_right (nat_eq (get_or xs k d) x) (list_any (nat_eq (get_or xs k d)) (xs ++ ys)) (there xs ys k d (omega arith))
 
--- no row's total is above their sum
+-- the total of a row is at most the sum of all totals
 row_below : (rows : List Row) → All (λ row. row.total ≤ sum_by (λ r. r.total) rows) rows
 row_below [] k d low = absurd (omega arith)
 row_below (row ∷ rows) zero d low =

@@ -20,12 +20,12 @@ first [] = record { y = pos 0; x = pos 0 }
 first (c ∷ cs) = c
 
 module _ {X : Type 0} (key : X → Cell) where
-  -- x before the first of those whose key comes later
+  -- x, inserted before the first item with a later key
   abbrev pub place : X → List X → List X
   place x [] = x ∷ []
   place x (y ∷ ys) = cond (is_lt (cell_cmp (key x) (key y))) (x ∷ y ∷ ys) (y ∷ place x ys)
 
-  -- the list, ordered by its keys
+  -- the list, sorted by its keys
   abbrev pub sorted : List X → List X
   sorted [] = []
   sorted (x ∷ xs) = place x (sorted xs)
@@ -47,12 +47,12 @@ module _ {X : Type 0} (key : X → Cell) where
       IsPermutation-trans (x ∷ xs) (x ∷ sorted xs) (place x (sorted xs)) (IsPermutation-cons x xs (sorted xs) (sorted-permutes xs))
       (place-permutes x (sorted xs))
 
-  -- no two keys are one
+  -- the keys are distinct
   abbrev pub KeysDiffer : List X → Type 0
   KeysDiffer [] = Unit {0}
   KeysDiffer (x ∷ xs) = (has (map key xs) (key x) ≡ false) × KeysDiffer xs
 
-  -- then the keys are put into a set
+  -- if the key of an item is new, inserting the item puts the key into the set of keys
   place-put : (x : X) (ys : List X) → has (map key ys) (key x) ≡ false → map key (place x ys) ≡ put (key x) (map key ys)
   place-put x [] new = refl
   place-put x (y ∷ ys) new = go (cell_cmp (key x) (key y)) refl (place-put x ys)
@@ -72,7 +72,7 @@ module _ {X : Type 0} (key : X → Cell) where
       place-put x (sorted xs) (ap (λ (cells : List Cell). has cells (key x)) remainder ∙ has-set_of (map key xs) (key x) ∙ differ.0)
       ∙ ap (put (key x)) remainder
 
--- clusters with a cell whose first cells stand in order
+-- nonempty clusters whose first cells are in order
 pairs_from : (clusters : List (List Cell)) → All (λ cluster. cluster ≢ []) clusters → InOrder (map first clusters) → AllPairs FirstBefore clusters
 pairs_from [] some order = λ i j d lt low. absurd (omega arith)
 pairs_from (x ∷ xs) some order =
@@ -112,7 +112,7 @@ firsts_differ (x ∷ xs) some apart = (
         λ i. another y (more 0 y (omega arith)) (none 0 y (omega arith)) i
         || other ys (λ k d low. more (suc k) d (omega arith)) (λ k d low. none (suc k) d (omega arith)) i
 
--- so they can be ordered by them
+-- so sorting puts disjoint clusters into the order of their first cells
 pub sorted_in_order : (clusters : List (List Cell)) → All (λ cluster. cluster ≢ []) clusters → All (λ cluster. cluster ≢ []) (sorted first clusters)
     → AllPairs Disjoint clusters → AllPairs FirstBefore (sorted first clusters)
 sorted_in_order clusters some all apart =

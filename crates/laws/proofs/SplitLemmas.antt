@@ -137,7 +137,7 @@ job_valid plan job range is = go_seed (seed_read plan.set.seed) refl is
 
 -- ---- from a report to a correct line
 
--- a report on each number is among them
+-- the reports have one on each of the numbers
 report_among : (job : Job) (worker n : ℕ) (numbers : List ℕ) (reports : List Reported) → AreReportsOn job worker numbers reports
     → list_any (nat_eq n) numbers ≡ true → (report : Reported) × IsReportOn job worker n report × Contains reports report
 report_among job worker n [] reports each h = absurd (false≢true h)

@@ -28,7 +28,7 @@ all-weaker p q weaker (x ∷ xs) h =
     let parts = and_parts (p x) (list_all p xs) h in
     and_from (q x) (list_all q xs) (weaker x parts.0) (all-weaker p q weaker xs parts.1)
 
--- a byte that fails the test isn't there
+-- a text whose bytes all pass a test lacks each byte that fails it
 pub all_lack : (p : ℕ → Bool) (byte : ℕ) → p byte ≡ false → (text : List ℕ) → list_all p text ≡ true → Lacks byte text
 all_lack p byte other [] h = refl
 all_lack p byte other (b ∷ bs) h =
@@ -54,7 +54,7 @@ module _ (p : ℕ → Bool) (each : (d : ℕ) → d < 10 → p (48 + d) ≡ true
       go true one more = one
       go false one more = more
 
-  -- a number of any size is written in digits
+  -- if each digit passes the test, each byte of a decimal does
   pub decimal_all : (n : ℕ) → list_all p (decimal n) ≡ true
   unfolding decimal_digits
   decimal_all n = digits_all 64 n [] refl
@@ -65,7 +65,7 @@ digit_digit d low = and_from (nat_le 48 (48 + d)) (nat_le (48 + d) 57) (le-leb _
 pub decimal_lack : (byte n : ℕ) → is_digit byte ≡ false → Lacks byte (decimal n)
 decimal_lack byte n other = all_lack is_digit byte other (decimal n) (decimal_all is_digit digit_digit n)
 
--- decimals of short numbers tell them apart
+-- short numbers with the same decimal are equal
 pub decimal_once : (m n : ℕ) → IsWrittenWhole m → IsWrittenWhole n → decimal m ≡ decimal n → m ≡ n
 decimal_once m n low less same =
     sym (decimal_is_IsNumeral_wide m low).1 ∙ ap (digits_value 10) same ∙ (decimal_is_IsNumeral_wide n less).1
@@ -131,7 +131,7 @@ numbers_once (n ∷ ns) (m ∷ ms) h k e =
     let more : ns ≡ ms = numbers_once ns ms h.1 k.1 (cc) in
     λ i. first i ∷ more i
 
--- a line of a name and numbers tells them
+-- a line of a name and numbers determines both
 pub line_once : (name other : List ℕ) (ns ms : List ℕ) → Lacks 32 name → Lacks 32 other → AllByRecursion IsWrittenWhole ns → AllByRecursion IsWrittenWhole ms
     → line_of_numbers name ns ≡ line_of_numbers other ms → (name ≡ other) × (ns ≡ ms)
 line_once name other ns ms one two h k e =
@@ -143,7 +143,7 @@ line_once name other ns ms one two h k e =
 
 -- ---- lines of a text
 
--- a text tells its lines
+-- a text determines its lines
 pub text_once : (ls ms : List (List ℕ)) → AllByRecursion (Lacks 10) ls → AllByRecursion (Lacks 10) ms → text_of ls ≡ text_of ms → ls ≡ ms
 unfolding text_of
 text_once [] [] h k e = refl
@@ -162,7 +162,7 @@ abbrev pub Ends : (List ℕ → Bool) → List (List ℕ) → Type 0
 Ends test [] = Unit {0}
 Ends test (l ∷ ls) = test l ≡ false
 
--- lines that pass a test, up to one that doesn't, are told
+-- the lines before the first that fails a test are determined, and so are those from there on
 pub lines_once : (test : List ℕ → Bool) (xs ys rs ss : List (List ℕ)) → list_all test xs ≡ true → list_all test ys ≡ true → Ends test rs → Ends test ss
     → xs ++ rs ≡ ys ++ ss → (xs ≡ ys) × (rs ≡ ss)
 lines_once test [] [] rs ss p q h k e = (refl, e)

@@ -34,7 +34,7 @@ pub in_order-image : (o : Orientation) (cells : List Cell) → InOrder (image o 
 unfolding image
 in_order-image o cells = in_order-set_of (map (turned_cell o) cells)
 
--- an image turned back
+-- an image that is turned back is the pattern
 image-back : (o : Orientation) (cells : List Cell) → InOrder cells → image (turning_back o).0 (image o cells) ≡ cells
 image-back o cells order = image-image o (turning_back o).0 cells ∙ ap (λ (p : Orientation). image p cells) (turning_back o).1 ∙ image-same cells order
 
@@ -64,7 +64,7 @@ recurs-image o rule cells limit r order h = record {
       h.least p (turned_cell b (cell_at ex ey)).x (turned_cell b (cell_at ex ey)).y some less home;
 }
 
--- the image of an image at the corner
+-- turning an image and moving it to the corner is one turn of the pattern
 turned-image : (a b : Orientation) (cells : List Cell) → turned b (image a cells) ≡ turned (product a b) cells
 unfolding turned
 turned-image a b cells = ap at_corner (image-image a b cells)
@@ -86,7 +86,7 @@ text-unimage o rule cells period t order h =
     text-image (turning_back o).0 rule (image o cells) period t (in_order-image o cells)
     (subst (λ (S : List Cell). IsImageText rule S period t) (sym (image-back o cells order)) h)
 
--- a set has no more cells than the list that it is made of
+-- putting a cell into a set adds at most one cell
 length-put : (c : Cell) (ds : List Cell) → length (put c ds) ≤ suc (length ds)
 length-put c [] = omega arith
 length-put c (d ∷ ds) = go (cell_cmp c d) (length-put c ds)
@@ -114,7 +114,7 @@ length-image o cells order =
     let back : length (image (turning_back o).0 (image o cells)) ≡ length cells = ap length (image-back o cells order) in
     omega (arith, no_more o cells, no_more (turning_back o).0 (image o cells))
 
--- only 0 is 0 on the other side
+-- a number is 0 if and only if its negation is 0
 still-negated : (a : ℤ) → int_eq (neg_ℤ a) (pos 0) ≡ int_eq a (pos 0)
 still-negated a = both_ways (int_eq (neg_ℤ a) (pos 0)) (int_eq a (pos 0)) (λ e. back a (int_eq-true (neg_ℤ a) (pos 0) e))
     (λ e. there a (int_eq-true a (pos 0) e))
@@ -125,7 +125,7 @@ still-negated a = both_ways (int_eq (neg_ℤ a) (pos 0)) (int_eq a (pos 0)) (λ 
     there : (a : ℤ) → a ≡ pos 0 → int_eq (neg_ℤ a) (pos 0) ≡ true
     there a is = subst (λ (b : ℤ). int_eq (neg_ℤ b) (pos 0) ≡ true) (sym is) refl
 
--- a move by nothing is turned into one, and no other
+-- a turned move is 0 if and only if the move is 0
 stays-turned : (o : Orientation) (x y : ℤ) → (int_eq (turned_cell o (cell_at x y)).x (pos 0) && int_eq (turned_cell o (cell_at x y)).y (pos 0)) ≡
     (int_eq x (pos 0) && int_eq y (pos 0))
 stays-turned Same x y = refl
@@ -137,7 +137,7 @@ stays-turned Flip x y = ap (λ (b : Bool). int_eq x (pos 0) && b) (still-negated
 stays-turned Diagonal x y = and_swap (int_eq y (pos 0)) (int_eq x (pos 0))
 stays-turned AntiDiagonal x y = (λ i. still-negated y i && still-negated x i) ∙ and_swap (int_eq y (pos 0)) (int_eq x (pos 0))
 
--- the number of a name looks at the period alone
+-- the number in a name depends on the recurrence only by its period
 number-period : (kind : Kind) (S : List Cell) (r q : Recurrence) → r.period ≡ q.period → number_of kind S r ≡ number_of kind S q
 number-period Still S r q is = refl
 number-period Oscillator S r q is = is

@@ -1,4 +1,4 @@
--- A haul text tells its census.
+-- A haul text determines its census.
 use Rattle.std.specs.Prelude.{◌≡◌, ◌<◌, ◌^◌, ℕ, List, nat_eq, true}
 use Rattle.std.specs.List.{All, IsDistinct}
 use Rattle.plane_core.specs.plane.Rules.{IsRule}

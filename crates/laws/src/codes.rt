@@ -11,7 +11,7 @@ pub fn codes_are_of_objects()
     ensures later { CodesLater }
 {}
 
-/// The law that objects with the same apgcode, which has a text, are one object: some phase of the one is the other, up
+/// The law that objects with the same apgcode, which has a text, are one object: some phase of one is the other, up
 /// to a move and an orientation.
 pub fn codes_are_faithful()
     ensures { CodesAreFaithful }

@@ -2,7 +2,7 @@
 
 ghost use Rattle.laws.specs.RangeLists.{TextsHaveOneFault, TextsHaveOneList};
 
-/// The laws that a text is that of at most one list of ranges, and that a text has its first fault at only one place.
+/// The laws that a text spells at most one list of ranges, and that the place of a text's first fault is unique.
 pub fn list_texts_tell_ranges()
     ensures one { TextsHaveOneList }
     ensures place { TextsHaveOneFault }

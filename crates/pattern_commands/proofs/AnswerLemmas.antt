@@ -25,7 +25,7 @@ use Rattle.pattern_commands.specs.Inputs.{HasReadAtMost, Reads, rule_named, inpu
 use Rattle.pattern_commands.specs.Streams.{Stream, Has}
 use Rattle.pattern_commands.specs.TextSteps.{ReachesText}
 
--- an error that is known is the result
+-- a result whose error is known is that error
 pub err_of : {A E : Type 0} (r : Result A E) (e : E) → IsErrAnd r (λ x. x ≡ e) → r ≡ Err e
 err_of (Ok a) e h = absurd h
 err_of (Err x) e h = ap Err h
@@ -42,7 +42,7 @@ none_read reader bytes none = subst (Consumes reader reader) (sym none) (Consume
 pub none_short : (most : ℕ) (bytes : List ℕ) → bytes ≡ [] → length bytes ≤ most
 none_short most bytes none = let empty = ap length none in omega (arith, empty)
 
--- a read that brings nothing at the end of an input has left all that was read before
+-- if a read gives no bytes at the end of an input, the bytes read before are the whole input
 pub whole_input : (old mid new : Option (List ℕ)) (bytes buffer : List ℕ) (n : ℕ) → Consumes old mid bytes → Consumes mid new (take n buffer)
     → n ≡ 0 → IsAtEnd new → IfSome old (λ left. bytes ≡ left)
 whole_input None mid new bytes buffer n before now none end = tt
@@ -59,7 +59,7 @@ long_input limit None mid bytes before long = tt
 long_input limit (Some xs) None bytes before long = absurd before
 long_input limit (Some xs) (Some ys) bytes before long = let all = ap length before ∙ length-append bytes ys in omega (arith, all, long)
 
--- what one more read brings
+-- one more read appends its bytes
 pub read_more : (old mid new : Option (List ℕ)) (bytes buffer later : List ℕ) (n : ℕ) → Consumes old mid bytes → Consumes mid new (take n buffer)
     → later ≡ bytes ++ take n buffer → Consumes old new later
 read_more old mid new bytes buffer later n before now is = subst (Consumes old new) (sym is) (Consumes-trans old mid new bytes (take n buffer) before now)
@@ -79,13 +79,13 @@ little_more limit once old mid new bytes buffer n before now short room = (
   short_more limit once bytes buffer (bytes ++ take n buffer) n short room refl,
 )
 
--- an input over the limit is not looked at
+-- an input over the limit is too long, whatever its bytes are
 pub pattern_of-long : (bytes : List ℕ) → 2 ^ 24 < length bytes → pattern_of bytes ≡ Err TooLong
 pattern_of-long bytes long =
     let unlooked : nat_le (length bytes) (2 ^ 24) ≡ false = search rules in
     rw unlooked refl
 
--- an input that was not read to its end says nothing of the answer, unless it is too long
+-- if an input wasn't read to its end, the complaint is right for some bytes that may be the input
 pub Reads_unread : (reader : Option (List ℕ)) (fault : InputError)
     → (fault ≡ input_error.TooLong → IfSome reader (λ left. 2 ^ 24 < length left))
     → (bytes : List ℕ) × IsInput reader bytes × Reads (pattern_of bytes) (Err (input_complaint fault))
@@ -96,7 +96,7 @@ Reads_unread None input_error.TooLong long =
     (bytes, tt, pattern_of-long bytes (subst (λ n. 2 ^ 24 < n) (sym (length-range_with_len 0 (2 ^ 24 + 1))) (omega arith)))
 Reads_unread (Some left) input_error.TooLong long = (left, refl, pattern_of-long left (long refl))
 
--- an input up to the limit is looked at
+-- an input up to the limit is parsed
 pub pattern_of-short : (bytes : List ℕ) (answer : Result (List Cell) PlaintextFault) → length bytes ≤ 2 ^ 24 → pattern bytes ≡ answer
     → pattern_of bytes ≡ result_map_both (λ (cells : List Cell). cells) pattern_complaint answer
 pattern_of-short bytes answer short is =
@@ -121,7 +121,7 @@ pub Reaches_no_memory : (reads : Bool) (right : Right) (output : Stream) → rea
 Reaches_no_memory reads right output read nothing =
     (λ unread complaint is. let bad : false ≡ true = sym unread ∙ read in cc, nothing)
 
--- an input that was refused or not read is what a command ends with, with nothing on the output
+-- a command whose input was refused or not read ends with that complaint, with nothing on the output
 pub Reaches_unread : {A : Type 0} (reads : Bool) (right : Right) (answer : Result A Complaint) (complaint : Complaint) (output : Stream) → reads ≡ true
     → ((other : Complaint) → answer ≡ Err other → right (Err other)) → Reads answer (Err complaint) → Has output []
     → ReachesText reads true right (Err complaint) output
@@ -131,7 +131,7 @@ Reaches_unread reads right answer (ReadFailed error) output read is refused noth
 Reaches_unread reads right answer TooLong output read is long nothing = (read, is TooLong long, nothing)
 Reaches_unread reads right answer (WriteFailed error) output read is refused nothing = absurd refused
 
--- a refused rule is a right answer, with nothing on the output
+-- the refusal of a rule is a right answer, with nothing on the output
 pub Reaches_rule : (reads : Bool) (right : Right) (text : List ℕ) (error : RuleFault) (output : Stream) → rule_read text ≡ Err error
     → ((complaint : Complaint) → rule_named text ≡ Err complaint → right (Err complaint)) → Has output []
     → ReachesText reads true right (Err (rule_complaint error)) output

@@ -4,11 +4,11 @@ use Rattle.std.proofs.lemmas.Int.{to_z-of_z}
 use Rattle.std.proofs.lemmas.List.{drop_more}
 use Rattle.std.specs.Fmt.{signed_decimal}
 
--- a number that fits is written as it is
+-- a number that fits into 32 bits is written unchanged
 pub shown : (n : ℤ) → FitsSigned w32 n → signed_decimal (to_z w32 (of_z w32 n)) ≡ signed_decimal n
 shown n fits = ap signed_decimal (to_z-of_z w32 n fits)
 
--- the lines of what is left begin with that of the next element
+-- the lines that are left begin with the line of the next element
 pub lines_next : {A : Type 0} (line : A → List ℕ) (xs : List A) (i : ℕ) (d : A) (text prefix : List ℕ) → i < length xs
     → text ≡ prefix ++ flat_map line (drop i xs) → text ≡ (prefix ++ line (get_or xs i d)) ++ flat_map line (drop (i + 1) xs)
 lines_next line xs i d text prefix more is =

@@ -17,12 +17,12 @@ use Rattle.pattern_commands.specs.Name.{finding_text, name_right}
 use Rattle.pattern_commands.specs.Profiles.{profile_named, settling}
 use Rattle.pattern_commands.specs.Streams.{Stream, Has}
 
--- the input is read where neither the profile nor the rule is refused
+-- the input is read if the profile and the rule are valid
 pub name_reads : (numbers : ProfileNumbers) (text : List ℕ) (profile : Settling) (rule : Numbers) → profile_named numbers ≡ Ok profile
     → rule_named text ≡ Ok rule → (is_ok (profile_named numbers) && is_ok (rule_named text)) ≡ true
 name_reads numbers text profile rule profiled ruled = rw (profiled, ruled) refl
 
--- a refused profile is right, with nothing on the output
+-- the refusal of a profile is right, with nothing on the output
 pub Reaches_profile : (reads : Bool) (numbers : ProfileNumbers) (text bytes : List ℕ) (complaint : Complaint) (output : Stream)
     → profile_named numbers ≡ Err complaint → Has output [] → ReachesText reads true (name_right numbers text bytes) (Err complaint) output
 Reaches_profile reads numbers text bytes complaint output refused nothing = go (nat_le numbers.period numbers.horizon) refl
@@ -37,12 +37,12 @@ Reaches_profile reads numbers text bytes complaint output refused nothing = go (
         let why : Refused HorizonBelowPeriod ≡ complaint = cc in
         rw (← why) (rw named refl, nothing)
 
--- a refused rule is right
+-- the refusal of a rule is right
 pub right_rule : (numbers : ProfileNumbers) (text bytes : List ℕ) (profile : Settling) (complaint : Complaint) → profile_named numbers ≡ Ok profile
     → rule_named text ≡ Err complaint → name_right numbers text bytes (Err complaint)
 right_rule numbers text bytes profile complaint profiled refused = rw (profiled, refused) refl
 
--- a refused pattern is right
+-- the refusal of a pattern is right
 pub right_pattern : (numbers : ProfileNumbers) (text bytes : List ℕ) (profile : Settling) (rule : Numbers) (complaint : Complaint)
     → profile_named numbers ≡ Ok profile → rule_named text ≡ Ok rule → pattern_of bytes ≡ Err complaint → name_right numbers text bytes (Err complaint)
 right_pattern numbers text bytes profile rule complaint profiled ruled refused = rw (profiled, ruled, refused) refl
@@ -53,7 +53,7 @@ pub right_finding : (numbers : ProfileNumbers) (text bytes : List ℕ) (profile 
     → name_right numbers text bytes (Ok (finding_text finding))
 right_finding numbers text bytes profile rule cells finding profiled ruled read is = rw (profiled, ruled, read) (finding, is, refl)
 
--- the lines of what is left begin with that of the next object
+-- the lines that are left begin with the line of the next object
 pub lines_more : {A : Type 0} (line : A → List ℕ) (xs : List A) (i : ℕ) (x : A) (text prefix : List ℕ) → i < length xs → x ≡ get_or xs i x
     → text ≡ prefix ++ flat_map line (drop i xs) → text ≡ (prefix ++ line x) ++ flat_map line (drop (i + 1) xs)
 lines_more line xs i x text prefix more here is =

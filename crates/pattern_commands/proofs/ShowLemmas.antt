@@ -25,7 +25,7 @@ show_answer-fault : (form : PatternForm) (code text : List ℕ) (fault : Wechsle
     → show_answer form code ≡ Err (wechsler_complaint fault)
 show_answer-fault form code text fault is read = rw (is, read) refl
 
--- memory ran out over a text without a fault
+-- if memory ran out, the text has no fault, and the answer is a pattern
 show_answer-faultless : (form : PatternForm) (code text : List ℕ) → text_in code ≡ Ok text
     → ((fault : WechslerFault) → IsErrOf {T = List Cell} (Err (Memory out_of_memory)) (Fault fault) ↔ (wechsler_read text ≡ Err fault)) → IsOk (show_answer form code)
 show_answer-faultless form code text is faults = go (wechsler_read text) refl
@@ -37,7 +37,7 @@ show_answer-faultless form code text is faults = go (wechsler_read text) refl
 faultless_refused : (form : PatternForm) (code : List ℕ) (complaint : Complaint) → IsOk (show_answer form code) → show_answer form code ≡ Err complaint → ⊥
 faultless_refused form code complaint ok refused = let bad : IsOk {T = List ℕ} (Err complaint) = rw refused at ok in cc
 
--- a text that was refused is the answer, with nothing on the output
+-- a command whose text was refused or not read ends with that complaint, with nothing on the output
 pub Reaches_text : (form : PatternForm) (code text : List ℕ) (error : WechslerError) (output : Stream) → text_in code ≡ Ok text
     → ((fault : WechslerFault) → IsErrOf {T = List Cell} (Err error) (Fault fault) ↔ (wechsler_read text ≡ Err fault)) → Has output []
     → ReachesText false true (only (show_answer form code)) (Err (reader_complaint error)) output

@@ -1,4 +1,4 @@
--- The size of two lists of cells in a row, and the lines of sizes.
+-- The size of two appended lists of cells, and the lines of sizes.
 use Rattle.std.proofs.Common.{◌≡◌, ◌∙◌, ◌+◌, ◌-◌, ◌≤◌, ◌++◌, ℕ, ℤ, zero, suc, List, [], ◌∷◌, Option, None, Some, append-nil, append_assoc, ap, arith, refl, sym}
 use Rattle.std.proofs.lemmas.Int.{clamps, ints}
 use Rattle.std.specs.Int.{int_max, int_min}
@@ -19,7 +19,7 @@ min_assoc a b c = omega (arith, ints, clamps)
 max_assoc : (a b c : ℤ) → int_max a (int_max b c) ≡ int_max (int_max a b) c
 max_assoc a b c = omega (arith, ints, clamps)
 
--- the smallest box around both
+-- the smallest box around both boxes
 abbrev pub both : Bounds → Bounds → Bounds
 both a b = record {
   left = int_min a.left b.left;
@@ -51,7 +51,7 @@ box_of-append : (cs ds : List Cell) → box_of (cs ++ ds) ≡ joined_box (box_of
 box_of-append [] ds = refl
 box_of-append (c ∷ cs) ds = ap (λ (b : Option Bounds). Some (grown c b)) (box_of-append cs ds) ∙ grown_joined c (box_of cs) (box_of ds)
 
--- the box of two lists of cells in a row
+-- the box of two appended lists of cells is the box around their boxes
 pub box_together : (one other : Option Bounds) (cs ds : List Cell) → one ≡ box_of cs → other ≡ box_of ds → joined_box one other ≡ box_of (cs ++ ds)
 box_together one other cs ds is so = (λ i. joined_box (is i) (so i)) ∙ sym (box_of-append cs ds)
 
@@ -66,7 +66,7 @@ pub later_more : (rule : Numbers) (cells : List Cell) (g n : ℕ)
 unfolding later_sizes
 later_more rule cells g n = refl
 
--- the lines of some generations and then of others
+-- the lines of k + m generations are those of the first k, followed by those of the next m
 pub later_then : (rule : Numbers) (cells : List Cell) (g k m : ℕ)
     → later_sizes rule cells g (k + m) ≡ later_sizes rule cells g k ++ later_sizes rule (after rule cells k) (g + k) m
 later_then rule cells g k zero =
@@ -84,7 +84,7 @@ later_then rule cells g k (suc m) =
     (size_line (g + k + suc m) (after rule (after rule cells k) (suc m)))
     ∙ ap (λ (text : List ℕ). later_sizes rule cells g k ++ text) (sym (later_more rule (after rule cells k) (g + k) m))
 
--- the first lines are a prefix of more
+-- the lines of the first k generations are a prefix of the lines of n generations
 pub later_rest : (rule : Numbers) (cells : List Cell) (g k n : ℕ) → k ≤ n
     → later_sizes rule cells g n ≡ later_sizes rule cells g k ++ later_sizes rule (after rule cells k) (g + k) (n - k)
 later_rest rule cells g k n low =
@@ -100,7 +100,7 @@ text_none : (rule : Numbers) (cells : List Cell) (from : ℕ) → sizes_text rul
 unfolding sizes_text
 text_none rule cells from = refl
 
--- the line of a generation, and the lines of those after it
+-- the lines of a text are that of the first generation, and those of the generations after it
 pub text_later : (rule : Numbers) (cells : List Cell) (from n : ℕ)
     → sizes_text rule cells from (suc n) ≡ size_line from (after rule cells from) ++ later_sizes rule (after rule cells from) from n
 text_later rule cells from zero =

@@ -37,7 +37,7 @@ module _ (rule : Numbers) (cells : List Cell) (from : ℕ) where
     later : g - from + made ≡ g + made - from
     later = omega arith
 
-    -- what is known of the lines of the generations after this one
+    -- what holds for this generation holds for it as a later generation of the pattern
     pub moved : (P : List Cell → ℕ → Type 0) → P now g → P (after rule cells (g - from)) (from + (g - from))
     moved P h = subst (P (after rule cells (g - from))) (sym here) (subst (λ (S : List Cell). P S g) is h)
 
@@ -45,7 +45,7 @@ module _ (rule : Numbers) (cells : List Cell) (from : ℕ) where
     pub now_later : (next : List Cell) → next ≡ after rule now made → next ≡ after rule cells (g + made - from)
     now_later next so = so ∙ ap (λ (S : List Cell). after rule S made) is ∙ after-plus rule cells (g - from) made ∙ ap (after rule cells) later
 
-    -- and its lines
+    -- the lines up to that generation
     pub lines_later : {V : Type 0} (contents : V → Option (List ℕ)) (x y z : Output V) → Has (stream contents x y) (later_sizes rule cells from (g - from))
         → Has (stream contents y z) (later_sizes rule now g made) → Has (stream contents x z) (later_sizes rule cells from (g + made - from))
     lines_later contents x y z one two =

@@ -43,13 +43,13 @@ none_off cells on = go (position off_plane cells) refl
         let off : off_plane (get_or cells i origin) ≡ true = there.1 in
         absurd (false≢true (rw here at off))
 
--- a part of a pattern is one
+-- consecutive cells of a pattern are a pattern
 pub is_pattern-part : (cells : List Cell) (i n : ℕ) → IsPattern cells → IsPattern (take n (drop i cells))
 is_pattern-part cells i n is = is_pattern-take (drop i cells) n (is_pattern-drop cells i is)
 
 -- ---- gaps
 
--- no cell before the next one lies in a row below this one
+-- each cell up to place i is in the row of the cell there, or above it
 above_gap : (S : List Cell) (i : ℕ) (z c : Cell) → InOrder S → i < length S → has (take (suc i) S) c ≡ true → c.y ≤ℤ (get_or S i z).y
 above_gap [] i z c o low h = absurd (omega arith)
 above_gap (d ∷ ds) zero z c o low h = elim (has-cases d [] c h) [ inl same ↦ at_once c.y d.y (ap (λ (e : Cell). e.y) same) | inr none ↦ absurd (false≢true none) ]
@@ -62,7 +62,7 @@ above_gap (d ∷ ds) (suc i) z c o low h = elim (has-cases d (take (suc i) ds) c
   | inr more ↦ above_gap ds i z c (in_order-tail d ds o) (omega arith) more
 ]
 
--- no cell from this one on lies in a row above it
+-- each cell from place i on is in the row of the cell there, or below it
 below_gap : (S : List Cell) (i : ℕ) (z d : Cell) → InOrder S → has (drop i S) d ≡ true → (get_or S i z).y ≤ℤ d.y
 below_gap [] zero z d o h = absurd (false≢true h)
 below_gap [] (suc i) z d o h = absurd (false≢true h)
@@ -78,7 +78,7 @@ below_gap (c ∷ cs) (suc i) z d o h = below_gap cs i z d (in_order-tail c cs o)
 row_gap : (a b c d : ℤ) (far : ℕ) → a ≤ℤ b → b ≤ℤ c → far < unsigned_abs (c -ℤ b) → c ≤ℤ d → (a +ℤ pos far) <ℤ d
 row_gap a b c d far p q h r = omega (arith, ints)
 
--- a cell that is farther below the one before it than so far comes after a gap
+-- a cell that is more than `far` rows below the cell before it comes after a gap
 pub gap_at : (S : List Cell) (i far : ℕ) (z : Cell) → InOrder S → 1 ≤ i → i < length S → far < unsigned_abs ((get_or S i z).y -ℤ (get_or S (i - 1) z).y)
     → IsGap far S i
 gap_at S zero far z o some low h = absurd (omega arith)
@@ -100,7 +100,7 @@ gap_at S (suc i) far z o some low h = gap
         row_gap c.y (get_or S i z).y (get_or S (suc i) z).y d.y far (above_gap S i z c o (omega arith) p) (next_row S i o low) step
         (below_gap S (suc i) z d o q)
 
--- before the first cell is a gap, and after the last
+-- there is a gap before the first cell, and after the last
 pub gap_first : (S : List Cell) (far : ℕ) → IsGap far S 0
 gap_first S far c d p q = absurd (false≢true p)
 
@@ -111,7 +111,7 @@ either true b h none = refl
 either false true h none = absurd (false≢true (sym none))
 either false false h none = h
 
--- cells in order and then others in lower rows are in order
+-- cells in order, followed by cells in order in lower rows, are in order
 rows_append : (S T : List Cell) → InOrder S → InOrder T → ((c d : Cell) → has S c ≡ true → has T d ≡ true → c.y <ℤ d.y) → InOrder (S ++ T)
 rows_append [] T o u below = u
 rows_append (c ∷ cs) T o u below =
@@ -167,7 +167,7 @@ no_parts rule n (suc g) low = after-suc rule [] g ∙ ap (next rule) (no_parts r
     none : (rule : Numbers) → next rule [] ≡ []
     none rule = refl
 
--- one part more
+-- one more part runs apart
 pub one_part_more : (rule : Numbers) (S : List Cell) (i j n : ℕ) (parts later : List Running) → InOrder S → i < j → IsGap (2 * n) S i
     → RunApart rule (take i S) n parts → later ≡ parts ++ record { rule = rule; cells = take (j - i) (drop i S) } ∷ []
     → RunApart rule (take j S) n later

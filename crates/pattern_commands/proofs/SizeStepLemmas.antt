@@ -1,4 +1,4 @@
--- The lines of sizes, one after another, and how a call ends that writes them.
+-- The lines of sizes, one after another, and how a call that writes them ends.
 use Rattle.std.proofs.Common.{◌≡◌, ◌∙◌, ◌+◌, ◌-◌, ◌<◌, ◌≤◌, ◌++◌, ℕ, suc, Bool, true, false, List, [], Option, Ok, Err, ap, arith, flat_map, map, refl, subst, sym}
 use Rattle.memory.specs.declared.OutOfMemory.{OutOfMemory}
 use Rattle.plane_core.specs.declared.output.WriteError.{WriteError}
@@ -24,7 +24,7 @@ use Rattle.pattern_commands.proofs.SizePartLemmas.{parts_next, parts_now}
 -- ---- one line more
 
 module _ (rule : Numbers) (cells : List Cell) (g : ℕ) where
-  -- the lines with that of one generation more
+  -- the lines, with the line of one more generation
   pub line_more : (k : ℕ) (size : Size) → size ≡ pattern_size (after rule cells (k + 1))
       → later_sizes rule cells g (k + 1) ≡ later_sizes rule cells g k ++ sized_line (g + (k + 1)) size
   line_more k size is =
@@ -48,7 +48,7 @@ module _ (rule : Numbers) (cells : List Cell) (g : ℕ) where
       subst (λ (ps : List Running). RunApart rule (after rule cells (k + 1)) (most - (k + 1)) ps) (sym is) here in
       (new, line_more k size (so ∙ ap pattern_size (sym (parts_now rule (after rule cells (k + 1)) (most - (k + 1)) news new))))
 
-  -- before the first line
+  -- the parts before the first line
   pub parts_first : (n : ℕ) (parts : List Running) → RunApart rule cells n parts → RunApart rule (after rule cells 0) (n - 0) parts
   parts_first n parts apart =
       let all : n - 0 ≡ n = omega arith in
@@ -59,13 +59,13 @@ module _ (rule : Numbers) (cells : List Cell) (g : ℕ) where
 
   -- ---- how a call ends
 
-  -- some of the lines were written
+  -- memory ran out after some of the lines
   pub leaves_memory : {A : Type 0} (done : A → List ℕ) (k most : ℕ) (error : OutOfMemory) (output : Stream) → k ≤ most
       → Has output (later_sizes rule cells g k) → PutsLines done (later_sizes rule cells g most) (Err (Memory error)) output
   leaves_memory done k most error output low has =
       (later_sizes rule cells g k, later_sizes rule (after rule cells k) (g + k) (most - k), later_rest rule cells g k most low, has)
 
-  -- a line was written in part
+  -- a write failed in a line
   pub leaves_cut : {A V : Type 0} (contents : V → Option (List ℕ)) (done : A → List ℕ) (k most : ℕ) (error : WriteError) (x y z : Output V) (line : List ℕ)
       → k < most → Has (stream contents x y) (later_sizes rule cells g k)
       → later_sizes rule cells g (k + 1) ≡ later_sizes rule cells g k ++ line → Writes contents y z (Err error) line
@@ -100,7 +100,7 @@ module _ (rule : Numbers) (cells : List Cell) (g : ℕ) where
       subst (HasPrefix (stream contents x z)) (sym (later_rest rule cells g (k + m) all low))
       (AppendsPrefix-longer _ _ (later_sizes rule cells g (k + m)) (later_sizes rule (after rule cells (k + m)) (g + (k + m)) (all - (k + m))) some)
 
-  -- some lines were written, and then the next ones not all
+  -- some lines were written, and then only a prefix of the next ones
   pub leaves_after : {A B V : Type 0} (contents : V → Option (List ℕ)) (done : A → List ℕ) (told : B → List ℕ) (k m all : ℕ) (complaint : Complaint) (x y z : Output V)
       → k + m ≤ all → Has (stream contents x y) (later_sizes rule cells g k)
       → PutsLines told (later_sizes rule (after rule cells k) (g + k) m) (Err complaint) (stream contents y z)
@@ -123,12 +123,12 @@ leaves_then contents one two (Err (ReadFailed error)) x y z has more = absurd mo
 leaves_then contents one two (Err TooLong) x y z has more = absurd more
 leaves_then contents one two (Err (Refused refusal)) x y z has more = absurd more
 
--- a text was written in part, and what follows it not at all
+-- a text was written in part, and the text after it not at all
 pub leaves_first : {V : Type 0} (contents : V → Option (List ℕ)) (one two : List ℕ) (error : WriteError) (x y : Output V)
     → Writes contents x y (Err error) one → PutsLines {A = Unit {0}} (λ _. one ++ two) (one ++ two) (Err (WriteFailed error)) (stream contents x y)
 leaves_first contents one two error x y writes = (AppendsPrefix-longer _ _ one two writes.prefix, writes.remembers)
 
--- the text of a command, of which the first line is that of generation `from`
+-- the text of a command is the line of generation `from`, followed by the later lines
 pub whole_text : (rule : Numbers) (cells : List Cell) (from last : ℕ) → from ≤ last
     → sizes_text rule cells from (last + 1 - from)
     ≡ size_line from (after rule cells from) ++ later_sizes rule (after rule cells from) from (last - from)
@@ -138,7 +138,7 @@ whole_text rule cells from last low =
 
 -- ---- how the command ends
 
--- an input that was refused, or not read, leaves nothing
+-- an input that was refused or not read leaves nothing on the output
 pub reaches_lines : (reads : Bool) (answer : Answer) (complaint : Complaint) (output : Stream) → Has output []
     → ReachesText reads true (only answer) (Err complaint) output → ReachesText reads false (only answer) (Err complaint) output
 reaches_lines reads answer (Refused refusal) output nothing reached = reached

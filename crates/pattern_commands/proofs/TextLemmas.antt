@@ -1,4 +1,4 @@
--- How commands that give a text alone end.
+-- How commands that write only a text end.
 use Rattle.std.proofs.Common.{◌≡◌, ℕ, Bool, true, false, inl, List, [], Option, Result, Ok, Err, IfErr, refl}
 use Rattle.std.proofs.KnownBytes.{Appends-nil}
 use Rattle.memory.specs.Witness.{out_of_memory}
@@ -14,7 +14,7 @@ use Rattle.pattern_commands.specs.Streams.{Stream, HasPrefix, IsUntouched}
 use Rattle.pattern_commands.specs.Behaviours.{Made, alone, text_made, text_behaviour}
 use Rattle.pattern_commands.specs.TextSteps.{LeavesTextPrefix, LeavesTextPart, ReachesText, TextOutcome, none_missing}
 
--- what is left of a text, as a command's behaviour has it
+-- the part of a text that was written is one that the command's behaviour allows
 part_of : (whole : Bool) (right : Right) (output : Stream) → LeavesTextPart whole right output → LeavesPart whole (alone right) output
 part_of true right output left = left
 part_of false right output left = go
@@ -28,7 +28,7 @@ prefix_of : (whole : Bool) (right : Right) (output errors : Stream) → LeavesTe
 prefix_of true right output errors (text, is, prefix) still = (record { text = text; diagnostics = []; missing = 0 }, (is, refl, refl), prefix, still.0)
 prefix_of false right output errors (never, prefixes) still = (never, λ made is. prefixes made.text is.0, still.0)
 
--- what stands on the streams after a text, where nothing was told yet
+-- what the streams have after a text, if standard error is untouched
 reaches_text : (reads whole : Bool) (right : List ℕ → Right) (reader : Option (List ℕ)) (bytes : List ℕ) (outcome : TextOutcome) (output errors : Stream)
     → ReachesText reads whole (right bytes) outcome output → IsUntouched errors
     → Reaches (text_behaviour reads whole right) reader bytes (none_missing outcome) output errors
@@ -52,7 +52,7 @@ reaches_text reads whole right reader bytes (Err TooLong) output errors (read, l
 reaches_text reads whole right reader bytes (Err (WriteFailed error)) output errors (left, cut) still =
     inl (record { left = prefix_of whole (right bytes) output errors left still; cut = cut; fine = still.1 })
 
--- how a command ends that gives a text alone
+-- how a command that writes only a text ends
 pub text_ends : (reads whole : Bool) (right : List ℕ → Right) (reader : Option (List ℕ)) (bytes : List ℕ) (outcome : TextOutcome) (status : Status)
     (output errors : Stream)
     → ReachesText reads whole (right bytes) outcome output → status ≡ status_after (none_missing outcome) → HasLast (none_missing outcome) errors
@@ -75,7 +75,7 @@ pub text_refused : {P : Type 0} (outcome : TextOutcome) → status_after (none_m
 text_refused (Ok _) is = cc
 text_refused (Err complaint) is = λ so. so is
 
--- only memory that ran out has its status
+-- only an outcome that memory ran out has the status of out of memory
 pub text_memory : {P : Type 0} (outcome : TextOutcome) → status_after (none_missing outcome) ≡ statuses.Memory
     → IfErr outcome (λ complaint. complaint ≡ Memory out_of_memory → P) → P
 text_memory (Ok _) is = cc

@@ -27,7 +27,7 @@ line_feed = 10
 abbrev pub side_limit : ℕ
 side_limit = 1000
 
--- the lines of a text, each without a carriage return at its end; an empty one follows the last line feed
+-- the lines of a text, each without a carriage return at its end; an empty line follows a final line feed
 unfoldable pub lines_of : List ℕ → List (List ℕ)
 lines_of text = map strip_carriage_return (slice_split (λ b. b == line_feed) text)
 

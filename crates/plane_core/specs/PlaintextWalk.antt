@@ -15,8 +15,7 @@ pub record IsBox (b : Bounds) : Type 0 where
   pub wide : b.left ≤ℤ b.right
   pub high : b.top ≤ℤ b.bottom
 
--- the cells that are left when a walk is at row y: they are in order, none is above that row, and none is beside the
--- box
+-- the remaining cells of a walk at row y: in order, none above row y, and all in the columns of the box
 pub record IsAhead (y : ℤ) (b : Bounds) (cells : List Cell) : Type 0 where
   pub in_order : InOrder cells
   pub rows : AllByRecursion (λ c. y ≤ℤ c.y) cells

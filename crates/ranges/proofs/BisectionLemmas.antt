@@ -12,7 +12,7 @@ use Rattle.ranges.specs.Ranges.{AreNormal, BeginAfter, end_of, is_in, is_in_rang
 before : (n : ℕ) (r : Range) → n < r.first → is_in_range n r ≡ false
 before n r early = grind (arith, nat_tests)
 
--- nor one at its end or after it
+-- a range has no number at its end or after it
 past : (n : ℕ) (r : Range) → end_of r ≤ n → is_in_range n r ≡ false
 past n r late = grind (arith, nat_tests)
 
@@ -23,7 +23,7 @@ all_later n (r ∷ more) later =
     ap (λ (b : Bool). b || is_in more n) (before n r (later 0 r (omega arith)))
     ∙ all_later n more (λ k d low. later (suc k) d (omega arith))
 
--- what ranges in normal form begin after, each of them begins after
+-- if ranges in normal form begin after a place, each of them does
 each_after : (place : ℕ) (rs : List Range) → AreNormal rs → BeginAfter place rs → (k : ℕ) (d : Range) → k < length rs → place < (get_or rs k d).first
 each_after place [] normal starts k d low = absurd (omega arith)
 each_after place (r ∷ more) normal starts zero d low = starts
@@ -41,7 +41,7 @@ ascends (r ∷ more) normal zero (suc j) d order low =
 ascends (r ∷ more) normal (suc i) zero d order low = absurd (omega arith)
 ascends (r ∷ more) normal (suc i) (suc j) d order low = ascends more normal.2 i j d (omega arith) (omega arith)
 
--- the last range that begins at a number or before it has the number if any has
+-- a number is in the set if and only if it is in the last range that begins at it or before it
 pub only_last : (n : ℕ) (rs : List Range) (i : ℕ) (d : Range) → AreNormal rs → i < length rs → (get_or rs i d).first ≤ n
     → ((k : ℕ) (d : Range) → suc i ≤ k → k < length rs → n < (get_or rs k d).first) → is_in rs n ≡ is_in_range n (get_or rs i d)
 only_last n [] i d normal low begun later = absurd (omega arith)
@@ -57,12 +57,12 @@ only_last n (r ∷ more) (suc i) d normal low begun later =
 abbrev pub Begun : (n : ℕ) (rs : List Range) (begun : ℕ) → Type 0
 Begun n rs begun = IsPartitionPoint (λ r. leb r.first n ≡ true) (λ r. leb r.first n ≡ false) rs begun
 
--- if none begins so early, none has the number
+-- if no range begins at the number or before it, none has the number
 pub none_begun : (n : ℕ) (rs : List Range) (begun : ℕ) → Begun n rs begun → begun ≤ length rs → length (take begun rs) ≤ 0 → is_in rs n ≡ false
 none_begun n rs begun point bound empty =
     all_later n rs (λ k d low. leb-false _ _ (point.1 k d (omega (arith, empty, length-take-le begun rs bound)) low))
 
--- otherwise the last of them has it, or none does
+-- otherwise the last such range has the number, or none has it
 pub last_begun : (n : ℕ) (rs : List Range) (begun : ℕ) (last : Range) → AreNormal rs → Begun n rs begun → begun ≤ length rs → 0 < length (take begun rs)
     → last ≡ get_or (take begun rs) (length (take begun rs) - 1) last → is_in_range n last ≡ is_in rs n
 last_begun n rs zero last normal point bound some is = absurd (omega (arith, some, length-take-le zero rs bound))

@@ -11,7 +11,7 @@ use Rattle.ranges.specs.RangeListFaults.{IsDecimal}
 use Rattle.ranges.specs.RangeListSteps.{has_digit}
 use Rattle.ranges.proofs.DecimalLemmas.{IsDecimal-decimal}
 
--- the decimal ends before the rest
+-- the decimal ends before the remainder: a digit follows only a `0` (48)
 abbrev pub Ends : List ℕ → List ℕ → Type 0
 Ends number remainder = has_digit remainder ≡ true → slice_index number 0 ≡ 48
 
@@ -49,7 +49,7 @@ cut_zero d e x y p q z s =
     let whole : 48 ∷ x ≡ 48 ∷ y = sym (ap (λ (t : List ℕ). t ++ x) f) ∙ s ∙ ap (λ (t : List ℕ). t ++ y) g in
     (f ∙ sym g, cc)
 
--- two decimals at the prefix of a text, each of which ends there, are one
+-- two decimals that begin a text, and that both end there, are equal
 pub cut : (d e x y : List ℕ) → IsDecimal d → IsDecimal e → Ends d x → Ends e y → d ++ x ≡ e ++ y → (d ≡ e) × (x ≡ y)
 cut d e x y p q h k s = go (has_digit x) (has_digit y) refl refl
   where
@@ -67,7 +67,7 @@ IsWritten-written r f c = (IsDecimal-decimal r.first f, IsDecimal-decimal r.coun
 pair-append : (w : Written) (x : List ℕ) → pair_text w ++ x ≡ w.first ++ 43 ∷ (w.count ++ x)
 pair-append w x = append_assoc w.first (43 ∷ w.count) x
 
--- two ranges at the prefix of a text, whose counts end there, are one
+-- two ranges that begin a text, and whose counts end there, are equal
 pub cut_pair : (w v : Written) (x y : List ℕ) → IsWritten w → IsWritten v → Ends w.count x → Ends v.count y → pair_text w ++ x ≡ pair_text v ++ y
     → (w ≡ v) × (x ≡ y)
 cut_pair w v x y p q h k s =
@@ -77,7 +77,7 @@ cut_pair w v x y p q h k s =
     let count = cut w.count v.count x y p.1 q.1 h k remainder in
     (λ i. record { first = first.0 i; count = count.0 i }, count.1)
 
--- what follows the first range of a list
+-- the text after the first range of a list
 abbrev pub tail : List Written → List ℕ
 tail [] = []
 tail (w ∷ more) = 44 ∷ joined (w ∷ more)
@@ -96,12 +96,12 @@ tail-ends number more = λ h. let n = tail-no_digit more in absurd (cc)
 pub pair-some : (w : Written) (x : List ℕ) → pair_text w ++ x ≢ []
 pair-some w x h = let e = ap length h in absurd (omega (arith, length-append (pair_text w) x, length-append w.first (43 ∷ w.count)))
 
--- two lists with one text begin with the same range, and go on alike
+-- two lists with the same text have the same first range and the same tail
 cut_prefix : (p q : Written) (ps qs : List Written) → IsWritten p → IsWritten q → joined (p ∷ ps) ≡ joined (q ∷ qs) → (p ≡ q) × (tail ps ≡ tail qs)
 cut_prefix p q ps qs h k s =
     cut_pair p q (tail ps) (tail qs) h k (tail-ends p.count ps) (tail-ends q.count qs) (sym (joined-cons p ps) ∙ s ∙ joined-cons q qs)
 
--- a list is known by its text
+-- `joined` is injective
 pub joined-injective : (ps qs : List Written) → AllByRecursion IsWritten ps → AllByRecursion IsWritten qs → joined ps ≡ joined qs → ps ≡ qs
 joined-injective [] [] h k s = refl
 joined-injective [] (q ∷ qs) h k s = absurd (pair-some q (tail qs) (sym (joined-cons q qs) ∙ sym s))

@@ -1,4 +1,4 @@
--- Decimals, a digit more at a time, and where one ends in a text.
+-- Decimals, one digit at a time, and where a decimal ends in a text.
 use Rattle.std.proofs.Common.{◌≡◌, ◌<◌, ◌≤◌, ◌+◌, ◌*◌, ◌/◌, ◌%◌, ◌^◌, ◌++◌, ℕ, zero, suc, true, false, List, [], ◌∷◌, length, decimal, refl, sym, ◌∙◌, ap}
 use Rattle.std.proofs.Common.{subst, arith, rules, append_assoc}
 use Rattle.std.specs.Prelude.{slice_index}
@@ -12,7 +12,7 @@ use Rattle.ranges.specs.RangeListSteps.{BeginsDecimal, has_digit}
 pub ascii : IsNumeralModel (λ ds. all_ascii_digits ds ≡ true) (digits_value 10)
 ascii = numerals_by_value _ tells_all_ascii_digits
 
--- a digit more at the end
+-- one more digit at the end
 pub decimal-push : (n d : ℕ) → 1 ≤ n → n < 2 ^ 64 → d ≤ 9 → decimal (10 * n + d) ≡ decimal n ++ (48 + d) ∷ []
 decimal-push n d some fits digit =
     let quotient : (10 * n + d) / 10 ≡ n = omega arith in
@@ -40,7 +40,7 @@ IsDecimal-decimal n fits = record {
     go zero fits h = ap length (decimal_digit 0 (omega arith))
     go (suc n) fits h = let f = first_decimal (suc n) (omega arith) fits in absurd (omega arith)
 
--- where the next digit makes a number too large
+-- if the next digit makes a number too large, the text begins with a decimal of 2^64 or more
 pub large : (n d : ℕ) (text remainder : List ℕ) → 1 ≤ n → n < 2 ^ 64 → d ≤ 9 → 2 ^ 64 ≤ 10 * n + d → text ≡ decimal n ++ (48 + d) ∷ remainder → BeginsLargeDecimal text
 large n d text remainder some fits digit big e =
     let m : ℕ = 10 * n + d in

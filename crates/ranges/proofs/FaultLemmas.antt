@@ -1,4 +1,4 @@
--- Where a text stops being that of a list of ranges.
+-- Where a text stops being the beginning of a list of ranges.
 use Rattle.std.proofs.Common.{◌≡◌, ◌≢◌, ◌<◌, ◌≤◌, ◌+◌, ◌-◌, ◌^◌, ◌++◌, ◌⊎◌, inl, inr, ℕ, suc, true, false, List, [], ◌∷◌, Option, Some, None, length, map}
 use Rattle.std.proofs.Common.{take, drop, decimal, refl, sym, ◌∙◌, ap, subst, arith, rules}
 use Rattle.std.proofs.Common.{append_assoc, append-nil, length-append}
@@ -43,14 +43,14 @@ same_end (a ∷ x) (b ∷ y) h k = absurd (cc)
 abbrev pub FitsU64 : Range → Type 0
 FitsU64 r = (r.first < 2 ^ 64) × (r.count < 2 ^ 64)
 
--- the range is one of 64 bits, as it is written
+-- the range is written in decimals below 2^64
 abbrev pub IsOfU64 : Written → Type 0
 IsOfU64 w = (r : Range) × (FitsU64 r × (w ≡ written r))
 
 abbrev AreWritten : List Written → Type 0
 AreWritten ws = AllByRecursion IsWritten ws
 
--- what of a list is left after the ranges before
+-- the ranges of a list that are left after those already passed
 record Walked (qs : List Written) (x : List ℕ) : Type 0 where
   more : List Written
   each : AreWritten more
@@ -75,11 +75,11 @@ walk (r ∷ rs) fit (q ∷ q' ∷ qs) each x s =
     let w = walk rs fit.1 (q' ∷ qs) each.1 x t in
     record { more = w.more; each = w.each; spelled = w.spelled; some = λ h. w.some (λ e. absurd (cc)); keeps = λ h. w.keeps h.1 }
 
--- no list's text goes on as the text does after its front: with the byte there, or by ending there
+-- no list's text begins with the prefix and goes on as `there` does: with the same byte, or by ending
 abbrev pub Refused : List ℕ → List ℕ → Type 0
 Refused prefix there = (qs : List Written) → AreWritten qs → (x : List ℕ) → head_of there ≡ head_of x → joined qs ≢ prefix ++ x
 
--- the same of the first range that is left
+-- the same for the text of the first range that is left, and what follows it
 abbrev pub RefusedRange : List ℕ → List ℕ → Type 0
 RefusedRange prefix there = (w : Written) (ws : List Written) → IsWritten w → (x : List ℕ) → head_of there ≡ head_of x → pair_text w ++ tail ws ≢ prefix ++ x
 
@@ -111,7 +111,7 @@ first_digit (a ∷ d) x h = let s = h.digits in search (rules)
 pub pair-append : (w : Written) (x : List ℕ) → pair_text w ++ x ≡ w.first ++ 43 ∷ (w.count ++ x)
 pair-append w x = append_assoc w.first (43 ∷ w.count) x
 
--- no digit stands where a range begins
+-- no range begins without a digit
 pub refused_first : (there : List ℕ) → has_digit there ≡ false → RefusedRange [] there
 refused_first there none = λ w ws each x same s.
     let d : has_digit (w.first ++ 43 ∷ (w.count ++ tail ws)) ≡ true = first_digit w.first (43 ∷ (w.count ++ tail ws)) each.0 in
@@ -122,11 +122,11 @@ refused_first there none = λ w ws each x same s.
 pub zero_first : (n : ℕ) → n ≡ 0 → slice_index (decimal n) 0 ≡ 48
 zero_first n z = ap (λ (m : ℕ). slice_index (decimal m) 0) z ∙ ap (λ (t : List ℕ). slice_index t 0) (decimal_digit 0 (omega arith))
 
--- the decimal ends before the text, and before each that has the same byte in front
+-- if a decimal ends before a text, it ends before each text with the same first byte
 ends_alike : (n : ℕ) (there x : List ℕ) → (has_digit there ≡ true → n ≡ 0) → head_of there ≡ head_of x → Ends (decimal n) x
 ends_alike n there x ends same = λ h. zero_first n (ends (same_digit there x same ∙ h))
 
--- the first number of a range that begins with a decimal and the byte after it
+-- a range that begins with this decimal goes on with a `+` (43) and its count
 cut_first : (w : Written) (ws : List Written) (n : ℕ) (x : List ℕ) → IsWritten w → n < 2 ^ 64 → Ends (decimal n) x → pair_text w ++ tail ws ≡ decimal n ++ x
     → 43 ∷ (w.count ++ tail ws) ≡ x
 cut_first w ws n x each fits ends s =
@@ -136,12 +136,12 @@ has_byte-prefix : (c : ℕ) (x y : List ℕ) → c ∷ y ≡ x → has_byte c x
 has_byte-prefix c [] y h = absurd (cc)
 has_byte-prefix c (b ∷ x) y h = cc
 
--- no `+` stands after a first number
+-- no range goes on after its first number without a `+` (43)
 pub refused_plus : (n : ℕ) (there : List ℕ) → n < 2 ^ 64 → (has_digit there ≡ true → n ≡ 0) → ¬ has_byte 43 there → RefusedRange (decimal n) there
 refused_plus n there fits ends other = λ w ws each x same s.
     other (same_byte 43 there x same (has_byte-prefix 43 x (w.count ++ tail ws) (cut_first w ws n x each fits (ends_alike n there x ends same) s)))
 
--- no digit stands after a `+`
+-- no count begins without a digit
 pub refused_count : (n : ℕ) (there : List ℕ) → n < 2 ^ 64 → has_digit there ≡ false → RefusedRange (decimal n ++ 43 ∷ []) there
 refused_count n there fits none = λ w ws each x same s.
     let t : 43 ∷ (w.count ++ tail ws) ≡ 43 ∷ x =
@@ -155,7 +155,7 @@ tail-byte : (ws : List Written) (x : List ℕ) → x ≢ [] → tail ws ≡ x �
 tail-byte [] x some h = absurd (some (sym h))
 tail-byte (w ∷ ws) x some h = has_byte-prefix 44 x (joined (w ∷ ws)) h
 
--- neither the end nor a `,` stands after a range
+-- after a range, no list goes on without a `,` (44)
 pub refused_comma : (r : Range) (there : List ℕ) → FitsU64 r → (has_digit there ≡ true → r.count ≡ 0) → there ≢ [] → ¬ has_byte 44 there
     → RefusedRange (pair_text (written r)) there
 refused_comma r there fits ends some other = λ w ws each x same s.
@@ -175,7 +175,7 @@ all_digits_prefix (a ∷ d) (b ∷ e) x y digits none s =
     let more = all_digits_prefix d e x y (search rules) none remainder in
     λ i. same i ∷ more i
 
--- a decimal of 64 bits doesn't begin with one of 2^64 or more
+-- a text that begins with a decimal below 2^64 doesn't begin with one of 2^64 or more
 pub small_decimal : (n : ℕ) (x there : List ℕ) → n < 2 ^ 64 → has_digit x ≡ false → BeginsLargeDecimal there → decimal n ++ x ≢ there
 small_decimal n x there fits none b s =
     let prefix = all_digits_prefix (decimal n) b.number x b.remainder b.is_decimal.digits none (s ∙ b.spelled) in
@@ -204,7 +204,7 @@ pub list_text-joined : (rs : List Range) → list_text rs ≡ joined (map writte
 unfolding list_text
 list_text-joined rs = refl
 
--- what is refused is no list
+-- a text that is refused at some place isn't a list
 pub not_list : (text prefix there : List ℕ) → text ≡ prefix ++ there → Refused prefix there → ¬ IsListText text
 not_list text prefix there s refused list =
     refused (map written list.ranges) (written-all list.ranges (recursion_from_All FitsU64 list.ranges list.fit)) there refl
@@ -280,7 +280,7 @@ large_at text prefix there s begins apart large = record {
       ∙ ap (λ (t : List ℕ). drop (length prefix) t) s ∙ drop-append_seam prefix there)) large;
 }
 
--- a list whose next range begins with a number that is too large
+-- if the next range begins with a number that is too large, the text isn't a list
 pub refused_large : (text there : List ℕ) (ranges : List Range) → FitU64 ranges → text ≡ ranges_and_commas ranges ++ there → BeginsLargeDecimal there
     → ¬ IsListText text
 refused_large text there ranges fit s large list =
@@ -296,7 +296,7 @@ refused_large text there ranges fit s large list =
         small_decimal r.first (43 ∷ (v.count ++ tail vs)) there fit.0.1.0.0 refl large
         (ap (λ (d : List ℕ). d ++ 43 ∷ (v.count ++ tail vs)) (sym first) ∙ sym (pair-append v (tail vs)) ∙ sym (joined-cons v vs) ∙ t)
 
--- or whose next range has a count that is too large
+-- if the next range has a count that is too large, the text isn't a list
 pub refused_large_count : (text there : List ℕ) (ranges : List Range) (n : ℕ) → FitU64 ranges → n < 2 ^ 64
     → text ≡ ranges_and_commas ranges ++ (decimal n ++ 43 ∷ there)
     → BeginsLargeDecimal there → ¬ IsListText text

@@ -13,7 +13,7 @@ use Rattle.ranges.proofs.FaultLemmas.{Apart, FitsU64, Refused, bad, large_at, li
 use Rattle.ranges.proofs.FaultLemmas.{refused_count}
 use Rattle.ranges.proofs.FaultLemmas.{refused_first, refused_large, refused_large_count, refused_plus, written-all}
 
--- a range more, at the end of a list
+-- one more range at the end of a list
 tail-push : (rs : List Range) (r : Range) → tail (map written (rs ++ r ∷ [])) ≡ 44 ∷ joined (map written (rs ++ r ∷ []))
 tail-push [] r = refl
 tail-push (a ∷ rs) r = refl
@@ -48,7 +48,7 @@ begins rs r prefix remainder fit fits s = record {
 abbrev of_first : ℕ → Range
 of_first n = record { first = n; count = 0 }
 
--- the fault is the first one, and the text is no list
+-- the first fault is at this place, and the text is no list
 abbrev pub IsFaulty : List ℕ → ℕ → Type 0
 IsFaulty text place = IsFirstListFault text place × ¬ IsListText text
 
@@ -132,7 +132,7 @@ fault_after text remainder there rs fit s some (inl (inr (inl h))) = no_plus tex
 fault_after text remainder there rs fit s some (inl (inr (inr h))) = no_count text remainder there rs fit s some h
 fault_after text remainder there rs fit s some (inr h) = no_comma text remainder there rs fit s some h
 
--- these ranges have been passed, and the next one, if there is one, begins where it is said to
+-- these ranges have been passed, and the next one, if there is one, begins the remainder
 pub record Passed (text : List ℕ) (ranges : List Range) (remainder : Option (List ℕ)) : Type 0 where
   pub fit : FitU64 ranges
   pub passed : HasPassed text ranges remainder
@@ -165,7 +165,7 @@ abbrev pub left_of : Option (List ℕ) → ℕ
 left_of None = 0
 left_of (Some remainder) = 1 + length remainder
 
--- a list has one text, and a text one list
+-- `written` and `list_text` are injective
 written-injective : (r s : Range) → FitsU64 r → FitsU64 s → written r ≡ written s → r ≡ s
 written-injective r s h k e = λ i. record {
   first = decimal_injective r.first s.first h.0 k.0 (ap (λ w. w.first) e) i;

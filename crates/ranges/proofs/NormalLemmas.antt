@@ -1,11 +1,11 @@
--- A set has one normal form.
+-- The normal form of a set is unique.
 use Rattle.std.proofs.Common.{◌≡◌, ◌∙◌, ◌<◌, ◌≤◌, ◌⊎◌, inl, inr, ℕ, Bool, true, false, List, [], ◌∷◌, ap, sym, refl, subst, arith}
 use Rattle.std.proofs.lemmas.Bool.{cases_lt}
 use Rattle.ranges.specs.declared.range.Range.{Range}
 use Rattle.ranges.specs.Ranges.{AreNormal, BeginAfter, OneNormalForm, end_of, is_in, is_in_range}
 use Rattle.ranges.proofs.RangeLemmas.{end_of_in, first_of_in, in_range}
 
--- the numbers of ranges in normal form come after what they begin after
+-- if ranges in normal form begin after a place, all their numbers come after it
 pub after : (place n : ℕ) (rs : List Range) → AreNormal rs → BeginAfter place rs → is_in rs n ≡ true → place < n
 after place n [] h k is = absurd (cc)
 after place n (r ∷ rs) h k is = go (is_in_range n r) refl (after (end_of r) n rs h.2 h.1)
@@ -17,7 +17,7 @@ after place n (r ∷ rs) h k is = go (is_in_range n r) refl (after (end_of r) n 
         let m = more remainder in
         omega arith
 
--- and none of them comes before the first range
+-- no number of ranges in normal form comes before the first range
 from_first : (n : ℕ) (r : Range) (rs : List Range) → AreNormal (r ∷ rs) → is_in (r ∷ rs) n ≡ true → r.first ≤ n
 from_first n r rs h is = go (is_in_range n r) refl
   where
@@ -46,7 +46,7 @@ end_out r rs h = go (is_in (r ∷ rs) (end_of r)) refl
             let m = after (end_of r) (end_of r) rs h.2 h.1 remainder in
             absurd (omega arith)
 
--- of two first ranges that begin at one number, neither ends before the other
+-- if r and s begin normal forms of equal sets, and begin at the same number, s ends no later than r
 no_sooner : (r s : Range) (rs ss : List Range) → AreNormal (r ∷ rs) → AreNormal (s ∷ ss) → r.first ≡ s.first
     → ((n : ℕ) → is_in (r ∷ rs) n ≡ is_in (s ∷ ss) n) → end_of s ≤ end_of r
 no_sooner r s rs ss h k e same = go (cases_lt (end_of r) (end_of s))
@@ -60,7 +60,7 @@ no_sooner r s rs ss h k e same = go (cases_lt (end_of r) (end_of s))
         let both = same (end_of r) in
         absurd (cc)
 
--- after the first range the sets are those of the other ranges
+-- if ranges in normal form give equal sets and have the same first range, their other ranges give equal sets
 same_remainder : (r : Range) (rs ss : List Range) (n : ℕ) → AreNormal (r ∷ rs) → AreNormal (r ∷ ss) → is_in (r ∷ rs) n ≡ is_in (r ∷ ss) n → is_in rs n ≡ is_in ss n
 same_remainder r rs ss n h k same = go (is_in rs n) (is_in ss n) (is_in_range n r) refl refl refl
   where

@@ -22,13 +22,13 @@ first_of_in n r h = leb-true _ _ (and_parts _ _ h).0
 pub end_of_in : (n : ℕ) (r : Range) → is_in_range n r ≡ true → n < end_of r
 end_of_in n r h = ltb-true _ _ (and_parts _ _ h).1
 
--- two ranges that share a number have one in common
+-- if two ranges pass the test `shares`, they have a number in common
 pub share_one : (a b : Range) → shares a b ≡ true → (n : ℕ) × (is_in_range n a ≡ true) × (is_in_range n b ≡ true)
 share_one a b h =
     let low : max a.first b.first < min (end_of a) (end_of b) = ltb-true _ _ h in
     (max a.first b.first, in_range _ a (omega arith) (omega arith), in_range _ b (omega arith) (omega arith))
 
--- and two with a number in common share it
+-- if two ranges have a number in common, they pass the test `shares`
 pub shares_from : (n : ℕ) (a b : Range) → is_in_range n a ≡ true → is_in_range n b ≡ true → shares a b ≡ true
 shares_from n a b in_a in_b =
     let la = first_of_in n a in_a in
@@ -43,7 +43,7 @@ count_hit p x xs h = sum_by-cons (λ y. cond {A = ℕ} (p y) 1 0) x xs ∙ ap (�
 pub count_miss : {X : Type 0} (p : X → Bool) (x : X) (xs : List X) → p x ≡ false → count_by p (x ∷ xs) ≡ count_by p xs
 count_miss p x xs h = sum_by-cons (λ y. cond {A = ℕ} (p y) 1 0) x xs ∙ ap (λ (b : Bool). cond {A = ℕ} b 1 0 + count_by p xs) h ∙ zero-add (count_by p xs)
 
--- a range that shares a number with one of the others
+-- if a range passes the test with one of the others, some number of it is in one of them
 pub met : (r : Range) (rs : List Range) → list_any (shares r) rs ≡ true → (n : ℕ) × (is_in_range n r ≡ true) × (1 ≤ count_by (is_in_range n) rs)
 met r [] h = absurd (false≢true h)
 met r (x ∷ xs) h = elim (cases_Bool (shares r x)) [
@@ -54,7 +54,7 @@ met r (x ∷ xs) h = elim (cases_Bool (shares r x)) [
       (more.0, more.1, omega (arith, more.2, sum_by-cons (λ y. cond {A = ℕ} (is_in_range more.0 y) 1 0) x xs))
 ]
 
--- and one that shares none
+-- if a range passes the test with none of the others, none of its numbers is in them
 pub unmet : (n : ℕ) (r : Range) (rs : List Range) → list_any (shares r) rs ≡ false → is_in_range n r ≡ true → count_by (is_in_range n) rs ≡ 0
 unmet n r [] h is = refl
 unmet n r (x ∷ xs) h is = elim (cases_Bool (is_in_range n x)) [
@@ -79,7 +79,7 @@ unmet_more ranges i d low h before n = elim (cases_Bool (is_in_range n (get_or r
 
 -- ---- normal form
 
--- what is joined so far, the latest range, which may still grow, and what is to come
+-- the ranges joined so far, the latest range, which may still grow, and the ranges to come
 pub record Joining (all done : List Range) (latest : Range) (remainder : List Range) : Type 0 where
   pub normal : AreNormal (done ++ latest ∷ [])
   pub ascending : Ascending (latest ∷ remainder)
@@ -287,7 +287,7 @@ pub start_from : (all : List Range) (a : Range) (remainder : List Range) → all
 start_from all a remainder e asc below =
     subst (λ (xs : List Range). Joining xs [] a remainder) (sym e) (joining_start a remainder (subst Ascending e asc) (subst (AreBelow number_bound) e below))
 
--- all is joined
+-- all ranges are joined
 pub all_joined : (all done joined more : List Range) (latest : Range) (i : ℕ) → length more ≤ i → Joining all done latest (drop i more)
     → joined ≡ done ++ latest ∷ [] → IsNormalForm all joined × (size_of joined ≡ size_of all) × AreBelow number_bound joined
 all_joined all done joined more latest i past j is =

@@ -1,4 +1,4 @@
--- Two sets in normal form, which share no number or do.
+-- Two sets in normal form, with or without a number in common.
 use Rattle.std.proofs.Common.{◌≡◌, ◌∙◌, ◌+◌, ◌<◌, ◌≤◌, ◌||◌, ◌++◌, ℕ, zero, suc, Bool, true, false, List, [], ◌∷◌, ap, sym, refl}
 use Rattle.std.proofs.Common.{arith, count_by, length, take, get_or, rules, zero-add}
 use Rattle.std.specs.List.{list_any}
@@ -26,7 +26,7 @@ in_counted n rs h = go (is_in rs n) refl
     go true e = e
     go false e = let c = count_out n rs e in absurd (omega arith)
 
--- in normal form a number stands in one range at most
+-- in normal form, a number is in at most one range
 count_normal : (n : ℕ) (rs : List Range) → AreNormal rs → count_by (is_in_range n) rs ≤ 1
 count_normal n [] h = omega arith
 count_normal n (r ∷ rs) h = go (is_in_range n r) refl (count_normal n rs h.2)
@@ -58,7 +58,7 @@ apart_sets a b h k apart o =
     let two : 2 ≤ count_by (is_in_range n) (a ++ b) = o.1 in
     apart (record { number = n; first = in_counted n a (omega arith); second = in_counted n b (omega arith) })
 
--- a range of the one that has a number in common with the other
+-- if a range of b has a number in common with a, the two sets share a number
 pub shared_by : (r : Range) (a b : List Range) (i : ℕ) → i < length b → list_any (shares (get_or b i r)) a ≡ true → ShareNumber a b
 shared_by r a b i low h =
     let m = met (get_or b i r) a h in
@@ -81,7 +81,7 @@ counted_in n (r ∷ rs) h = go (is_in_range n r) refl (counted_in n rs)
         let more = remainder there in
         omega arith
 
--- one range more that has no number in common with the other set
+-- one more range has no number in common with the other set
 pub apart_more : (d : Range) (a b : List Range) (i : ℕ) → i < length b → ¬ ShareNumber a (take i b) → list_any (shares (get_or b i d)) a ≡ false
     → ¬ ShareNumber a (take (i + 1) b)
 apart_more d a b i low apart none s = go (is_in_range s.number (get_or b i d)) refl

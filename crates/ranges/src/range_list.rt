@@ -124,7 +124,7 @@ fn ranges_in(alloc: Global, text: &[u8]) -> Result<Vec<Range>, OutOfMemory>
     Ok(ranges)
 }
 
-/// Returns the text, in which the first range begins, or `None` if it is empty.
+/// Returns the text, which begins with the first range, or `None` if it is empty.
 fn unless_empty(text: &[u8]) -> Option<&[u8]>
     ensures { Starts text.now (option_map (λ remainder. remainder.now) result) }
 {

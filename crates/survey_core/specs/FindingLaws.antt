@@ -6,7 +6,7 @@ use Rattle.survey_core.specs.declared.finding.Finding.{Finding}
 use Rattle.survey_core.specs.Findings.{IsFinding}
 use Rattle.survey_core.specs.Profiles.{Settling}
 
--- a pattern has only one finding
+-- a pattern has at most one finding
 abbrev pub FindingsAreDetermined : Type 0
 FindingsAreDetermined = (rule : Numbers) (profile : Settling) (cells : List Cell) (one other : Finding)
     → IsFinding rule profile cells one → IsFinding rule profile cells other → one ≡ other

@@ -9,6 +9,6 @@ use Rattle.plane_core.specs.plane.Rules.{Numbers}
 abbrev pub survey_reach : ℕ
 survey_reach = 101000
 
--- the pattern comes no further in any of the next generations
+-- the pattern is within this reach now and in each of the next n generations
 abbrev pub StaysNear : Numbers → List Cell → ℕ → Type 0
 StaysNear rule cells n = (g : ℕ) → g ≤ n → lies_within survey_reach (after rule cells g) ≡ true

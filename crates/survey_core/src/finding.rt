@@ -72,7 +72,7 @@ pub fn survey_pattern(
     Surveyor::without_memo(alloc).survey_pattern(alloc, profile, rule, pattern)
 }
 
-/// The law that a pattern has only one finding.
+/// The law that a pattern has at most one finding.
 pub fn findings_are_determined()
     ensures { FindingsAreDetermined }
 {}

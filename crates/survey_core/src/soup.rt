@@ -60,7 +60,7 @@ pub fn soup_of_digest(alloc: Global, digest: &[u8; 32]) -> Result<Pattern, OutOf
     pattern_of(alloc, &cells[..count])
 }
 
-/// The law of all soups, cell by cell: the one in column x of row y, both 0 to 15, is alive if and only if its bit is
+/// The law of all soups, cell by cell: the cell in column x of row y, both 0 to 15, is alive if and only if its bit is
 /// set.
 #[tactic(auto, using(crate::proofs::lemmas::SoupLemmas::soups_by_cells))]
 pub fn soups_by_cells()

@@ -63,7 +63,7 @@ impl Samples {
         }
     }
 
-    /// Returns the three lowest of these numbers and those of the other samples.
+    /// Returns the three lowest among these numbers and the numbers of the other samples.
     pub(crate) fn with_all(&self, other: &Samples) -> Samples
         ensures { result ≡ with_each self.now other.now }
     {

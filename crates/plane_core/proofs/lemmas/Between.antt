@@ -28,7 +28,7 @@ use Rattle.plane_core.specs.declared.engine.row_spans.RowSpan.{RowSpan}
 use Rattle.std.specs.Int.{bit_at}
 use Rattle.std.specs.Prelude.{All, Bool, List, Option, Some, false, pos, slice_index, true, ℕ, ℤ, ◌%◌, ◌*◌, ◌+ℤ◌, ◌+◌, ◌-ℤ◌, ◌-◌, ◌<◌, ◌==◌, ◌≡◌, ◌≤ℤ◌, ◌≤◌, ◌⊎◌}
 
--- what the boxes have to say before a leap of n generations
+-- what the boxes hold before a leap of n generations: all changes if n is even, all live cells if n is odd
 pub record AreRightFor (rule : Numbers) (cells : List Cell) (boxes : List Bounds) (n : ℕ) : Type 0 where
   pub even : n % 2 ≡ 0 → IsQuiet rule cells boxes
   pub odd : n % 2 ≡ 1 → HoldAll boxes cells
@@ -41,14 +41,14 @@ pub record IsReady (rule : Numbers) (at : Frame) (n : ℕ) (words : List ℕ) (b
   pub right : AreRightFor rule (cells_on at words) boxes n
   pub spanned : AreSpans at (cells_on at words) spans
 
--- a board that was led on by n generations, with its boxes and spans
+-- a board that was advanced by n generations, with its boxes and spans
 pub record HasGoneOn (rule : Numbers) (at : Frame) (n : ℕ) (old new : List ℕ) (boxes : List Bounds) (spans : List RowSpan) : Type 0 where
   pub cells : cells_on at new ≡ after rule (cells_on at old) n
   pub sides : All (AreSidesWithin box_bound) boxes
   pub right : AreRightFor rule (cells_on at new) boxes n
   pub live : LieInSpans at spans (cells_on at new)
 
--- each cell that lies in no inner part is n generations on what it is
+-- each cell in no inner part of a window is unchanged after n generations
 abbrev pub IsStillOutside : Numbers → List LeapWindow → List Cell → ℕ → Type 0
 IsStillOutside rule places cells n = (c : Cell) → ¬ IsCovered places c → has (after rule cells n) c ≡ has cells c
 
@@ -57,78 +57,78 @@ pub record BeginsAt (p : LeapWindow) (column row : ℤ) : Type 0 where
   pub left : p.left ≡ column -ℤ pos 4
   pub top : p.top ≡ row -ℤ pos 4
 
--- the greater one of what was found and another depth
+-- `greater` is the greater of `depth` and the depth that was found
 pub record IsGreater (found : Option ℤ) (depth greater : ℤ) : Type 0 where
   pub kept : (z : ℤ) → IsReached found z → z ≤ℤ greater
   pub least : depth ≤ℤ greater
   pub either : greater ≡ depth ⊎ found ≡ Some greater
 
--- the trees may only be joined where cells are linked
+-- `new` is a forest if `old` is one and the cells of the two places are linked
 abbrev pub JoinsLinked : List ℕ → List ℕ → ℕ → ℕ → Type 0
 JoinsLinked old new j k = (cells : List Cell) → IsForest cells old → Linked cells (cell_of cells j) (cell_of cells k) → IsForest cells new
 
--- the box isn't larger than the board, and lies so far from the border of the plane that a board round it lies on the plane
+-- the box isn't larger than the board, and is so far inside the plane that a board around the box is on the plane
 pub record HasRoom (at : Frame) (b : Bounds) : Type 0 where
   pub across : distance b.left b.right + 1 ≤ 64 * at.word_columns
   pub down : distance b.top b.bottom + 1 ≤ at.rows
   pub plane : 64 * at.word_columns + at.rows ≤ plane_bound
   pub sides : AreSidesWithin (plane_bound - (64 * at.word_columns + at.rows)) b
 
--- the cell is so many columns and rows from the first cell of the window
+-- the cell is `across` columns and `down` rows from the first cell of the window
 pub record IsSpot (p : WindowOrigin) (c : Cell) (across down : ℕ) : Type 0 where
   pub across_is : c.x ≡ p.left +ℤ pos across
   pub down_is : c.y ≡ p.top +ℤ pos down
 
--- 64 rows show which cells of the window the list has
+-- the 64 rows show which cells of the window are in the list
 abbrev pub ShowsRows : WindowOrigin → List ℕ → List Cell → Type 0
 ShowsRows p rows cells =
     (r i : ℕ) → r < 64 → i < 64 → has cells (cell_at (p.left +ℤ pos i) (p.top +ℤ pos r)) ≡ (bit_at (slice_index rows r) i == 1)
 
--- Each bit says whether the rule lets a cell live with so many live cells in its neighbourhood, where these are at most nine.
+-- Each bit of `next` is the rule's answer for the total of its cell, if the total is at most nine.
 abbrev pub AnswersTotal : Numbers → Total → List ℕ → List ℕ → Type 0
 AnswersTotal rule total now next =
     (j i : ℕ) → j < 4 → i < 64 → total_of total j i ≤ 9 → bit_of next j i ≡ one_if (lives_by rule (total_of total j i) (bit_of now j i == 1))
 
--- the same, where of the row here only the cells beside each cell are counted
+-- each bit of `next` is the rule's answer, where the cell itself isn't part of the sum `beside`
 abbrev pub AnswersNeighbours : Numbers → Sum → Sum → Sum → List ℕ → List ℕ → Type 0
 AnswersNeighbours rule up beside down now next =
     (j i : ℕ) → j < 4 → i < 64
     → bit_of next j i ≡ one_if (lives_by rule (sum_of up j i + (sum_of beside j i + bit_of now j i) + sum_of down j i) (bit_of now j i == 1))
 
--- If each cell off all inner parts is some generations later what it was, the board shows the cells of that time.
+-- If each cell outside all inner parts is unchanged after `count` generations, the new board shows the pattern then.
 abbrev pub HasLeapt : Frame → Numbers → ℕ → List LeapWindow → List ℕ → List ℕ → Type 0
 HasLeapt at rule count places old new = (cells : List Cell) → InOrder cells → Shows at old cells
     → ((c : Cell) → ¬ IsCovered places c → has (after rule cells count) c ≡ has cells c) → Shows at new (after rule cells count)
 
--- no bit of a word between two places is 1
+-- the bits of a word from `from` to before `to` are 0
 abbrev pub AreDead : ℕ → ℕ → ℕ → Type 0
 AreDead word from to = (b : ℕ) → from ≤ b → b < to → bit_at word b ≡ 0
 
--- the first bit that is 1 from a place on
+-- the first bit from `from` on that is 1
 pub record IsNextAlive (word from place : ℕ) : Type 0 where
   pub low : from ≤ place
   pub high : place < 64
   pub one : bit_at word place ≡ 1
   pub none : AreDead word from place
 
--- the words of the first n lanes in a row have been read
+-- the words of the first n word columns in a row have been read
 pub record HasReadRow (at : Frame) (words : List ℕ) (r : ℕ) (old : List Cell) (n : ℕ) (new : List Cell) : Type 0 where
   pub grows : AreAmong new old
   pub sound : (others : List Cell) → Shows at words others → AreAmong others old → AreAmong others new
   pub complete : (s i : ℕ) → s < n → i < 64 → bit_at (slice_index words (word_of at s r)) i ≡ 1 → has new (board_cell at s r i) ≡ true
 
--- no cell of a row is alive in these lanes
+-- no cell of a row is alive in the word columns from `from` to before `to`
 abbrev pub IsRowEmpty : Frame → List ℕ → ℕ → ℕ → ℕ → Type 0
 IsRowEmpty at words r from to = (s b : ℕ) → from ≤ s → s < to → b < 64 → bit_at (slice_index words (word_of at s r)) b ≡ 0
 
--- Which row and column a window's cells are counted from: the first row and the first column that have one.
+-- The first row and the first column of a window that have a live cell.
 pub record IsCorner (n : ℕ) (x : List (List ℕ)) (columns row column : ℕ) : Type 0 where
   pub row_is : IsFirstRow n x row
   pub low : column < 64
   pub some : bit_at columns column ≡ 1
   pub none : (i : ℕ) → i < column → bit_at columns i ≡ 0
 
--- the cells that pass a test are further than so far from those that don't
+-- each cell that passes the test is further than `far` from each cell that doesn't
 abbrev pub AreApart : ℕ → (Cell → Bool) → List Cell → Type 0
 AreApart far test cells = (c d : Cell) → has cells c ≡ true → has cells d ≡ true → test c ≡ true → test d ≡ false → far < king_distance c d
 
@@ -137,7 +137,7 @@ abbrev pub IsReadAt : Frame → List ℕ → ℕ → ℕ → ℕ → List (List 
 IsReadAt at words x y n window =
     (r i : ℕ) → r < 4 * n → i < 64 → bit_at (row_at n window r) i ≡ bit_on at words (x + i) (y + r)
 
--- a cluster of the pattern, which the rows of the flood show, and nothing else
+-- a cluster of the pattern, which the rows of the flood show without any other cells
 pub record IsAlone (left top : ℤ) (flood : List ℕ) (cells cluster : List Cell) : Type 0 where
   pub is : IsCluster cells cluster
   pub held : FillsRows left top flood cluster
@@ -148,6 +148,6 @@ FloodsCluster window flood depth =
     (cells : List Cell) (left top : ℤ) → InOrder cells → IsShownInside 16 left top depth window cells
     → (cluster : List Cell) × IsAlone left top flood cells cluster
 
--- each cell of the board in the inner part of a window lies in the span of its lane
+-- each cell of the board in the inner part of a window is in the span of its word column
 abbrev pub HoldInner : Frame → List RowSpan → LeapWindow → Type 0
 HoldInner at spans p = (s r i : ℕ) → s < at.word_columns → r < at.rows → i < 64 → IsInnerCell p (board_cell at s r i) → IsInSpan spans s r

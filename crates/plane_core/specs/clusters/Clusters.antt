@@ -6,7 +6,7 @@ use Rattle.std.specs.List.{list_any}
 use Rattle.plane_core.specs.plane.Bounds.{shifted}
 use Rattle.plane_core.specs.plane.Cells.{InOrder, cell_cmp, king_distance, has}
 
--- a path leads over cells of the pattern from c to d: each cell is at king distance at most 2 from the one before
+-- the list is a path from c to d: each of its cells is in the pattern, at king distance at most 2 from the one before
 abbrev pub Leads : List Cell → Cell → List Cell → Cell → Type 0
 Leads cells c [] d = c ≡ d
 Leads cells c (e ∷ es) d = (has cells e ≡ true) × (king_distance c e ≤ 2) × Leads cells e es d
@@ -17,14 +17,14 @@ pub record Linked (cells : List Cell) (c d : Cell) : Type 0 where
   pub path : List Cell
   pub leads : Leads cells c path d
 
--- a cluster: all cells that are linked to one cell, in order
+-- a cluster: all cells that are linked to a start cell, in order
 pub record IsCluster (cells cluster : List Cell) : Type 0 where
   pub in_order : InOrder cluster
   pub start : Cell
   pub has_start : has cells start ≡ true
   pub members : (d : Cell) → (has cluster d ≡ true) ↔ Linked cells start d
 
--- the first cell of one cluster comes before that of the other
+-- both clusters are nonempty, and the first cell of the first one comes before the first cell of the second
 abbrev pub FirstBefore : List Cell → List Cell → Type 0
 FirstBefore [] ds = ⊥
 FirstBefore (c ∷ cs) [] = ⊥

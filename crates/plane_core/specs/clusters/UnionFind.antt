@@ -13,7 +13,7 @@ use Rattle.plane_core.specs.clusters.Clusters.{FirstBefore, Linked}
 abbrev pub cell_of : List Cell → ℕ → Cell
 cell_of cells k = get_or cells k (cell_at (pos 0) (pos 0))
 
--- the place to which a place leads
+-- the parent of a place: the place to which it leads
 abbrev pub parent_of : List ℕ → ℕ → ℕ
 parent_of parents k = get_or parents k 0
 
@@ -21,7 +21,7 @@ parent_of parents k = get_or parents k 0
 abbrev pub LeadsBack : List ℕ → Type 0
 LeadsBack parents = (k : ℕ) → k < length parents → parent_of parents k ≤ k
 
--- a forest: no place leads to a later one, and each cell is linked to the cell to whose place its own place leads
+-- a forest: no place leads to a later one, and the cell of each place is linked to the cell of its parent
 pub record IsForest (cells : List Cell) (parents : List ℕ) : Type 0 where
   pub size : length parents ≡ length cells
   pub back : LeadsBack parents
@@ -31,7 +31,7 @@ pub record IsForest (cells : List Cell) (parents : List ℕ) : Type 0 where
 abbrev pub Labels : List ℕ → (ℕ → ℕ) → Type 0
 Labels parents label = (k : ℕ) → k < length parents → label (parent_of parents k) ≡ label k
 
--- two places are in one tree: any labels that agree along the links agree on these two
+-- two places are in the same tree: every labelling that agrees along the links gives them the same label
 abbrev pub Joined : List ℕ → ℕ → ℕ → Type 0
 Joined parents j k = (label : ℕ → ℕ) → Labels parents label → label j ≡ label k
 
@@ -39,7 +39,7 @@ Joined parents j k = (label : ℕ → ℕ) → Labels parents label → label j 
 abbrev pub Keeps : List ℕ → List ℕ → Type 0
 Keeps old new = (label : ℕ → ℕ) → Labels new label → Labels old label
 
--- all places before this one whose cells are near each other are joined
+-- any two places before `place` whose cells are near each other are joined
 abbrev pub JoinsAll : List Cell → List ℕ → ℕ → Type 0
 JoinsAll cells parents place =
     (j k : ℕ) → j < k → k < place → king_distance (cell_of cells j) (cell_of cells k) ≤ 2 → Joined parents j k
@@ -50,18 +50,18 @@ pub record IsBridged (cells : List Cell) (k place : ℕ) : Type 0 where
   pub left : king_distance (cell_of cells k) (cell_of cells (place - 1)) ≤ 2
   pub right : king_distance (cell_of cells (place - 1)) (cell_of cells place) ≤ 2
 
--- two cells that are near, and that the cell just before the place doesn't join
+-- the cells at `k` and `place` are near each other, and the cell just before `place` doesn't join them
 pub record NeedsJoin (cells : List Cell) (k place : ℕ) : Type 0 where
   pub near : king_distance (cell_of cells k) (cell_of cells place) ≤ 2
   pub alone : ¬ IsBridged cells k place
 
--- in the rows above a place, each cell that is near and to the left of the column is bridged
+-- each near cell in a row above the place and left of the column is bridged
 abbrev pub IsFresh : List Cell → ℤ → ℕ → Type 0
 IsFresh cells column place = (k : ℕ) → k < place → (cell_of cells k).y <ℤ (cell_of cells place).y → (cell_of cells k).x <ℤ column
     → king_distance (cell_of cells k) (cell_of cells place) ≤ 2 → IsBridged cells k place
 
--- The places of a row's cells that come before a place and don't come before the cell `from`, which is in the row. The
--- row is above the cell of the place.
+-- A range of places before `place` whose cells are in the row of `from`. Among the places before `place`, it omits only
+-- cells of that row that come before `from`.
 pub record IsRow (cells : List Cell) (row : RowPlaces) (place : ℕ) (from : Cell) : Type 0 where
   pub order : row.from ≤ row.end
   pub few : row.end ≤ place
@@ -69,7 +69,7 @@ pub record IsRow (cells : List Cell) (row : RowPlaces) (place : ℕ) (from : Cel
   pub level : (k : ℕ) → row.from ≤ k → k < row.end → (cell_of cells k).y ≡ from.y
   pub later : (k : ℕ) → row.end ≤ k → k < place → from.y <ℤ (cell_of cells k).y
 
--- the two rows above a place, from the first column that is near on
+-- the two rows above a place, from the first column that is near the place
 pub record AreRowsAbove (cells : List Cell) (rows : RowsAbove) (place : ℕ) : Type 0 where
   pub few : rows.begin ≤ place
   pub begun : (k : ℕ) → k < rows.begin → (cell_of cells k).y <ℤ ((cell_of cells place).y +ℤ negsuc 1)

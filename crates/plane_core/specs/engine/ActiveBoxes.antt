@@ -15,7 +15,7 @@ use Rattle.plane_core.specs.plane.Rules.{Numbers}
 abbrev pub box_bound : ℕ
 box_bound = 8388608
 
--- the same for a rectangle of united boxes, which has a margin of four
+-- the same bound for a rectangle around united boxes, which has a margin of four
 abbrev pub rectangle_bound : ℕ
 rectangle_bound = 8388612
 
@@ -32,7 +32,7 @@ IsInOne boxes c = Any (λ b. IsWithin b c) boxes
 abbrev pub IsNearOne : ℕ → List Bounds → Cell → Type 0
 IsNearOne n boxes c = Any (λ b. IsWithin (enlarged n b) c) boxes
 
--- the later boxes are wider: what is within n of one of the earlier ones is within n of a later one
+-- the later boxes are wider: each cell within n of an earlier box is within n of a later box
 abbrev pub AreWider : List Bounds → List Bounds → Type 0
 AreWider boxes later = (n : ℕ) (c : Cell) → IsNearOne n boxes c → IsNearOne n later c
 

@@ -7,7 +7,7 @@ use Rattle.plane_core.specs.declared.engine.row_spans.RowSpan.{RowSpan}
 use Rattle.plane_core.specs.plane.Cells.{has}
 use Rattle.plane_core.specs.engine.Frames.{board_cell}
 
--- a coordinate, counted forwards or backwards: with its own sign or the other
+-- a coordinate, or its negative if it is counted backwards
 abbrev pub counted : Bool → ℤ → ℤ
 counted true at = at
 counted false at = neg_ℤ at
@@ -26,7 +26,7 @@ pub record HasDepth (way : Direction) (cells : List Cell) (z : ℤ) : Type 0 whe
   pub alive : has cells cell ≡ true
   pub depth : depth_in way cell ≡ z
 
--- the later depth is at least as deep as the one found before, and still the depth of a live cell of the pattern
+-- `later` is at least as deep as `found`, and is still the depth of a live cell if `found` was
 pub record GoesDeeper (way : Direction) (cells : List Cell) (found later : Option ℤ) : Type 0 where
   pub kept : (z : ℤ) → IsReached found z → IsReached later z
   pub some : IfSome found (HasDepth way cells) → IfSome later (HasDepth way cells)
@@ -36,8 +36,7 @@ abbrev pub outer_column : Bool → ℕ
 outer_column true = 63
 outer_column false = 0
 
--- the row `step` steps inwards from the outermost of some rows, which is the last one if rows count downwards, and
--- otherwise the first
+-- the row `step` steps inwards from the outermost row: the last row if rows count downwards, otherwise the first
 abbrev pub inner_row : Bool → RowSpan → ℕ → ℕ
 inner_row true rows step = rows.end - (step + 1)
 inner_row false rows step = rows.from + step

@@ -36,8 +36,8 @@ pub record IsOnBoard (at : Frame) (p : LeapWindow) : Type 0 where
 abbrev pub IsSameAt : LeapWindow → List Cell → List Cell → ℕ → ℕ → Type 0
 IsSameAt p one other i r = has one (cell_at (p.left +ℤ pos i) (p.top +ℤ pos r)) ≡ has other (cell_at (p.left +ℤ pos i) (p.top +ℤ pos r))
 
--- The generation with which the last one of a leap is compared: the one two before it, or an empty one after an odd
--- number of generations.
+-- The generation with which the last generation of a leap is compared: the generation two earlier, or an empty one if
+-- the number of generations is odd.
 abbrev pub compared_with : Numbers → List Cell → ℕ → List Cell
 compared_with rule cells n = if n % 2 == 0 then after rule cells (n - 2) else []
 

@@ -16,24 +16,24 @@ use Rattle.plane_core.specs.engine.LeapWindows.{MarksDifferences, IsInnerCell, c
 use Rattle.plane_core.specs.plane.Rules.{Numbers}
 use Rattle.plane_core.specs.windows.Windows.{IsShownInside}
 
--- in the inner part of a window, whose rows these are, a cell is in the list exactly if its bit is 1
+-- in the inner part of the window with these rows, a cell is in the list exactly if its bit is 1
 abbrev pub ShowsInner : LeapWindow → List ℕ → List Cell → Type 0
 ShowsInner p rows cells = (r i : ℕ) → 4 ≤ r → r + 4 < p.rows → 4 ≤ i → i < 60
     → has cells (cell_at (p.left +ℤ pos i) (p.top +ℤ pos r)) ≡ (bit_at (slice_index rows r) i == 1)
 
--- A window of n vectors was run: it is right from four cells inside its border on, and the change marks what is
--- different.
+-- A window of n vectors was run: it is right in all cells at least four inside its border, and the change marks the
+-- differences.
 abbrev pub IsRun : ℕ → Numbers → ℕ → List (List ℕ) → List (List ℕ) → DifferenceMask → Type 0
 IsRun n rule count x y change = (p : LeapWindow) (cells : List Cell) → p.rows ≡ 4 * n → InOrder cells → IsShownInside n p.left p.top 0 x cells
     → IsShownInside n p.left p.top 4 y (after rule cells count) × MarksDifferences p (after rule cells count) (compared_with rule cells count) change
 
 -- A window of the board was run: its inner rows are those of the board `count` generations later, and the change marks
--- what is different.
+-- the differences.
 abbrev pub IsRunAt : Frame → List ℕ → Numbers → ℕ → LeapWindow → List ℕ → DifferenceMask → Type 0
 IsRunAt at words rule count p rows change = (cells : List Cell) → InOrder cells → Shows at words cells
     → ShowsInner p rows (after rule cells count) × MarksDifferences p (after rule cells count) (compared_with rule cells count) change
 
--- Each window was run, and every cell that is different is in one of the boxes.
+-- Each window was run, and each cell of an inner part that differs is in one of the boxes.
 pub record AreRun (at : Frame) (words : List ℕ) (rule : Numbers) (count : ℕ) (places : List LeapWindow) (held : List (List ℕ))
     (boxes : List Bounds) : Type 0 where
   pub long : length places ≤ length held

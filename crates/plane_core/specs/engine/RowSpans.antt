@@ -30,7 +30,7 @@ LieInSpans at spans cells = (s r i : ℕ) → s < at.word_columns → r < at.row
 abbrev pub HoldCovered : Frame → List RowSpan → List LeapWindow → Type 0
 HoldCovered at spans places = (s r i : ℕ) → s < at.word_columns → r < at.rows → i < 64 → IsCovered places (board_cell at s r i) → IsInSpan spans s r
 
--- what is in the old spans is in the new ones
+-- each row in an old span is in the new span of the same word column
 abbrev pub AreWidened : List RowSpan → List RowSpan → Type 0
 AreWidened old new = (s r : ℕ) → IsInSpan old s r → IsInSpan new s r
 

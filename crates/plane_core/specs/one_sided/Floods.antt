@@ -15,7 +15,7 @@ pub record AreNear (reach a b : ℕ) : Type 0 where
 abbrev pub AreLinked : ℤ → ℤ → Cell → List Cell → List ℕ → Type 0
 AreLinked left top start cells flood = (r i : ℕ) → bit_in flood r i ≡ 1 → Linked cells start (cell_at (left +ℤ pos i) (top +ℤ pos r))
 
--- the flood has grown: what was in it still is, and if all of that was linked to some start, all of the new flood is
+-- the flood has grown: it keeps its bits, and if all old bits were linked to a start, all new bits are
 pub record HasGrown (rows old new : List ℕ) : Type 0 where
   pub kept : (r i : ℕ) → bit_in old r i ≡ 1 → bit_in new r i ≡ 1
   pub linked : (cells : List Cell) (start : Cell) (left top : ℤ) → ShowsInRows left top rows cells → AreLinked left top start cells old
@@ -40,7 +40,7 @@ IsClosedAt rows flood q j = (r i : ℕ) → bit_in flood r i ≡ 1 → AreNear 2
 abbrev pub IsClosed : List ℕ → List ℕ → Type 0
 IsClosed rows flood = (q j : ℕ) → 2 ≤ q → q < 62 → j < 64 → IsClosedAt rows flood q j
 
--- the flood is the cluster of bit i of row r: it is well inside the window, and has all that is linked to the bit
+-- the flood is the cluster of bit i of row r: it is well inside the window, and has exactly the cells linked to the bit
 pub record IsFlooded (rows flood : List ℕ) (r i : ℕ) : Type 0 where
   pub start : bit_in flood r i ≡ 1
   pub inside : LiesInside flood

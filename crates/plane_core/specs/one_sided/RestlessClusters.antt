@@ -24,12 +24,12 @@ pub record HasRestlessCluster (rule : Numbers) (cells : List Cell) (horizon peri
   pub is : IsCluster cells cluster
   pub why : Diverges rule cells cluster horizon ⊎ NeverRecurs rule cluster period
 
--- each pattern that the window of n vectors shows from this depth on has such a cluster
+-- each pattern that the window of n vectors shows from `depth` inside has a restless cluster
 abbrev pub AreAllRestless : Numbers → ℕ → List (List ℕ) → ℕ → ℕ → ℕ → Type 0
 AreAllRestless rule n window depth horizon period =
     (cells : List Cell) (left top : ℤ) → InOrder cells → IsShownInside n left top depth window cells → HasRestlessCluster rule cells horizon period
 
--- at least `depth` inside the windows, `alone` has a live cell that `whole` doesn't have: in column i of row r
+-- at least `depth` inside the windows, `alone` has a live cell, in column i of row r, that `whole` doesn't have
 pub record HasDivergingCell (n : ℕ) (whole alone : List (List ℕ)) (depth : ℕ) : Type 0 where
   pub r : ℕ
   pub i : ℕ

@@ -70,8 +70,8 @@ cornered (Some b) cells = shifted (neg_ℤ b.left) (neg_ℤ b.top) cells
 abbrev pub at_corner : List Cell → List Cell
 at_corner cells = cornered (box_of cells) cells
 
--- What is found is a displacement that moves S to T, if there is one. There is at most one, unless both are empty. In
--- that case, it is (0, 0).
+-- `found` is the displacement that moves S to T, or `None` if there isn't one. If S is nonempty, the displacement is
+-- unique. If S and T are empty, `found` is (0, 0).
 pub record FindsShift (S T : List Cell) (found : Option (ℤ × ℤ)) : Type 0 where
   pub some : IfSome found (λ v. shifted v.0 v.1 S ≡ T)
   pub none : IfNone found ((dx dy : ℤ) → shifted dx dy S ≢ T)

@@ -43,7 +43,7 @@ king_distance a b = max (distance a.x b.x) (distance a.y b.y)
 abbrev pub moved_by : ℤ → ℤ → Cell → Cell
 moved_by dx dy c = cell_at (c.x +ℤ dx) (c.y +ℤ dy)
 
--- a list that is in order, with c inserted at its place unless it is there already
+-- the ordered list with c inserted in its place, or unchanged if c is already a member
 abbrev pub put : Cell → List Cell → List Cell
 put c [] = c ∷ []
 put c (d ∷ ds) = match_ordering (cell_cmp c d) (c ∷ d ∷ ds) (d ∷ ds) (d ∷ put c ds)
@@ -78,6 +78,6 @@ pub record IsPattern (cells : List Cell) : Type 0 where
   pub in_order : InOrder cells
   pub on_plane : list_all on_plane cells ≡ true
 
--- two lists in order with the same members are the same list, so a set of cells has only one
+-- two ordered lists with the same members are equal, so each set of cells has a unique list
 abbrev pub SetsHaveOneList : Type 0
 SetsHaveOneList = (S T : List Cell) → InOrder S → InOrder T → ((c : Cell) → has S c ≡ has T c) → S ≡ T

@@ -29,7 +29,7 @@ triple c = moved_by (negsuc 0) (pos 0) c ∷ c ∷ moved_by (pos 1) (pos 0) c �
 abbrev pub neighbourhood : Cell → List Cell
 neighbourhood c = flat_map triple (moved_by (pos 0) (negsuc 0) c ∷ c ∷ moved_by (pos 0) (pos 1) c ∷ [])
 
--- the next generation: those cells of the pattern, and of the neighbourhoods of its cells, that are alive then
+-- the next generation: the cells in the neighbourhoods of the pattern's cells that are alive one generation later
 unfoldable pub next : Numbers → List Cell → List Cell
 next rule cells = filter (lives rule cells) (set_of (flat_map neighbourhood cells))
 
@@ -46,7 +46,7 @@ touches_edge cells = list_any on_edge cells
 abbrev pub lies_within : ℕ → List Cell → Bool
 lies_within reach cells = list_all (is_within reach) cells
 
--- the pattern never recurs: none of the generations from 1 to n is the pattern again, moved or not
+-- the pattern doesn't recur within n generations: none of the generations from 1 to n is a translate of it
 abbrev pub NeverRecurs : Numbers → List Cell → ℕ → Type 0
 NeverRecurs rule cells n = (p : ℕ) (dx dy : ℤ) → 1 ≤ p → p ≤ n → after rule cells p ≢ shifted dx dy cells
 
@@ -71,7 +71,7 @@ SpeedOfLight = (rule : Numbers) (cells : List Cell) (b : Bounds) (g : ℕ) → A
 abbrev pub SpeedFromOrigin : Type 0
 SpeedFromOrigin = (rule : Numbers) (cells : List Cell) (reach g : ℕ) → lies_within reach cells ≡ true → lies_within (reach + g) (after rule cells g) ≡ true
 
--- what is alive after g generations is within king distance g of a cell that was alive at the start
+-- each cell that is alive after g generations is within king distance g of a cell that was alive at the start
 abbrev pub SpeedOfCells : Type 0
 SpeedOfCells = (rule : Numbers) (cells : List Cell) (g : ℕ) (c : Cell) → has (after rule cells g) c ≡ true
     → (d : Cell) × (has cells d ≡ true) × (king_distance c d ≤ g)

@@ -23,11 +23,11 @@ turned_cell Flip c = cell_at c.x (neg_ℤ c.y)
 turned_cell Diagonal c = cell_at c.y c.x
 turned_cell AntiDiagonal c = cell_at (neg_ℤ c.y) (neg_ℤ c.x)
 
--- the cell to which a transform maps a cell, which is turned and then moved
+-- the image of a cell under a transform: the cell is turned, then moved
 abbrev pub landed : Transform → Cell → Cell
 landed p c = moved_by p.dx p.dy (turned_cell p.orientation c)
 
--- the transform that turns a pattern and moves its image, which has this box, to the corner; an empty image isn't moved
+-- the transform that turns a pattern and moves its image, whose box is given, to the corner; an empty image isn't moved
 abbrev pub corner_transform : Orientation → Option Bounds → Transform
 corner_transform o None = record { orientation = o; dx = pos 0; dy = pos 0 }
 corner_transform o (Some b) = record { orientation = o; dx = neg_ℤ b.left; dy = neg_ℤ b.top }

@@ -5,16 +5,16 @@ use Rattle.plane_core.specs.plane.Cells.{InOrder, has, king_distance, plane_boun
 use Rattle.plane_core.specs.plane.Generations.{after, lies_within}
 use Rattle.plane_core.specs.plane.Rules.{Numbers}
 
--- `later` is the pattern after n generations, and the pattern was so far inside that no cell has got past the bound
+-- `later` is the pattern after n generations, and the pattern began so far inside the plane that no cell has left it
 pub record HasRun (rule : Numbers) (cells : List Cell) (n : ℕ) (later : List Cell) : Type 0 where
   pub after : later ≡ after rule cells n
   pub inside : lies_within (plane_bound - n) cells ≡ true
 
--- the cells of one pattern are further than `far` from those of the other
+-- each cell of one pattern is at king distance more than `far` from each cell of the other
 abbrev pub LieFurther : ℕ → List Cell → List Cell → Type 0
 LieFurther far one other = (c d : Cell) → has one c ≡ true → has other d ≡ true → far < king_distance c d
 
--- the first `cut` cells of the list are further than `far` from the others, and there are some of both
+-- the list is split at `cut` into two nonempty parts that are further than `far` apart
 pub record IsCut (far : ℕ) (cells : List Cell) (cut : ℕ) : Type 0 where
   pub some : 1 ≤ cut
   pub within : cut < length cells

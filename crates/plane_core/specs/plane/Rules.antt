@@ -24,8 +24,8 @@ pub record IsRule (rule : Numbers) : Type 0 where
   pub births : length rule.births ≡ 8
   pub survivals : length rule.survivals ≡ 9
 
--- the digits of the numbers for which the table answers true, ascending; the table's first answer is the one for n, and
--- `0` is byte 48
+-- the digits, ascending, of the numbers for which the table answers true; the table's first answer is for n, and `0` is
+-- byte 48
 unfoldable pub digits : ℕ → List Bool → List ℕ
 digits n [] = []
 digits n (true ∷ more) = (48 + n) ∷ digits (n + 1) more
@@ -42,8 +42,8 @@ pub record BeginsRule (text : List ℕ) : Type 0 where
   pub is_rule : IsRule rule
   pub spelled : rule_text rule ≡ text ++ remainder
 
--- The bytes before the place are a prefix of the text of some rule, and with the byte at the place they aren't. At the
--- text's end, there is no such byte.
+-- The bytes before the place are a prefix of the text of some rule. The bytes up to and including the place aren't,
+-- unless the place is the text's end.
 pub record IsFirstFault (text : List ℕ) (place : ℕ) : Type 0 where
   pub within : place ≤ length text
   pub before : BeginsRule (take place text)
@@ -54,7 +54,7 @@ pub record Reading : Type 0 where
   pub logic : List Bool
   pub remainder : List ℕ
 
--- what was read, with one more answer before the others
+-- the reading with one more answer in front
 abbrev pub with_answer : Bool → Reading → Reading
 with_answer next_cells read = record { logic = next_cells ∷ read.logic; remainder = read.remainder }
 
@@ -62,7 +62,7 @@ with_answer next_cells read = record { logic = next_cells ∷ read.logic; remain
 abbrev pub begins : List ℕ → List ℕ → Bool
 begins text prefix = starts_with nat_eq text prefix
 
--- reads the answers for some numbers from n on: true for each whose digit is next in the text
+-- the answers for consecutive numbers from n on: true for each number whose digit comes next in the text
 unfoldable pub numbers_at : ℕ → ℕ → List ℕ → Reading
 numbers_at zero n text = record { logic = []; remainder = text }
 numbers_at (suc more) n text =
@@ -70,7 +70,7 @@ numbers_at (suc more) n text =
     then with_answer true (numbers_at more (n + 1) (drop 1 text))
     else with_answer false (numbers_at more (n + 1) text)
 
--- the fault at the place where this remainder of the text begins
+-- the fault at the place where the remainder begins
 abbrev pub rule_fault_at : List ℕ → List ℕ → Result Numbers RuleFault
 rule_fault_at text remainder = Err (BadRule (length text - length remainder))
 

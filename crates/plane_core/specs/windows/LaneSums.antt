@@ -24,11 +24,11 @@ total_of t j i = bit_of t.ones j i + 2 * bit_of t.twos j i + 4 * bit_of t.fours 
 abbrev pub row_sum : ℕ → ℕ → ℕ
 row_sum word i = west_of 0 word i + bit_at word i + east_of word 0 i
 
--- at each cell, the sum `all` is the sum `beside` and the cell itself
+-- at each cell, the sum `all` is the sum `beside` plus the cell itself
 abbrev pub AreBeside : RowSums → List ℕ → Type 0
 AreBeside row now = (j i : ℕ) → j < 4 → sum_of row.all j i ≡ sum_of row.beside j i + bit_of now j i
 
--- the cells of `next` are those that live by the rule, if the sums of the rows above, here and below are added up
+-- `next` has the cells that live by the rule, counted as the total of the sums of the rows above, here and below
 abbrev pub AnswersRows : Numbers → Sum → Sum → Sum → List ℕ → List ℕ → Type 0
 AnswersRows rule up here down now next =
     (j i : ℕ) → j < 4 → i < 64 → bit_of next j i ≡ one_if (lives_by rule (sum_of up j i + sum_of here j i + sum_of down j i) (bit_of now j i == 1))

@@ -36,8 +36,8 @@ IsNextRow rule above here below next =
 abbrev pub IsNextWindow : Numbers → ℕ → List (List ℕ) → List (List ℕ) → Type 0
 IsNextWindow rule n x y = (r : ℕ) → r < 4 * n → IsNextRow rule (row_above n x r) (row_at n x r) (row_below n x r) (row_at n y r)
 
--- Vector k of a window was advanced by one generation, from the sums of the rows above it, here and below it. Those
--- below are the sums of the next vector.
+-- Vector k of a window was advanced by one generation, using the sums of the rows above, here and below. The sums below
+-- are those of the next vector.
 pub record IsVectorMade (rule : Numbers) (k : ℕ) (up : Sum) (here below : RowSums) (old new : List (List ℕ)) : Type 0 where
   pub next : List ℕ
   pub is : new ≡ set old k next
@@ -45,12 +45,12 @@ pub record IsVectorMade (rule : Numbers) (k : ℕ) (up : Sum) (here below : RowS
   pub sums : (j i : ℕ) → j < 4 → i < 64 → sum_of below.all j i ≡ row_sum (lane_at old (k + 1) j) i
   pub beside : AreBeside below (slice_index_or old (k + 1) [])
 
--- at least `depth` inside the window, whose first cell is (left, top), its bits are the cells of the list
+-- the window, whose first cell is (left, top), shows the list in all cells at least `depth` inside it
 abbrev pub IsShownInside : ℕ → ℤ → ℤ → ℕ → List (List ℕ) → List Cell → Type 0
 IsShownInside n left top depth x cells = (r i : ℕ) → depth ≤ r → r + depth < 4 * n → depth ≤ i → i + depth < 64
     → has cells (cell_at (left +ℤ pos i) (top +ℤ pos r)) ≡ (bit_at (row_at n x r) i == 1)
 
--- The second window is the first one some generations later, if the first shows a pattern: it is right that many cells further inside.
+-- If the first window shows a pattern, the second shows it `count` generations later, `count` cells further inside.
 abbrev pub IsLaterWindow : Numbers → ℕ → List (List ℕ) → List (List ℕ) → ℕ → Type 0
 IsLaterWindow rule n x y count = (cells : List Cell) (left top : ℤ) (depth : ℕ) → InOrder cells → IsShownInside n left top depth x cells
     → IsShownInside n left top (depth + count) y (after rule cells count)

@@ -96,7 +96,7 @@ pub(crate) fn join_all(cells: &[Cell], parents: &mut [usize])
     }
 }
 
-/// Returns the rows above a place, from those above the place before.
+/// Computes the rows above a place from the rows above the previous place.
 #[inline(always)]
 fn rows_above(cells: &[Cell], place: usize, rows: RowsAbove) -> RowsAbove
     requires pattern { IsPattern cells.now }

@@ -31,8 +31,8 @@ use crate::windows::window::generations_with_logic;
 use memory::OutOfMemory;
 use std::simd::u64x4;
 
-/// Runs a window for `count` generations, 1 to 4. Returns where the last generation differs from the one two before it
-/// if `count` is even, and where there are live cells if `count` is odd.
+/// Runs a window for `count` generations, 1 to 4. Returns where the last generation differs from the generation two
+/// earlier if `count` is even, and where there are live cells if `count` is odd.
 #[inline(always)]
 fn run<const N: usize, A: CellLogic>(
     window: &mut [u64x4; N],

@@ -43,9 +43,9 @@ pub(crate) fn row_of(at: Frame, window: LeapWindow) -> usize
     (window.top - at.top) as usize
 }
 
-/// Reads the rows of a window that begins in column `x` and row `y` of the board. Each consists of the end of a word of
-/// the first word column and the beginning of one of the second. Four rows are read at a time, and what is left of them
-/// one by one.
+/// Reads the rows of a window that begins in column `x` and row `y` of the board. Each row consists of the end of a
+/// word of the first word column and the beginning of a word of the second. Four rows are read at a time, and the
+/// remaining rows one by one.
 #[inline(always)]
 pub(crate) fn read_rows<const R: usize>(words: &[u64], at: Frame, x: usize, y: usize) -> [u64; R]
     requires long { FillsFrame at words.now }
@@ -214,7 +214,7 @@ fn write_rows(words: &mut [u64], at: Frame, x: usize, y: usize, rows: &[u64; 64]
 }
 
 /// Puts the inner part of a window back: the inner columns of its rows from 4 to before `end`. The window begins in
-/// column `x` and row `y` of the board. Four rows are put back at a time, and what is left of them one by one.
+/// column `x` and row `y` of the board. Four rows are put back at a time, and the remaining rows one by one.
 #[inline(always)]
 pub(crate) fn write(words: &mut [u64], at: Frame, x: usize, y: usize, end: usize, rows: &[u64; 64])
     requires long { FillsFrame at words.old }

@@ -1,4 +1,4 @@
--- A pattern has one finding.
+-- A pattern has at most one finding.
 use Rattle.std.proofs.Common.{◌≡◌, ◌≢◌, ◌∙◌, ◌↔◌, IsTrue, ap, sym, refl, subst, ℕ, suc, ◌≤◌, Bool, false, List, [], ◌∷◌, All, get_or}
 use Rattle.std.proofs.Common.{arith, count_by, Some, unwrap_or, inl, inr, eq-or-lt_of_le, cond}
 use Rattle.std.specs.Cmp.{both_ways as both_true, tied_itself}
@@ -27,7 +27,7 @@ use Rattle.survey_core.proofs.lemmas.rest.RestLemmas.{cluster_some}
 
 -- ---- objects
 
--- the codes of clusters are the only ones
+-- the codes of some clusters are unique
 one_list_of_codes : (rule : Numbers) (limit : ℕ) (clusters : List (List Cell)) (one other : List (List ℕ)) → All (λ cluster. cluster ≢ []) clusters
     → AllZip (λ cluster code. IsCode rule cluster limit code) clusters one → AllZip (λ cluster code. IsCode rule cluster limit code) clusters other
     → one ≡ other
@@ -44,7 +44,7 @@ one_list_of_codes rule limit (x ∷ xs) (y ∷ ys) (z ∷ zs) some h k =
 abbrev pub code_cmp : List ℕ → List ℕ → Ordering
 code_cmp a b = slice_cmp nat_cmp a b
 
--- the code stands before those of the objects
+-- the code comes before the code of each object
 abbrev pub CodeBefore : List ℕ → List (List ℕ × ℕ) → Type 0
 CodeBefore code [] = Unit {0}
 CodeBefore code (object ∷ objects) = (code_cmp code object.0 ≡ Less) × CodeBefore code objects
@@ -67,7 +67,7 @@ pub in_order-tail : (object : List ℕ × ℕ) (objects : List (List ℕ × ℕ)
 unfolding IsStrictlySortedBy
 in_order-tail object objects h = h.1
 
--- a code before all others isn't counted
+-- a code that comes before the code of each object has the count 0
 pub count-before : (code : List ℕ) (objects : List (List ℕ × ℕ)) → CodeBefore code objects → count_of objects code ≡ 0
 count-before code [] h = refl
 count-before code (object ∷ objects) h =
@@ -77,7 +77,7 @@ pub count-head : (object : List ℕ × ℕ) (objects : List (List ℕ × ℕ)) �
 count-head object objects =
     ap (λ (b : Bool). unwrap_or (cond b (Some object.1) (lookup (is_code object.0) objects)) 0) (ap is_eq (tied_itself nat_list_cmp_total object.0))
 
--- the first code of a list isn't before that of a sorted list that counts it as often
+-- the first code of a list doesn't come before the first code of a sorted list that counts it equally often
 not_before : (x y : List ℕ × ℕ) (xs ys : List (List ℕ × ℕ)) → 1 ≤ x.1 → IsStrictlySortedBy (slice_cmp nat_cmp) (keys_of (y ∷ ys))
     → count_of (x ∷ xs) x.0 ≡ count_of (y ∷ ys) x.0 → code_cmp x.0 y.0 ≢ Less
 not_before x y xs ys some order same less =
@@ -85,7 +85,7 @@ not_before x y xs ys some order same less =
     let one : x.1 ≡ 0 = sym (count-head x xs) ∙ same ∙ none in
     absurd (omega arith)
 
--- lists of objects with the same counts are one
+-- sorted lists of objects with the same counts are equal
 one_list : (one other : List (List ℕ × ℕ)) → IsStrictlySortedBy (slice_cmp nat_cmp) (keys_of one) → IsStrictlySortedBy (slice_cmp nat_cmp) (keys_of other)
     → All (λ object. 1 ≤ object.1) one → All (λ object. 1 ≤ object.1) other
     → ((code : List ℕ) → count_of one code ≡ count_of other code) → one ≡ other
@@ -130,7 +130,7 @@ one_list_of_objects one other h k same = one_list one other h.in_order k.in_orde
 
 -- ---- findings
 
--- a pattern at rest consists of these objects alone
+-- the objects of a pattern at rest are unique
 same_objects : (rule : Numbers) (profile : Settling) (cells : List Cell) (one other : List (List ℕ × ℕ)) (good fine : Bool)
     → IsSettled rule profile cells one good → IsSettled rule profile cells other fine → one ≡ other
 same_objects rule profile cells one other good fine h k =
@@ -142,7 +142,7 @@ same_objects rule profile cells one other good fine h k =
     one_list_of_objects one other h.counted.lawful counted.lawful
     (λ code. h.counted.counts code ∙ ap (λ (list : List (List ℕ)). count_by (is_code code) list) codes ∙ sym (counted.counts code))
 
--- which stay for good or not
+-- the mark that says whether they stay for good is unique, too
 same_mark : (rule : Numbers) (profile : Settling) (cells : List Cell) (objects : List (List ℕ × ℕ)) (good fine : Bool)
     → IsSettled rule profile cells objects good → IsSettled rule profile cells objects fine → good ≡ fine
 same_mark rule profile cells objects good fine h k =

@@ -38,14 +38,14 @@ next_checkpoint profile t here within = record {
   within = within;
 }
 
--- whether there is a next one, as the program asks
+-- the program's test of whether the next checkpoint is within the limit
 pub room_for_more : (limit stride l s t : ℕ) → l ≡ limit → s ≡ stride → t ≤ limit → s ≤ l - t → t + stride ≤ limit
 room_for_more limit stride l s t l_is s_is here room = omega arith
 
 pub no_room : (limit stride l s t : ℕ) → l ≡ limit → s ≡ stride → l - t < s → limit < t + stride
 no_room limit stride l s t l_is s_is room = omega arith
 
--- a place before the next one is this one or before it
+-- a multiple of the stride that comes before the next one is this one or comes before it
 by_place : (stride place other : ℕ) → 1 ≤ stride → other * stride < place * stride + stride
     → (other * stride ≡ place * stride) ⊎ (other * stride < place * stride)
 by_place stride place other some low = elim (eq-or-lt_of_le below) [
@@ -59,14 +59,14 @@ by_place stride place other some low = elim (eq-or-lt_of_le below) [
     below : other ≤ place
     below = omega (arith, earlier)
 
--- a checkpoint before the next one is this one or before it
+-- a checkpoint before the next one is this checkpoint or an earlier one
 this_or_before : (profile : Settling) (t u : ℕ) → 1 ≤ profile.stride → IsCheckpoint profile t → IsCheckpoint profile u
     → u < t + profile.stride → (u ≡ t) ⊎ (u < t)
 this_or_before profile t u some here is low =
     subst₂ (λ (v w : ℕ). (v ≡ w) ⊎ (v < w)) (sym is.is) (sym here.is)
     (by_place profile.stride here.place is.place some (subst₂ (λ (v w : ℕ). v < w + profile.stride) is.is here.is low))
 
--- no rest before the next checkpoint either
+-- if there is no rest at this checkpoint or before it, there is none before the next checkpoint
 pub no_rest_more : (rule : Numbers) (profile : Settling) (cells latest : List Cell) (t : ℕ) → 1 ≤ profile.stride → IsCheckpoint profile t
     → latest ≡ after rule cells t → NoRestBefore rule profile cells t → ¬ IsAtRest rule profile latest
     → NoRestBefore rule profile cells (t + profile.stride)
@@ -75,7 +75,7 @@ no_rest_more rule profile cells latest t some here is before moves u check low r
   | inr earlier ↦ before u check earlier rest
 ]
 
--- the finding at a checkpoint before which there is no rest is that of the pattern
+-- if there is no rest before a checkpoint, the finding at this checkpoint is the finding of the pattern
 pub finding_from : (rule : Numbers) (profile : Settling) (cells latest : List Cell) (t : ℕ) (finding : Finding) → SettlesAt rule profile latest t finding
     → latest ≡ after rule cells t → IsCheckpoint profile t → NoRestBefore rule profile cells t → IsFinding rule profile cells finding
 finding_from rule profile cells latest t (Settled u objects good) (same, settled) is check before = (
@@ -85,7 +85,7 @@ finding_from rule profile cells latest t (Settled u objects good) (same, settled
 )
 finding_from rule profile cells latest t Unsettled settled is check before = absurd settled
 
--- where the last checkpoint has none, the pattern has none
+-- if there is no rest up to the last checkpoint, the pattern is unsettled
 pub none_at_last : (rule : Numbers) (profile : Settling) (cells latest : List Cell) (t : ℕ) → ¬ IsAtRest rule profile latest
     → latest ≡ after rule cells t → 1 ≤ profile.stride → IsCheckpoint profile t → profile.limit < t + profile.stride
     → NoRestBefore rule profile cells t → IsFinding rule profile cells Unsettled

@@ -1,4 +1,4 @@
--- Parts that share no cell and make up the whole, as lists: joined, they have each cell of the whole, and no cell twice.
+-- Partitions as lists: the joined parts have each cell of the whole exactly once.
 use Rattle.std.proofs.Common.{◌≡◌, ◌∙◌, ap, sym, refl, subst, inl, inr, zero, suc, ◌+◌, ◌≤◌, Bool, true, false, ◌||◌, ◌&&◌, List, [], ◌∷◌, ◌++◌, All}
 use Rattle.std.proofs.Common.{AllPairs, flat_map, arith, length}
 use Rattle.std.specs.Bool.{Decides}
@@ -16,7 +16,7 @@ use Rattle.plane_core.specs.clusters.Clusters.{Partition}
 use Rattle.plane_core.proofs.lemmas.plane.SetLemmas.{before-trans, has-append, has-before, has-cases, has-head, has-set_of, in_order-head, in_order-set_of}
 use Rattle.plane_core.proofs.lemmas.plane.SetLemmas.{in_order-tail, is_set_of}
 
--- two cells are equal where their coordinates are
+-- two cells are equal if and only if their coordinates are
 pub cell_decides : (a b : Cell) → Decides (int_eq a.y b.y && int_eq a.x b.x) (a ≡ b)
 cell_decides a b = (
   λ e. let parts = and_parts (int_eq a.y b.y) (int_eq a.x b.x) e in
@@ -26,15 +26,15 @@ cell_decides a b = (
   λ e. and_from (int_eq a.y b.y) (int_eq a.x b.x) ((Decides-int_eq a.y b.y).1 (λ i. (e i).y)) ((Decides-int_eq a.x b.x).1 (λ i. (e i).x)),
 )
 
--- the cells of the parts
+-- the cells of the parts, one part after another
 abbrev pub joined : List (List Cell) → List Cell
 joined parts = flat_map (λ part. part) parts
 
--- the two share no cell
+-- the two patterns share no cell
 abbrev pub Disjoint : List Cell → List Cell → Type 0
 Disjoint a b = (c : Cell) → has a c ≡ true → has b c ≡ false
 
--- a cell is in the list of all cells where it is in some part
+-- a cell is among the joined cells if and only if it is in some part
 pub has-joined : (parts : List (List Cell)) (c : Cell) → has (joined parts) c ≡ list_any (λ part. has part c) parts
 has-joined [] c = refl
 has-joined (part ∷ parts) c = has-append part (joined parts) c ∙ ap (λ (b : Bool). has part c || b) (has-joined parts c)
@@ -80,7 +80,7 @@ length-set_of_le (c ∷ cells) =
 
 -- ---- from disjoint parts to lengths
 
--- a list in order, before cells that it doesn't share
+-- if an ordered prefix and a remainder are disjoint, their numbers of cells add up
 prefix_adds : (prefix remainder : List Cell) → InOrder prefix → Disjoint prefix remainder → length (set_of (prefix ++ remainder)) ≡ length prefix + length (set_of remainder)
 prefix_adds [] remainder order apart = omega arith
 prefix_adds (c ∷ cs) remainder order apart =
@@ -95,13 +95,13 @@ prefix_adds (c ∷ cs) remainder order apart =
     or_right true b e = refl
     or_right false b e = e
 
--- a part that shares no cell with any other shares none with all of them
+-- a part that is disjoint from each of some parts is disjoint from all of them joined
 apart_from_all : (part : List Cell) (parts : List (List Cell)) → All (Disjoint part) parts → Disjoint part (joined parts)
 apart_from_all part [] apart c h = refl
 apart_from_all part (other ∷ others) apart c h =
     has-append other (joined others) c ∙ (λ i. apart 0 [] (omega arith) c h i || apart_from_all part others (λ k d low. apart (suc k) d (omega arith)) c h i)
 
--- disjoint parts have as many cells as their union
+-- the union of disjoint parts has as many cells as the parts together
 length-joined : (parts : List (List Cell)) → All InOrder parts → AllPairs Disjoint parts → length (set_of (joined parts)) ≡ length (joined parts)
 length-joined [] orders apart = refl
 length-joined (part ∷ parts) orders apart =
@@ -115,7 +115,7 @@ length-joined (part ∷ parts) orders apart =
 
 -- ---- from lengths to disjoint parts
 
--- where nothing is lost in the union, the front shares no cell with the rest, and nothing is lost in the rest
+-- if a list has no duplicates, its prefix and its remainder are disjoint, and the remainder has no duplicates
 prefix_apart : (prefix remainder : List Cell) → length (set_of (prefix ++ remainder)) ≡ length (prefix ++ remainder) → Disjoint prefix remainder × (length (set_of remainder) ≡ length remainder)
 prefix_apart [] remainder same = (λ c h. absurd (false≢true h), same)
 prefix_apart (c ∷ cs) remainder same = elim (cases_Bool (has (set_of (cs ++ remainder)) c)) [
@@ -152,7 +152,7 @@ disjoint_parts (part ∷ parts) same =
 
 -- ---- the two together
 
--- parts of a partition, joined, are the whole
+-- the union of the parts of a partition is the whole
 pub set_of-joined : (whole : List Cell) (parts : List (List Cell)) → InOrder whole → Partition whole parts → set_of (joined parts) ≡ whole
 set_of-joined whole parts order is = sym (is_set_of whole (joined parts) order (λ c. sym (has-joined parts c ∙ is.union c)))
 
@@ -160,7 +160,7 @@ pub length-partition : (whole : List Cell) (parts : List (List Cell)) → InOrde
     → length (joined parts) ≡ length whole
 length-partition whole parts order orders is = sym (length-joined parts orders is.disjoint) ∙ ap length (set_of-joined whole parts order is)
 
--- and where they are the whole and no longer than it, they are a partition
+-- parts are a partition if their union is the whole and they have as many cells together as the whole
 pub partition_from : (whole : List Cell) (parts : List (List Cell)) → length (joined parts) ≡ length whole → set_of (joined parts) ≡ whole
     → Partition whole parts
 partition_from whole parts long same = record {

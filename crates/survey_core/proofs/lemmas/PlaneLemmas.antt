@@ -1,4 +1,4 @@
--- Cells that lie near the origin, and so on the plane.
+-- Cells that lie near the origin, and therefore on the plane.
 use Rattle.std.proofs.Common.{◌≡◌, ◌∙◌, ap, sym, refl, ℕ, suc, ◌+◌, ◌<◌, ◌≤◌, true, false, not, List, [], ◌∷◌, All, flat_map, position, get_or}
 use Rattle.std.proofs.Common.{length, Option, None, Some, arith, nat_le, pos, unsigned_abs}
 use Rattle.std.specs.List.{list_all}
@@ -25,12 +25,12 @@ pub within_more : (near far : ℕ) (cells : List Cell) → near ≤ far → lies
 within_more near far cells low within =
     has-list_all (is_within far) cells (λ c e. is_within-more near far c low (list_all-has (is_within near) cells within c e))
 
--- and so do their later generations
+-- after g generations a pattern lies within a reach that is greater by g or more
 pub within_later : (near far : ℕ) (rule : Numbers) (cells : List Cell) (g : ℕ) → near + g ≤ far → lies_within near cells ≡ true
     → lies_within far (after rule cells g) ≡ true
 within_later near far rule cells g low within = within_more (near + g) far (after rule cells g) low (within-after rule cells near g within)
 
--- the cells of patterns that all do
+-- if each of some parts lies within a reach, so do all their cells
 pub within_all : (reach : ℕ) (parts : List (List Cell)) → All (λ part. lies_within reach part ≡ true) parts
     → lies_within reach (flat_map (λ part. part) parts) ≡ true
 within_all reach [] each = refl

@@ -28,7 +28,7 @@ all_visible bytes e = reached bytes (whole (nat_lt (prefix_len (λ b. not (is_in
         head true h ih = ih (omega arith)
         head false h ih = absurd (omega arith)
 
--- what a text that isn't too long is read as
+-- the first invisible byte determines how a text that isn't too long is read
 pub read_as : (text : List ℕ) (found : Option ℕ) → length text ≤ 64 → position is_invisible text ≡ found
     → seed_with_fault text found ≡ seed_read text
 read_as text found short is = go (nat_lt most_bytes (length text)) refl
@@ -38,7 +38,7 @@ read_as text found short is = go (nat_lt most_bytes (length text)) refl
     go true e = let long : 64 < length text = ltb-true 64 (length text) e in absurd (omega (arith, long, short))
     go false e = ap (seed_with_fault text) (sym is)
 
--- one byte more is written over the zeros
+-- the next byte is written over a zero
 pub padded_more : (bytes : List ℕ) (place : ℕ) → place < length bytes → length bytes ≤ 64
     → set (take place bytes ++ replicate (64 - place) 0) place (get_or bytes place 0)
     ≡ take (place + 1) bytes ++ replicate (64 - (place + 1)) 0
@@ -57,7 +57,7 @@ padded_all bytes place low high =
     let end : place ≡ length bytes = omega arith in
     (λ i. take_all place bytes high i ++ replicate (64 - end i) 0)
 
--- the first byte that isn't visible, of those from a place on
+-- the first invisible byte from place i on: byte i, or the first one after it
 from_place : (bytes : List ℕ) (i : ℕ) → i < length bytes
     → position_from is_invisible i (drop i bytes)
     ≡ cond (is_invisible (get_or bytes i 0)) (Some i) (position_from is_invisible (i + 1) (drop (i + 1) bytes))

@@ -1,4 +1,4 @@
--- The live cells of the square, one place after another, and that they lie near the origin.
+-- The live cells of the square, one place after another. They lie near the origin.
 use Rattle.std.proofs.Common.{◌≡◌, ◌∙◌, ap, sym, refl, ℕ, zero, suc, ◌+◌, ◌<◌, ◌≤◌, ◌/◌, ◌%◌, Bool, true, false, List, [], ◌∷◌, ◌++◌}
 use Rattle.std.proofs.Common.{filter, map, set, take, length, arith, cond, add-zero, add-one, zero-add, nat_le, All, decimal, eq-or-lt_of_le, inl, inr, pos, subst, unsigned_abs, ◌*◌}
 use Rattle.std.proofs.lemmas.Int.{ints}
@@ -27,7 +27,7 @@ pub live_cells_none : (digest : List ℕ) → live_in_square digest 0 ≡ []
 unfolding live_in_square
 live_cells_none digest = refl
 
--- one place more
+-- the live cells with one more place
 one_more : (digest : List ℕ) (n : ℕ) → live_in_square digest (n + 1) ≡ live_in_square digest n ++ map square_cell (cond (is_alive_at digest n) (n ∷ []) [])
 unfolding live_in_square
 one_more digest n =
@@ -44,7 +44,7 @@ pub live_cells_dead : (digest : List ℕ) (n : ℕ) → is_alive_at digest n ≡
 live_cells_dead digest n dead =
     one_more digest n ∙ ap (λ (b : Bool). live_in_square digest n ++ map square_cell (cond b (n ∷ []) [])) dead ∙ append-nil (live_in_square digest n)
 
--- a place more, whose cell is put after the live cells before it, and counts if it is alive
+-- the cell of one more place is stored after the live cells so far, and counted if it is alive
 pub one_more_place : (digest : List ℕ) (n count added : ℕ) (cells : List Cell) (cell : Cell) (alive : Bool) → count < length cells
     → alive ≡ is_alive_at digest n → (alive ≡ true → added ≡ 1) → (alive ≡ false → added ≡ 0) → cell ≡ square_cell n
     → take count cells ≡ live_in_square digest n → (added ≤ 1) × (take (count + added) (set cells count cell) ≡ live_in_square digest (n + 1))
@@ -96,7 +96,7 @@ different m k low = false_unless (same_cell (square_cell m) (square_cell k)) (λ
     let y : m / 16 ≡ k / 16 = ap (λ (c : Cell). unsigned_abs c.y) same in
     omega arith)
 
--- the cell at a place before those listed is none of them
+-- the cell at a place before the range isn't listed
 absent : (p : ℕ → Bool) (a n m : ℕ) → m < a → has (map square_cell (filter p (range_with_len a n))) (square_cell m) ≡ false
 absent p a zero m low = refl
 absent p a (suc n) m low = go (p a) (absent p (a + 1) n m (omega arith))
@@ -106,7 +106,7 @@ absent p a (suc n) m low = go (p a) (absent p (a + 1) n m (omega arith))
     go true remainder = rw (different m a low) remainder
     go false remainder = remainder
 
--- and the one at a place among them is alive exactly if it passes
+-- the cell at a place in the range is listed if and only if the place passes the test
 present : (p : ℕ → Bool) (a n m : ℕ) → a ≤ m → m < a + n → has (map square_cell (filter p (range_with_len a n))) (square_cell m) ≡ p m
 present p a zero m low high = absurd (omega arith)
 present p a (suc n) m low high = elim (eq-or-lt_of_le low) [

@@ -32,8 +32,8 @@ pub record IsAheadOf (rule : Numbers) (way : Orientation) (m : ℤ) (r : Recurre
   pub none_behind : (g : ℕ) → g < r.period → LiesFrom way from (after rule spaceship g)
   pub room : ((pos 2 *ℤ m) +ℤ pos (r.period + 10)) ≤ℤ (pos 2 *ℤ from)
 
--- Under a slow rule, everything up to depth m now stays more than two cells away from the spaceship, and so does
--- everything that lies up to depth m + k another n generations later, where k is at most half of n + 1.
+-- Under a slow rule, a pattern that lies up to depth m + k when the spaceship is n generations old, where k is at most
+-- half of n + 1, stays more than two cells away from the spaceship.
 abbrev pub SpaceshipsStayAhead : Type 0
 SpaceshipsStayAhead = (rule : Numbers) (way : Orientation) (m : ℤ) (r : Recurrence) (spaceship cells : List Cell) (n k g : ℕ) → is_slow rule ≡ true
     → IsAheadOf rule way m r spaceship → InOrder cells → LiesUpTo way (m +ℤ pos k) cells → 2 * k ≤ n + 1
@@ -51,7 +51,7 @@ pub record IsForemost (rule : Numbers) (whole : List Cell) (r : Recurrence) (spa
   pub ahead : IsAheadOf rule way m r spaceship
   pub behind : LiesUpTo way m (without whole spaceship)
 
--- a pattern with such a part evolves as that part and the rest do, each run alone
+-- a pattern with a foremost part evolves as this part and the rest do, each run alone
 abbrev pub SpaceshipsRunAlone : Type 0
 SpaceshipsRunAlone = (rule : Numbers) (whole : List Cell) (r : Recurrence) (spaceship : List Cell) → is_slow rule ≡ true → InOrder whole
     → IsForemost rule whole r spaceship

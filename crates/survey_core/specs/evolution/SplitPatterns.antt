@@ -25,7 +25,8 @@ whole_at rule t board spaceships = union_of (board ∷ map (spaceship_at rule t)
 abbrev pub IsNoneOf : List Spaceship → List Cell → Type 0
 IsNoneOf spaceships cells = All (λ spaceship. spaceship.cells ≢ cells) spaceships
 
--- Clusters of what the board showed before some of them were removed as spaceships. The others are still parts of it.
+-- Clusters of an earlier board, some of which may have been removed as spaceships since then. The others are still
+-- parts of the board.
 pub record AreCandidates (board : List Cell) (spaceships : List Spaceship) (clusters : List (List Cell)) : Type 0 where
   pub before : List Cell
   pub each : All (IsCluster before) clusters

@@ -69,7 +69,7 @@ returns g c =
     let diagnostics = stream g.E.Write.contents c.args.machine.now.errors c.do_arguments-status.new.machine.errors in
     let status = c.do_arguments-status.result in
     let sent = c.send_buffered-status.ensures in
-    -- the buffer was empty at the start, and what was written to it stands below it, but for what it still holds
+    -- the buffer was empty at first; the writer below has what was written to it, except what the buffer still holds
     let starts : written.before ≡ before = ap (writer_contents g.W.Write.contents) c.new-output.ensures.writer
     ∙ ap₂ append_known (ap g.W.Write.contents c.in-Ok.ensures.inner) c.in-Ok.ensures.empty ∙ append_nothing before in
     let kept : Keeps written.after (append_known below held) = rw (c.into_parts-writer.ensures.inner, ← c.into_inner-buffered.ensures) sent.bytes in

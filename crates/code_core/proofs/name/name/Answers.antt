@@ -4,7 +4,7 @@ use Rattle.code_core.specs.Recurrences.{IsCycle, SearchEnds}
 use Rattle.code_core.proofs.RecurrenceLemmas.{found_as}
 use Rattle.code_core.proofs.name.name.Goals as goal
 
--- the name by the phases is that of the pattern
+-- the apgcode made from the phases is the apgcode of the pattern
 pub returns-in_ok-name_of-in-Some : goal.returns-in_ok-name_of-in-Some
 returns-in_ok-name_of-in-Some c =
     let rule = c.args.rule.now in

@@ -24,7 +24,7 @@ returns-in_err-next c =
     ))
     (sym c.touches_edge.ensures ∙ c.if-touches_edge.false)
 
--- the shift that was found is that of the recurrence
+-- the recurrence has the shift that was found
 pub returns-in-Some : goal.returns-in-Some
 returns-in-Some c =
     let rule = c.args.rule.now in

@@ -13,11 +13,11 @@ use Rattle.crew.specs.Crews.{HasSoupOf}
 use Rattle.crew.proofs.CrewLemmas.{refused_was_taken, taken_last}
 use Rattle.crew.proofs.collector.offer.Goals as goal
 
--- an answer with no refusal is none of the refusals
+-- `None` is not a reason for a refusal
 taken_is_answer : (reason : OfferError) → None ≢ Some reason
 taken_is_answer reason e = absurd (cc)
 
--- no reason of the book is memory
+-- the book never refuses for lack of memory
 no_memory : (closed job over inside : Bool) (worker : Option ℕ)
     → (if closed then Some Closed else if not job then Some OtherJob else if over then Some UnknownWorker else if not inside then Some OutOfRange
     else double worker)
@@ -29,7 +29,7 @@ no_memory false true false false worker e = absurd (cc)
 no_memory false true false true None e = absurd (cc)
 no_memory false true false true (Some w) e = absurd (cc)
 
--- where memory runs out, the book takes the offer
+-- if memory ran out at an offer, the book takes the offer
 book_takes : (terms : Terms) (before : List Arrival) (r : Reported) (given : Option OfferError) → IsReply given (refusal_of terms before r)
     → given ≡ Some (Memory out_of_memory) → refusal_of terms before r ≡ None
 book_takes terms before r given (inl same) e = absurd (no_memory (has_closing before) (same_job terms.job r.job) (nat_lt terms.workers r.worker)

@@ -2,7 +2,7 @@ use Rattle.std.proofs.Common.{◌≡◌, ◌≤◌, ◌+◌, ◌-◌, ◌^◌, l
 use Rattle.std.specs.Io.KnownBytes.{Consumes}
 use Rattle.pattern_commands.proofs.input.read_input.Given as goal
 
--- what is kept is what was read, and only the last read may bring more than the limit
+-- the bytes that were read are kept, and only the last read may exceed the limit
 abbrev pub invariant-loop-input : goal.invariant-loop-input
 invariant-loop-input g l =
     Consumes (g.R.Read.remaining l.fn.input) (g.R.Read.remaining l.input) l.bytes.items

@@ -1,4 +1,4 @@
--- Laws of clusters: they partition the pattern, lie apart, are determined, and move along.
+-- Laws of clusters: they partition the pattern, are far apart, are unique, and move with the pattern.
 use Rattle.std.proofs.Common.{◌≡◌, ℕ, ℤ, ◌+ℤ◌, neg_ℤ, ◌<◌, true, List, [], ◌∷◌, arith, refl, ap}
 use Rattle.std.proofs.Common.{◌∙◌, sym, subst, inl, inr, ◌⊎◌, length, get_or, map, Any, zero, suc}
 use Rattle.std.specs.List.{AllPairs, list_any}
@@ -23,11 +23,11 @@ linked_law cells = record { itself = linked-itself cells; back = linked-sym cell
 
 -- ---- two clusters
 
--- each cell of a cluster is one of the pattern
+-- each cell of a cluster is a cell of the pattern
 cluster-has : (cells cluster : List Cell) (c : Cell) → IsCluster cells cluster → has cluster c ≡ true → has cells c ≡ true
 cluster-has cells cluster c is h = linked-has cells is.start c ((is.members c).0 h)
 
--- clusters that have linked cells are one
+-- two clusters with linked cells are equal
 same_cluster : (cells a b : List Cell) (c d : Cell) → IsCluster cells a → IsCluster cells b → has a c ≡ true → has b d ≡ true → Linked cells c d → a ≡ b
 same_cluster cells a b c d p q h k l =
     same_lists a b p.in_order q.in_order
@@ -83,12 +83,12 @@ abbrev Member : List Cell → List (List Cell) → Type 0
 Member a [] = ⊥
 Member a (b ∷ bs) = (a ≡ b) ⊎ Member a bs
 
--- the lists stand in the order of their first cells
+-- the lists are ordered by their first cells
 abbrev Ordered : List (List Cell) → Type 0
 Ordered [] = Unit {0}
 Ordered (b ∷ bs) = ((a : List Cell) → Member a bs → FirstBefore b a) × Ordered bs
 
--- lists of lists that stand in order and have the same members are one
+-- two ordered lists of lists with the same members are equal
 ordered_same : (cs bs : List (List Cell)) → Ordered cs → Ordered bs → ((a : List Cell) → Member a cs → Member a bs)
     → ((b : List Cell) → Member b bs → Member b cs) → cs ≡ bs
 ordered_same [] [] o p f g = refl
@@ -130,7 +130,7 @@ ordered-from (b ∷ bs) h = (
   ordered-from bs (λ i j d low high. h (suc i) (suc j) d (omega arith) (omega arith)),
 )
 
--- a cluster of the one list is a cluster of the other
+-- each cluster of one list is a cluster of the other
 in_other : (cells : List Cell) (one other : List (List Cell)) → AreClusters cells one → AreClusters cells other → (a : List Cell) → Member a one
     → Member a other
 in_other cells one other p q a m = go (q.every is.start is.has_start)

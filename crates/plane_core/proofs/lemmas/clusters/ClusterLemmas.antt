@@ -1,4 +1,4 @@
--- Being linked is an equivalence on the cells of a pattern.
+-- Being linked is an equivalence relation on the cells of a pattern.
 use Rattle.std.proofs.Common.{◌≡◌, ℤ, ◌≤◌, true, List, [], ◌∷◌, ◌++◌, arith, refl, sym, subst}
 use Rattle.std.proofs.lemmas.Int.{ints}
 use Rattle.plane_core.specs.declared.plane.cell.Cell.{Cell}
@@ -17,7 +17,7 @@ king_distance-itself c = rw (same c.x, same c.y) refl
     same : (a : ℤ) → distance a a ≡ 0
     same a = omega (arith, ints)
 
--- one list of cells and then another
+-- two paths can be concatenated
 leads-append : (cells : List Cell) (c d e : Cell) (ps qs : List Cell) → Leads cells c ps d → Leads cells d qs e → Leads cells c (ps ++ qs) e
 leads-append cells c d e [] qs a b = subst (λ (x : Cell). Leads cells x qs e) (sym a) b
 leads-append cells c d e (p ∷ ps) qs a b = (a.0, a.1, leads-append cells p d e ps qs a.2 b)
@@ -32,7 +32,7 @@ linked-near cells c d h k near = record { start = h; path = d ∷ []; leads = (k
 pub linked-trans : (cells : List Cell) (c d e : Cell) → Linked cells c d → Linked cells d e → Linked cells c e
 linked-trans cells c d e a b = record { start = a.start; path = a.path ++ b.path; leads = leads-append cells c d e a.path b.path a.leads b.leads }
 
--- what a list of cells leads to from a cell of the pattern is linked to it, seen from there
+-- a path from a cell of the pattern can be walked back: its end is linked to its start
 leads_back : (cells : List Cell) (c d : Cell) (ps : List Cell) → has cells c ≡ true → Leads cells c ps d → Linked cells d c
 leads_back cells c d [] h a = subst (λ (x : Cell). Linked cells x c) a (linked-itself cells c h)
 leads_back cells c d (p ∷ ps) h a =
@@ -41,6 +41,6 @@ leads_back cells c d (p ∷ ps) h a =
 pub linked-sym : (cells : List Cell) (c d : Cell) → Linked cells c d → Linked cells d c
 linked-sym cells c d a = leads_back cells c d a.path a.start a.leads
 
--- what is linked to a cell is of the pattern
+-- a cell to which another cell is linked is in the pattern
 pub linked-has : (cells : List Cell) (c d : Cell) → Linked cells c d → has cells d ≡ true
 linked-has cells c d a = (linked-sym cells c d a).start

@@ -1,4 +1,4 @@
--- How the trees of a forest become clusters: places get numbers, and the cells with one number are a cluster.
+-- How the trees of a forest become clusters: each place gets a number, and cells with the same number are a cluster.
 use Rattle.std.proofs.Common.{◌≡◌, ◌≢◌, ◌==◌, ℕ, ◌+◌, ◌<◌, ◌≤◌, zero, suc, Bool, true, false, cond, List, [], ◌∷◌, ◌++◌, arith, refl, ap, ◌∙◌, sym, subst, inl, inr, ◌⊎◌}
 use Rattle.std.proofs.Common.{length, take, get_or, set, All, Any, Result}
 use Rattle.std.specs.Prelude.{OnOk}
@@ -19,7 +19,7 @@ use Rattle.plane_core.proofs.lemmas.clusters.UnionFindLemmas.{has-cell_of, in_pl
 
 -- ---- the cells with a number
 
--- a number more
+-- appending the number n adds the cell at its place; appending another number adds nothing
 numbered-push : (n m : ℕ) (ms : List ℕ) (cs : List Cell) → length ms < length cs
     → numbered n (ms ++ m ∷ []) cs ≡ numbered n ms cs ++ cond (m == n) (cell_of cs (length ms) ∷ []) []
 numbered-push n m ms [] low = absurd (omega arith)
@@ -52,7 +52,7 @@ numbered-none n (m ∷ ms) (c ∷ cs) below =
     ap (λ (b : Bool). cond b (c ∷ numbered n ms cs) (numbered n ms cs)) (ne_eqb m n (λ e. absurd (omega (arith, e, first))))
     ∙ numbered-none n ms cs (λ k low. below (suc k) (omega (arith, low)))
 
--- where such a cell stands
+-- the place of the cell d, which has the number n
 record StandsAt (n : ℕ) (ms : List ℕ) (cs : List Cell) (d : Cell) : Type 0 where
   place : ℕ
   few : place < length ms
@@ -112,7 +112,7 @@ in_order-numbered n (m ∷ ms) (c ∷ cs) o = go (m == n) (in_order-numbered n m
     go true ih = in_order-cons c (numbered n ms cs) (before-numbered c n ms cs (in_order-head c cs o)) ih
     go false ih = ih
 
--- they are a pattern
+-- the cells with a number are a pattern
 pub is_pattern-numbered : (n : ℕ) (ms : List ℕ) (cs : List Cell) → IsPattern cs → IsPattern (numbered n ms cs)
 is_pattern-numbered n ms cs is = record {
   in_order = in_order-numbered n ms cs is.in_order;
@@ -124,14 +124,14 @@ is_pattern-numbered n ms cs is = record {
 
 -- ---- a place more
 
--- a number at the end of the list
+-- the appended number is at the new place
 at_end : (numbers : List ℕ) (n place : ℕ) → length numbers ≡ place → get_or (numbers ++ n ∷ []) place 0 ≡ n
 at_end numbers n place size = get_or_push numbers n 0 place size
 
 as_before : (numbers : List ℕ) (n place k : ℕ) → length numbers ≡ place → k < place → get_or (numbers ++ n ∷ []) k 0 ≡ get_or numbers k 0
 as_before numbers n place k size low = get_or_append_left numbers (n ∷ []) 0 k (omega (arith, size, low))
 
--- what has the new place's number is linked to it
+-- cells with the same number are still linked if the new cell is linked to all cells with its number
 linked-more : (cells : List Cell) (numbers : List ℕ) (n place : ℕ) → length numbers ≡ place → place < length cells
     → ((j k : ℕ) → j < place → k < place → get_or numbers j 0 ≡ get_or numbers k 0 → Linked cells (cell_of cells j) (cell_of cells k))
     → ((j : ℕ) → j < place → get_or numbers j 0 ≡ n → Linked cells (cell_of cells j) (cell_of cells place))
@@ -242,13 +242,13 @@ gathering-root cells parents numbers clusters place o f low root g = record {
             subst (λ (c : Cell). cell_cmp c (cell_of cells place) ≡ Less) s.cell
             (in_places cells s.place place o (omega (arith, short, g.size)) low)
 
--- first cells stay where cells are added at the end
+-- appending cells doesn't change the order of first cells
 first-longer : (a b xs ys : List Cell) → FirstBefore a b → FirstBefore (a ++ xs) (b ++ ys)
 first-longer [] b xs ys h = absurd h
 first-longer (c ∷ cs) [] xs ys h = absurd h
 first-longer (c ∷ cs) (d ∷ ds) xs ys h = h
 
--- any other place goes into the cluster of the place to which it leads
+-- a place that isn't a root goes into the cluster of its parent
 gathering-other : (cells : List Cell) (parents numbers : List ℕ) (clusters : List (List Cell)) (place n : ℕ) → InOrder cells → IsForest cells parents
     → place < length cells → parent_of parents place ≢ place → n ≡ get_or numbers (parent_of parents place) 0
     → ArePutInClusters cells parents numbers clusters place
@@ -318,7 +318,7 @@ gathering-other cells parents numbers clusters place n o f low branch is g = rec
       get_or-set_other clusters n m (get_or clusters n [] ++ cell_of cells place ∷ []) d different ∙ sym (append-nil (get_or clusters m d)),
     )
 
--- what such a cluster is with the cell
+-- a cluster is still a pattern after the cell at the place is appended
 pattern-other : (cells : List Cell) (parents numbers : List ℕ) (clusters : List (List Cell)) (place n : ℕ) → IsPattern cells → place < length cells
     → n < length clusters → ArePutInClusters cells parents numbers clusters place → IsPattern (get_or clusters n [] ++ cell_of cells place ∷ [])
 pattern-other cells parents numbers clusters place n is low inside g =
@@ -337,7 +337,7 @@ pattern-root cells place is low = record {
 
 -- ---- all places
 
--- where a cell of the pattern stands
+-- the place of a cell of the pattern
 place_of : (cells : List Cell) (c : Cell) → has cells c ≡ true → (k : ℕ) × (k < length cells) × (cell_of cells k ≡ c)
 place_of [] c h = absurd (false≢true h)
 place_of (d ∷ ds) c h = go (has-cases d ds c h) (place_of ds c)
@@ -347,7 +347,7 @@ place_of (d ∷ ds) c h = go (has-cases d ds c h) (place_of ds c)
     go (inl same) ih = (0, omega arith, sym same)
     go (inr more) ih = let p = ih more in let low : p.0 < length ds = p.1 in (suc p.0, omega (arith, low), p.2)
 
--- near cells have one number
+-- near cells have the same number
 abbrev NearAlike : List Cell → List ℕ → Type 0
 NearAlike cells numbers = (j k : ℕ) → j < length cells → k < length cells → king_distance (cell_of cells j) (cell_of cells k) ≤ 2
     → get_or numbers j 0 ≡ get_or numbers k 0
@@ -364,7 +364,7 @@ near_alike cells parents numbers joins labels j k low high near = elim (cases_lt
   ]
 ]
 
--- a walk from cell to cell keeps the number
+-- the end of a path has the same number as its start
 walk : (cells : List Cell) (numbers : List ℕ) (n : ℕ) → length numbers ≡ length cells → NearAlike cells numbers → (path : List Cell) (k : ℕ) (d : Cell)
     → k < length cells → get_or numbers k 0 ≡ n → Leads cells (cell_of cells k) path d → has (numbered n numbers cells) d ≡ true
 walk cells numbers n size alike [] k d low is leads =
@@ -431,7 +431,7 @@ pub gathered_patterns : (cells : List Cell) (parents numbers : List ℕ) (cluste
 gathered_patterns cells parents numbers clusters place is g n d low =
     subst IsPattern (sym (get_or_default clusters n d [] low ∙ g.lists n low)) (is_pattern-numbered n numbers cells is)
 
--- the number of a place that isn't a root is that of a cluster
+-- a place that isn't a root gets the number of an existing cluster
 number_inside : (cells : List Cell) (parents numbers : List ℕ) (clusters : List (List Cell)) (place n : ℕ) → IsForest cells parents
     → place < length cells → parent_of parents place ≢ place → n ≡ get_or numbers (parent_of parents place) 0
     → ArePutInClusters cells parents numbers clusters place → n < length clusters
@@ -443,10 +443,10 @@ number_inside cells parents numbers clusters place n f low branch is g =
 
 -- ---- a step of the loop
 
--- places that get a number, one after another
+-- one iteration of the loop, which gives a number to `place`
 module _ (cells : List Cell) (parents : List ℕ) (clusters : List (List Cell)) (place : ℕ) (low : place < length cells)
     (g : IsGatheringCells cells parents clusters place) where
-  -- a place that wasn't passed leads as in the forest
+  --   `place` still leads to the same place as in the forest
   leads : parent_of g.forest place ≡ parent_of parents place
   leads =
       let here : place ≡ place + 0 = omega arith in
@@ -456,7 +456,7 @@ module _ (cells : List Cell) (parents : List ℕ) (clusters : List (List Cell)) 
   pub parent_inside : parent_of parents place ≤ place
   parent_inside = let most = g.is_forest.back place (omega (arith, low, g.is_forest.size)) in omega (arith, most, leads)
 
-  -- the number at the place to which a place leads
+  -- if `place` isn't a root, the entry at its parent is the parent's number
   number_there : parent_of parents place ≢ place → parent_of parents (parent_of parents place) ≡ get_or (take place parents) (parent_of g.forest place) 0
   number_there branch =
       let most = parent_inside in
@@ -481,7 +481,7 @@ module _ (cells : List Cell) (parents : List ℕ) (clusters : List (List Cell)) 
       (subst (λ cs. ArePutInClusters cells g.forest (take place parents ++ length clusters ∷ []) cs (place + 1)) (sym is)
       (gathering-root cells g.forest (take place parents) clusters place p.in_order g.is_forest low (leads ∙ root) g.passed))) grown
 
-  -- the cluster of any other place is one of those that were begun, and is a pattern with the cell
+  -- a place that isn't a root goes into an existing cluster, which is still a pattern with the cell
   pub number_is_inside : parent_of parents place ≢ place → parent_of parents (parent_of parents place) < length clusters
   number_is_inside branch = number_inside cells g.forest (take place parents) clusters place _ g.is_forest low
       (λ e. branch (sym leads ∙ e)) (number_there branch) g.passed

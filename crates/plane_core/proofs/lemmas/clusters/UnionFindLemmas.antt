@@ -26,7 +26,7 @@ has-cell_of cells k low = Contains-has cells (cell_of cells k) (Contains-get_or 
 
 -- ---- roots
 
--- on the way from a place to its root: the two are joined, and their cells linked
+-- `at` is on the way from `place` to its root: the places are joined, and their cells are linked
 pub record Climbs (parents : List ℕ) (place at : ℕ) : Type 0 where
   pub low : at < length parents
   pub joined : Joined parents place at
@@ -41,13 +41,13 @@ climbs-more parents place at back c = record {
 
 -- ---- two trees joined
 
--- what holds once the two trees are one
+-- the trees of two places have been joined
 pub record AreJoined (old new : List ℕ) (one other : ℕ) : Type 0 where
   pub forest : JoinsLinked old new one other
   pub keeps : Keeps old new
   pub joined : Joined new one other
 
--- a root leads to an earlier place from now on
+-- a root is made to lead to an earlier place, which joins two trees
 hangs : (parents : List ℕ) (later first one other : ℕ) → first ≤ later → later < length parents → parent_of parents later ≡ later
     → ((label : ℕ → ℕ) → Labels parents label → label first ≡ label later → label one ≡ label other)
     → ((cells : List Cell) → IsForest cells parents → Linked cells (cell_of cells one) (cell_of cells other) → Linked cells (cell_of cells later) (cell_of cells first))
@@ -89,7 +89,7 @@ hangs parents later first one other less low root equal link = record {
       | inr different ↦ ap label (sym (there k different)) ∙ labels k (more k few)
     ]
 
--- the later of the two roots leads to the earlier
+-- two trees are joined by making the later root lead to the earlier root
 pub joined_roots : (parents : List ℕ) (one other left right : ℕ) → Climbs parents one left → Climbs parents other right → parent_of parents left ≡ left
     → parent_of parents right ≡ right → AreJoined parents (set parents (max left right) (min left right)) one other
 joined_roots parents one other left right a b is_left is_right = elim (cases_lt left right) [
@@ -130,7 +130,7 @@ near_linked cells j k few less near = linked-near cells (cell_of cells j) (cell_
 pub in_places : (cells : List Cell) (j k : ℕ) → InOrder cells → j < k → k < length cells → cell_cmp (cell_of cells j) (cell_of cells k) ≡ Less
 in_places cells j k o less low = Less-from_sorted cell_cmp cells j k _ o less low
 
--- a cell that comes before another stands in a row above it, or in its row and further left
+-- a cell that comes before another is in a row above it, or in the same row and further left
 pub before_cases : (a b : Cell) → cell_cmp a b ≡ Less → (a.y <ℤ b.y) ⊎ ((a.y ≡ b.y) × (a.x <ℤ b.x))
 before_cases a b e = rows (int_cmp a.y b.y) (int_ranks a.y b.y) e
   where
@@ -145,7 +145,7 @@ before_cases a b e = rows (int_cmp a.y b.y) (int_ranks a.y b.y) e
     rows Equal is e = inr (is, columns (int_cmp a.x b.x) (int_ranks a.x b.x) e)
     rows Greater is e = cc
 
--- a near cell of that row doesn't come before the first place that is near
+-- no near cell of the row `dy` below d comes before the cell two columns left of d in that row
 not_left : (c d : Cell) (dy : ℤ) → c.y ≡ (d.y +ℤ dy) → king_distance c d ≤ 2 → cell_cmp c (moved_by (negsuc 1) dy d) ≢ Less
 not_left c d dy row near e = elim (before_cases c (moved_by (negsuc 1) dy d) e) [
   | inl above ↦ let up : c.y <ℤ (d.y +ℤ dy) = above in absurd (omega (arith, ints, up, row))
@@ -155,7 +155,7 @@ not_left c d dy row near e = elim (before_cases c (moved_by (negsuc 1) dy d) e) 
       absurd (omega (arith, ints, far, most))
 ]
 
--- nor after the last
+-- no near cell of the row `dy` below d comes after the cell two columns right of d in that row
 not_right : (c d : Cell) (dy : ℤ) → c.y ≡ (d.y +ℤ dy) → king_distance c d ≤ 2 → cell_cmp (moved_by (pos 2) dy d) c ≢ Less
 not_right c d dy row near e = elim (before_cases (moved_by (pos 2) dy d) c e) [
   | inl above ↦ let up : (d.y +ℤ dy) <ℤ c.y = above in absurd (omega (arith, ints, up, row))
@@ -165,7 +165,7 @@ not_right c d dy row near e = elim (before_cases (moved_by (pos 2) dy d) c e) [
       absurd (omega (arith, ints, far, most))
 ]
 
--- a near cell that stands earlier lies in the same row or in one of the two above
+-- an earlier cell that is near is in the same row or in one of the two rows above
 near_rows : (c d : Cell) → cell_cmp c d ≡ Less → king_distance c d ≤ 2 → (c.y ≡ (d.y +ℤ pos 0)) ⊎ ((c.y ≡ (d.y +ℤ negsuc 0)) ⊎ (c.y ≡ (d.y +ℤ negsuc 1)))
 near_rows c d e near = go (before_cases c d e)
   where
@@ -182,7 +182,7 @@ near_rows c d e near = go (before_cases c d e)
         rows Equal is = inl is
         rows Greater is = absurd (omega (arith, ints, is, above))
 
--- a cell of a row further up comes before
+-- a cell comes before each cell of a lower row
 before_up : (a b : Cell) → a.y <ℤ b.y → cell_cmp a b ≡ Less
 before_up a b up = go (int_cmp a.y b.y) (int_ranks a.y b.y)
   where
@@ -191,7 +191,7 @@ before_up a b up = go (int_cmp a.y b.y) (int_ranks a.y b.y)
     go Equal is = absurd (omega (arith, ints, is, up))
     go Greater is = absurd (omega (arith, ints, is, up))
 
--- a cell further left in the same row comes before
+-- a cell comes before each cell further right in the same row
 pub before_left : (a b : Cell) → a.y ≡ b.y → a.x <ℤ b.x → cell_cmp a b ≡ Less
 before_left a b row left = go (int_cmp a.y b.y) (int_ranks a.y b.y)
   where
@@ -283,7 +283,7 @@ new_rows cells rows place begin end o some low apart r begin_least begin_most be
     new : Cell
     new = cell_of cells place
 
-    -- the row before is higher
+    -- all earlier cells are in higher rows
     higher : (k : ℕ) → k < place → (cell_of cells k).y <ℤ new.y
     higher k less =
         let last : (cell_of cells (place - 1)).y ≤ℤ new.y = not_lower cells (place - 1) place o (omega (arith, some)) low in
@@ -327,7 +327,7 @@ new_rows cells rows place begin end o some low apart r begin_least begin_most be
     from_end : (k : ℕ) → end ≤ k → k < place → (new.y +ℤ negsuc 0) ≤ℤ (cell_of cells k).y
     from_end k least less = on end k (new.y +ℤ negsuc 0) least (omega (arith, less, low)) (at_end (omega (arith, least, less)))
 
--- a row without the places that are too far to the left
+-- places that are too far to the left can be dropped from a row
 pub row_skipped : (cells : List Cell) (row : RowPlaces) (place first : ℕ) (from : Cell) → IsRow cells row place from → row.from ≤ first → first ≤ row.end
     → ((k : ℕ) → row.from ≤ k → k < first → (cell_of cells k).x <ℤ from.x) → IsRow cells (record row { from = first }) place from
 row_skipped cells row place first from is least most left = record {
@@ -341,7 +341,7 @@ row_skipped cells row place first from is least most left = record {
   later = is.later;
 }
 
--- the rows above a place, without what was skipped for it
+-- the rows above a place are still right without the places that were skipped
 pub later_rows : (cells : List Cell) (rows : RowsAbove) (place first second : ℕ) (above top : Cell) → AreRowsAbove cells rows place
     → above ≡ moved_by (negsuc 1) (negsuc 0) (cell_of cells place) → top ≡ moved_by (negsuc 1) (negsuc 1) (cell_of cells place)
     → IsRow cells (record { from = first; end = rows.above.end }) place above → IsRow cells (record { from = second; end = rows.top.end }) place top
@@ -357,7 +357,7 @@ later_rows cells rows place first second above top r above_is top_is row_above r
   top = subst (IsRow cells (record { from = second; end = rows.top.end }) place) top_is row_top;
 }
 
--- the end of the scan of a row: the cell there is further right, or in a lower row
+-- the cell where the scan of a row ends comes after `to`
 pub past_scan : (cells : List Cell) (row : RowPlaces) (place at : ℕ) (from to : Cell) → IsRow cells row place from → to.y ≡ from.y → row.from ≤ at
     → (at < row.end → to.x <ℤ (cell_of cells at).x) → at < place → cell_cmp to (cell_of cells at) ≡ Less
 past_scan cells row place at from to is end least right less = elim (cases_lt at row.end) [
@@ -365,7 +365,7 @@ past_scan cells row place at from to is end least right less = elim (cases_lt at
   | inr outside ↦ let under = is.later at outside less in before_up to (cell_of cells at) (omega (arith, ints, under, end))
 ]
 
--- near cells of a row above that don't lie past the third column from the cell before are near that one too
+-- near cells in the rows above, less than three columns right of the cell just before, are also near that cell
 pub bridged : (cells : List Cell) (place : ℕ) → 1 ≤ place → InOrder cells → place < length cells
     → (cell_of cells (place - 1)).y ≡ (cell_of cells place).y → king_distance (cell_of cells (place - 1)) (cell_of cells place) ≤ 2
     → IsFresh cells ((cell_of cells (place - 1)).x +ℤ pos 3) place
@@ -408,12 +408,12 @@ bridged cells place some o low row right k less above left near = record {
     down : distance c.y b.y ≤ 2
     down = omega (arith, ints, high, row)
 
--- the near places of one row are joined with this one
+-- each place of a row between `from` and `to` that needs to be joined with `place` is joined with it
 abbrev pub JoinsRow : List Cell → List ℕ → ℕ → Cell → Cell → Type 0
 JoinsRow cells parents place from to = (k : ℕ) → k < place → cell_cmp (cell_of cells k) from ≢ Less → cell_cmp to (cell_of cells k) ≢ Less
     → NeedsJoin cells k place → Joined parents k place
 
--- of an earlier cell of the row that is near, the one just before is between them, and so near both
+-- a cell between two near cells of the same row is near both
 between : (c b d : Cell) → cell_cmp c b ≡ Less → cell_cmp b d ≡ Less → c.y ≡ (d.y +ℤ pos 0) → king_distance c d ≤ 2
     → (king_distance c b ≤ 2) × (king_distance b d ≤ 2)
 between c b d first second row near = go (before_cases c b first) (before_cases b d second)
@@ -433,7 +433,7 @@ between c b d first second row near = go (before_cases c b first) (before_cases 
         let even : distance b.y d.y ≤ 2 = omega (arith, ints, right.0) in
         (omega (arith, west, level), omega (arith, east, even))
 
--- the place just before a place, joined with it if their cells are near and in one row
+-- the place just before is joined with `place` if their cells are in the same row and need to be joined
 pub joins_before : (cells : List Cell) (parents : List ℕ) (place : ℕ)
     → ((cell_of cells (place - 1)).y ≡ (cell_of cells place).y → NeedsJoin cells (place - 1) place → Joined parents (place - 1) place)
     → (k : ℕ) → k + 1 ≡ place → (cell_of cells k).y ≡ (cell_of cells place).y → NeedsJoin cells k place → Joined parents k place
@@ -441,7 +441,7 @@ joins_before cells parents place joined k next =
     let before : place - 1 ≡ k = omega (arith, next) in
     subst (λ j. (cell_of cells j).y ≡ (cell_of cells place).y → NeedsJoin cells j place → Joined parents j place) before joined
 
--- the place before and two rows are all that is near and stands earlier
+-- if the place just before and the two rows above are joined with a place, so is every earlier place that needs it
 pub joins_rows : (cells : List Cell) (a b c : List ℕ) (place : ℕ) → InOrder cells → place < length cells → Keeps a b → Keeps b c
     → ((k : ℕ) → k + 1 ≡ place → (cell_of cells k).y ≡ (cell_of cells place).y → NeedsJoin cells k place → Joined a k place)
     → JoinsRow cells b place (moved_by (negsuc 1) (negsuc 0) (cell_of cells place)) (moved_by (pos 2) (negsuc 0) (cell_of cells place))
@@ -474,7 +474,7 @@ joins_rows cells a b c place o low first second here above top k less need =
     go (inr (inl row)) = joined-kept b c k place second (above k less (left (negsuc 0) row) (right (negsuc 0) row) need)
     go (inr (inr row)) = top k less (left (negsuc 1) row) (right (negsuc 1) row) need
 
--- what needs no join of its own is joined by the place just before
+-- a near place that needs no join of its own is joined through the place just before
 pub joins_near : (cells : List Cell) (old new : List ℕ) (place : ℕ) → Keeps old new → JoinsAll cells old place
     → ((k : ℕ) → k < place → NeedsJoin cells k place → Joined new k place)
     → (k : ℕ) → k < place → king_distance (cell_of cells k) (cell_of cells place) ≤ 2 → Joined new k place
@@ -504,7 +504,7 @@ joins_near cells old new place keeps all needed k less near = go (cases_lt (k + 
 
 -- ---- the scan of a row
 
--- the places that were scanned are joined if they are near
+-- each scanned place that needs to be joined with `place` is joined with it
 pub record IsScanning (cells : List Cell) (old new : List ℕ) (place first at : ℕ) : Type 0 where
   pub forest : IsForest cells new
   pub keeps : Keeps old new
@@ -521,7 +521,7 @@ scanning-more cells old now new place first at s f keeps here = record {
   ];
 }
 
--- no cell after the end of a row is between its ends
+-- if the scan ended past `to`, each place between `first` and `to` that needs a join is joined
 pub scanned : (cells : List Cell) (old new : List ℕ) (place first at : ℕ) (to : Cell) → InOrder cells → place < length cells
     → (at < place → cell_cmp to (cell_of cells at) ≡ Less) → IsScanning cells old new place first at → (k : ℕ) → first ≤ k → k < place
     → cell_cmp to (cell_of cells k) ≢ Less → NeedsJoin cells k place → Joined new k place
@@ -560,7 +560,7 @@ row_joined cells old new place row from to fresh first start at o low is to_row 
       ]
     ]
 
--- a cell of the row from a place on that isn't too far to the left isn't either
+-- if the cell at `first` isn't left of `from`, no later cell of the row is
 pub not_left_of : (cells : List Cell) (row : RowPlaces) (place first at : ℕ) (from : Cell) → InOrder cells → place < length cells → IsRow cells row place from
     → row.from ≤ first → first ≤ at → at < row.end → (first < row.end → from.x ≤ℤ (cell_of cells first).x) → from.x ≤ℤ (cell_of cells at).x
 not_left_of cells row place first at from o low is least more inside right = elim (cases_lt first at) [
@@ -578,7 +578,7 @@ not_left_of cells row place first at from o low is least more inside right = eli
       subst (λ (n : ℕ). from.x ≤ℤ (cell_of cells n).x) same (right (omega (arith, same, inside)))
 ]
 
--- a place more is joined with all before it
+-- if the next place is joined with all near places before it, then all near places up to it are joined
 pub joins_more : (cells : List Cell) (old new : List ℕ) (place : ℕ) → Keeps old new → JoinsAll cells old place
     → ((k : ℕ) → k < place → king_distance (cell_of cells k) (cell_of cells place) ≤ 2 → Joined new k place) → JoinsAll cells new (place + 1)
 joins_more cells old new place keeps before here j k less low near = elim (cases_eq k place) [
@@ -589,20 +589,20 @@ joins_more cells old new place keeps before here j k less low near = elim (cases
   | inr different ↦ let few : k < place = omega (arith, low, different) in joined-kept old new j k keeps (before j k less few near)
 ]
 
--- what is tested as less comes before
+-- `is_lt` is true only for `Less`
 pub less : (r : Ordering) → is_lt r ≡ true → r ≡ Less
 less Less is = refl
 less Equal is = absurd (false≢true is)
 less Greater is = absurd (false≢true is)
 
--- one root more
+-- one more place is a root
 pub roots-more : (parents : List ℕ) (n : ℕ) → n < length parents → ((k : ℕ) → k < n → parent_of parents k ≡ k)
     → (k : ℕ) → k < n + 1 → parent_of (set parents n n) k ≡ k
 roots-more parents n low roots =
     below_more (λ k. parent_of (set parents n n) k ≡ k) n
     (λ k less. get_or-set_other parents n k n 0 (λ same. absurd (omega (arith, less, same))) ∙ roots k less) (get_or-set_same parents n n 0 low)
 
--- a place for each cell, each a root
+-- if each place is a root, the places are a forest
 pub forest-roots : (cells : List Cell) (parents : List ℕ) → length parents ≡ length cells
     → ((k : ℕ) → k < length cells → parent_of parents k ≡ k) → IsForest cells parents
 forest-roots cells parents long roots =

@@ -23,7 +23,7 @@ use Rattle.plane_core.specs.engine.Frames.{IsFrame}
 use Rattle.plane_core.specs.engine.LeapWindows.{IsInnerCell, IsOnBoard}
 use Rattle.plane_core.proofs.lemmas.plane.CaseLemmas.{less_or_not, same_or_not}
 
--- windows that lie on the board aren't far from the origin
+-- windows on the board aren't far from the origin
 pub in_reach : (at : Frame) → IsFrame at → (p : LeapWindow) → IsOnBoard at p → IsInReach p
 in_reach at frame p on = record {
   left = near at.left p.left on.x frame.left on.left (few_columns frame.word_columns on.word_columns);
@@ -39,7 +39,7 @@ in_reach at frame p on = record {
     few_rows : at.rows ≤ 2 ^ 22 → on.y + p.rows ≤ at.rows → on.y ≤ 2 ^ 22
     few_rows few inside = omega (arith, few, inside)
 
--- a cell near a cell that is near the box is near the box
+-- a cell within n of a cell that is within m of the box is within m + n of the box
 within_further : (b : Bounds) (m n : ℕ) (c d : Cell) → king_distance c d ≤ n → IsWithin (enlarged m b) d → IsWithin (enlarged (m + n) b) c
 within_further b m n c d near h = record {
   left = low b.left d.x c.x (omega arith) h.left;
@@ -101,7 +101,7 @@ pub near_itself : (boxes : List Bounds) (c : Cell) → IsInOne boxes c → IsNea
 near_itself boxes c some =
     any_weaker (λ (b : Bounds). IsWithin b c) (λ (b : Bounds). IsWithin (enlarged 0 b) c) boxes (λ b h. within_none b c h) some
 
--- one element more at the end
+-- an element with the property is still in the list after another is appended
 pub any_kept : {X : Type 0} (P : X → Type 0) (xs : List X) (y : X) → Any P xs → Any P (xs ++ y ∷ [])
 any_kept P xs y some =
     (some.0, some.1, omega (arith, length_push xs y, some.2), get_or_append_left xs (y ∷ []) some.1 some.0 some.2 ∙ some.3, some.4)
@@ -114,7 +114,7 @@ pub any_pushed : {X : Type 0} (P : X → Type 0) (xs new : List X) (y : X) → n
 any_pushed {X} P xs new y is (inl some) = subst (λ (zs : List X). Any P zs) (sym is) (any_kept P xs y some)
 any_pushed {X} P xs new y is (inr here) = subst (λ (zs : List X). Any P zs) (sym is) (Any-push P xs y here)
 
--- an element that passes stands among the first n, or next to them
+-- an element with the property among the first n + 1 is among the first n or is the last of them
 pub any_take_more : {X : Type 0} (P : X → Type 0) (xs : List X) (n : ℕ) (d : X) → n < length xs → Any P (take (n + 1) xs)
     → Any P (take n xs) ⊎ P (get_or xs n d)
 any_take_more {X} P xs n d less some = either (less_or_not some.0 n)
@@ -142,7 +142,7 @@ take_whole xs n low high =
     let all : n ≡ length xs = omega arith in
     ap (λ (m : ℕ). take m xs) all ∙ take-length xs
 
--- an element that passes is the one that is taken out, or stays
+-- an element with the property is the one that is removed, or it stays
 pub any_swap_remove : {X : Type 0} (P : X → Type 0) (xs : List X) (i : ℕ) (d : X) → i < length xs → Any P xs
     → P (get_or xs i d) ⊎ Any P (swap_remove xs i d)
 any_swap_remove {X} P xs i d less some = either (same_or_not k i)
@@ -190,7 +190,7 @@ any_swap_remove {X} P xs i d less some = either (same_or_not k i)
     either (inl at) = inl (subst P (sym some.3 ∙ ap (λ (m : ℕ). get_or xs m x) at ∙ get_or_default xs i x d less) some.4)
     either (inr other) = inr (elim (less_or_not k (length xs - 1)) [ inl low ↦ stays other low | inr high ↦ moves other high ])
 
--- an element that is written over passes if what stood there did
+-- overwriting an element keeps an element with the property if the new one has it whenever the old one does
 pub any_set_kept : {X : Type 0} (P : X → Type 0) (xs : List X) (i : ℕ) (y d : X) → i < length xs → (P (get_or xs i d) → P y) → Any P xs
     → Any P (set xs i y)
 any_set_kept {X} P xs i y d less over some = either (same_or_not some.0 i)
@@ -263,7 +263,7 @@ widened_sides n c b e h = record {
 
 -- ---- the boxes of changes
 
--- the boxes hold what differs in the first n windows
+-- the boxes hold each inner cell of the first n windows in which the patterns differ
 abbrev pub HoldFirst : ℕ → List LeapWindow → List Cell → List Cell → List Bounds → Type 0
 HoldFirst n places one other boxes = (k : ℕ) (p : LeapWindow) (c : Cell) → k < n → IsInnerCell (get_or places k p) c → has one c ≢ has other c
     → IsInOne boxes c
@@ -300,11 +300,11 @@ in_itself boxes c some =
       bottom = let p = h.bottom in omega (arith, ints);
     }
 
--- a cell of a box is one of a wider box
+-- a cell in a box is in a wider box
 pub wider_has : (boxes later : List Bounds) → AreWider boxes later → (c : Cell) → IsInOne boxes c → IsInOne later c
 wider_has boxes later wider c some = in_itself later c (wider 0 c (near_itself boxes c some))
 
--- a box that was put in place of one, and has it in it
+-- replacing a box by its union with another makes the boxes wider
 pub joined_wider : (boxes : List Bounds) (i : ℕ) (one part wide : Bounds) → i < length boxes → one ≡ get_or boxes i one → IsRoundBoth one part wide
     → AreWider boxes (set boxes i wide)
 joined_wider boxes i one part wide low same round n d some =
@@ -325,7 +325,7 @@ joined_wider boxes i one part wide low same round n d some =
       bottom = high_side one.bottom part.bottom d.y wide.bottom round.bottom h.bottom;
     }
 
--- and one that was added
+-- adding a box makes the boxes wider
 pub pushed_wider : (boxes later : List Bounds) (part : Bounds) → later ≡ boxes ++ part ∷ [] → AreWider boxes later
 pushed_wider boxes later part is n d some = any_pushed (λ (b : Bounds). IsWithin (enlarged n b) d) boxes later part is (inl some)
 

@@ -33,7 +33,7 @@ use Rattle.plane_core.proofs.lemmas.Between.{AreRightFor, HasGoneOn, HasLeapt, I
 
 -- ---- the cells stay on the board
 
--- that a cell lies in a box is known if it can't lie outside
+-- a cell is in a box if it can't be outside
 within_unless : (b : Bounds) (c : Cell) → ¬ (¬ IsWithin b c) → IsWithin b c
 within_unless b c h = record {
   left = by_lt_z {P = b.left ≤ℤ c.x} c.x b.left (λ out. absurd (h (λ w. off b.left c.x out w.left))) (λ le. le);
@@ -45,7 +45,7 @@ within_unless b c h = record {
     off : (x y : ℤ) → y <ℤ x → x ≤ℤ y → ⊥
     off x y low high = omega (arith, ints)
 
--- an inner part lies on the board
+-- an inner part is on the board
 inner_on : (at : Frame) (p : LeapWindow) (c : Cell) → IsOnBoard at p → IsInnerCell p c → IsWithin (bounds_of at) c
 inner_on at p c on inner =
     let l = on.left in
@@ -59,13 +59,13 @@ inner_on at p c on inner =
       bottom = let h = inner.bottom in omega (arith, ints);
     }
 
--- what lives after a leap lies on the board: in an inner part, or where it was alive before
+-- each cell that is alive after a leap is on the board: it is in an inner part, or was alive before
 stays_on : (rule : Numbers) (at : Frame) (places : List LeapWindow) (S : List Cell) (n : ℕ) → ((c : Cell) → IsCovered places c → IsWithin (bounds_of at) c)
     → IsStillOutside rule places S n → LieOn at S → LieOn at (after rule S n)
 stays_on rule at places S n inside still on c e =
     within_unless (bounds_of at) c (λ out. out (on c (sym (still c (λ covered. out (inside c covered))) ∙ e)))
 
--- what windows on the board cover lies on it
+-- the inner parts of windows on the board are on the board
 pub covered_on : (at : Frame) (places : List LeapWindow) → All (IsOnBoard at) places → (c : Cell) → IsCovered places c → IsWithin (bounds_of at) c
 covered_on at places on c (k, p, low, same, inner) = inner_on at p c (subst (λ (q : LeapWindow). IsOnBoard at q) same (on k p low)) inner
 
@@ -78,7 +78,7 @@ odd_or_even n = go (same_or_not (n % 2) 0)
     go (inl even) = inl even
     go (inr odd) = inr (omega arith)
 
--- what lies in no inner part stays as it is
+-- each cell in no inner part is unchanged by a leap
 pub still_for_leap : (rule : Numbers) (S : List Cell) (boxes : List Bounds) (places : List LeapWindow) (n : ℕ) → InOrder S → AreRightFor rule S boxes n
     → AreCovered places boxes → 1 ≤ n → n ≤ 4 → IsStillOutside rule places S n
 still_for_leap rule S boxes places n o right covered low high = elim (odd_or_even n) [
@@ -86,7 +86,7 @@ still_for_leap rule S boxes places n o right covered low high = elim (odd_or_eve
   | inr odd ↦ still_outside-held rule S boxes places n (right.odd odd) covered high
 ]
 
--- so a board whose windows were put back has gone on, with what differs as its boxes, and spans that hold the windows
+-- a board whose windows were put back has advanced; its boxes hold the differences, and its spans hold the windows
 pub has_gone_on : (rule : Numbers) (at : Frame) (n : ℕ) (old new : List ℕ) (boxes later : List Bounds) (before wide : List RowSpan) (places : List LeapWindow)
     → IsReady rule at n old boxes before → AreCovered places boxes → 1 ≤ n → n ≤ 4 → All (IsOnBoard at) places → AreWidened before wide
     → HoldCovered at wide places → HasLeapt at rule n places old new → All (AreSidesWithin box_bound) later
@@ -118,14 +118,14 @@ has_gone_on rule at n old new boxes later before wide places ready covered low h
 
 -- ---- without boxes
 
--- where nothing lies in a box, two generations change nothing
+-- if there are no boxes, two generations change nothing
 quiet_everywhere : (rule : Numbers) (S : List Cell) → InOrder S → IsQuiet rule S [] → after rule S 2 ≡ S
 quiet_everywhere rule S o quiet = same_lists (after rule S 2) S (in_order-after rule S 2 o) o (λ c. quiet c (none c))
   where
     none : (c : Cell) → ¬ IsNearOne 2 [] c
     none c some = absurd (omega (arith, some))
 
--- and so no even number of generations does
+-- if there are no boxes, an even number of generations changes nothing
 pub still_forever : (rule : Numbers) (S : List Cell) (n : ℕ) → InOrder S → IsQuiet rule S [] → n % 2 ≡ 0 → after rule S n ≡ S
 still_forever rule S n o quiet even = ap (λ (m : ℕ). after rule S m) twice ∙ go (n / 2)
   where
@@ -165,7 +165,7 @@ is_ready rule at n words boxes holds_all spans spanned enough = record {
   spanned = spanned.spanned;
 }
 
--- and after it
+-- a board with spans is still one after a leap
 pub leapt_board : (rule : Numbers) (at : Frame) (n : ℕ) (old new : List ℕ) (boxes later : List Bounds) (holds_all : Bool)
     (before spans : List RowSpan) → IsSpannedBoard at rule old boxes holds_all before → length new ≡ length old
     → length spans ≡ length before → HasGoneOn rule at n old new later spans → IsSpannedBoard at rule new later (n % 2 == 1) spans
@@ -184,14 +184,14 @@ leapt_board rule at n old new boxes later holds_all before spans was long wide l
   plane = was.plane;
 }
 
--- the boxes round a pattern lie on the plane
+-- the boxes around a pattern have their sides within the bound
 pub box_sides : (S cells : List Cell) (boxes : List Bounds) → cells ≡ S → IsPattern S
     → ((n : ℕ) → lies_within n cells ≡ true → All (AreSidesWithin n) boxes) → All (AreSidesWithin box_bound) boxes
 unfolding on_plane
 box_sides S cells boxes is pattern sides k b low =
     fewer_sides plane_bound box_bound _ (omega arith) (sides plane_bound (ap (λ (T : List Cell). lies_within plane_bound T) is ∙ pattern.on_plane) k b low)
 
--- no boxes
+-- an empty list of boxes has all sides within any bound
 pub no_sides : (n : ℕ) (boxes : List Bounds) → boxes ≡ [] → All (AreSidesWithin n) boxes
 no_sides n boxes is = subst (λ (bs : List Bounds). All (AreSidesWithin n) bs) (sym is) (All-nil (AreSidesWithin n))
 

@@ -30,14 +30,14 @@ blank_board at rule words boxes holds_all frame long sides empty = record {
     all : HoldAll boxes (cells_on at words)
     all c e = absurd (false≢true (sym (ap (λ (S : List Cell). has S c) empty) ∙ e))
 
--- nor does it matter where it lies
+-- an empty board shows the same pattern wherever it is
 pub moved_empty : (at new : Frame) (words : List ℕ) → new.word_columns ≡ at.word_columns → new.rows ≡ at.rows → cells_on at words ≡ [] → Shows new words []
 moved_empty at new words word_columns rows empty s r i hs hr hi =
     sym (ap (λ (S : List Cell). has S (board_cell at s r i)) empty)
     ∙ shows_cells at words s r i (omega (arith, hs, word_columns)) (omega (arith, hr, rows)) hi
     ∙ ap (λ (n : ℕ). bit_at (slice_index words (s * n + r)) i == 1) (sym rows)
 
--- what a board shows that lies on the plane is a pattern
+-- what a board on the plane shows is a pattern
 pub board_pattern : (at : Frame) (words : List ℕ) → AreSidesWithin plane_bound (bounds_of at) → IsPattern (cells_on at words)
 unfolding on_plane
 board_pattern at words sides = record {

@@ -123,7 +123,7 @@ marked p one other d c holds inner ne = record {
     either (inl e) same = absurd (ne (sym (ap (λ (c : Cell). has one c) is) ∙ same e ∙ ap (λ (c : Cell). has other c) is))
     either (inr e) same = e
 
--- a word without a bit marks no cell
+-- a change without marked columns or without marked rows marks no cell
 pub marked_none_across : (p : LeapWindow) (d : DifferenceMask) (c : Cell) → ((i : ℕ) → bit_at d.columns i ≡ 0)
     → ¬ IsMarked p d c
 marked_none_across p d c none m = let e = none m.column in let h = m.in_columns in absurd (omega arith)
@@ -132,7 +132,7 @@ pub marked_none_down : (p : LeapWindow) (d : DifferenceMask) (c : Cell) → ((i 
     → ¬ IsMarked p d c
 marked_none_down p d c none m = let e = none m.row in let h = m.in_rows in absurd (omega arith)
 
--- the box from the first bits to the last
+-- the box from the first to the last marked column and row
 pub record IsFrom (p : LeapWindow) (across down : BitSpan) (b : Bounds) : Type 0 where
   pub left : b.left ≡ p.left +ℤ pos across.first
   pub top : b.top ≡ p.top +ℤ pos down.first

@@ -1,4 +1,4 @@
--- How deep cells lie in a direction, and the deepest cell of a board.
+-- How deep cells are in a direction, and the deepest cell of a board.
 use Rattle.std.proofs.Common.{◌≡◌, ◌≢◌, ◌==◌, ◌+◌, ◌-◌, ◌*◌, ◌/◌, ◌%◌, ◌^◌, ◌<◌, ◌≤◌, ℕ, ℤ, pos, ◌+ℤ◌, ◌-ℤ◌, ◌≤ℤ◌, Bool, true, false, not}
 use Rattle.std.proofs.Common.{◌&&◌, ◌||◌, List, [], ◌∷◌, Option, None, Some, IfSome, FitsSigned, of_z, to_z, arith, refl, ap, ◌∙◌, sym, subst, inl, inr, ◌⊎◌}
 use Rattle.std.proofs.Common.{zero, suc, min, max, bit_and, bit_or, unwrap_or, get_or, length, slice_index, take, unsigned_abs, w32, w64}
@@ -129,7 +129,7 @@ or_bits a b i = ap (λ (n : ℕ). n == 1) (bit_at_or a b i) ∙ either (bit_at a
     either (suc (suc m)) n p q = absurd (omega arith)
     either m (suc (suc n)) p q = absurd (omega arith)
 
--- the bits of one cell more
+-- the bit of one more cell is added
 pub bits_more : (cells : List Cell) (k : ℕ) (d : Cell) (bits bit : ℕ) (c : Cell) (i : ℕ) → k < length cells
     → (bit_at bits i == 1) ≡ has (take k cells) c
     → (bit_at bit i == 1) ≡ same_cell c (get_or cells k d) → (bit_at (bit_or bits bit) i == 1) ≡ has (take (k + 1) cells) c
@@ -164,7 +164,7 @@ row_without at words gone s r word bits i hs hr hi small is here =
 
 -- ---- depths
 
--- the cell so many columns further than the first of a row of a word column
+-- the cell i columns after the first cell of a row of a word column is cell i of that row
 pub cell_along : (at : Frame) (s r i : ℕ) (first c : Cell) → first ≡ board_cell at s r 0 → c ≡ cell_at (first.x +ℤ pos i) first.y
     → c ≡ board_cell at s r i
 cell_along at s r i first c begins is = is ∙ ap (λ (d : Cell). cell_at (d.x +ℤ pos i) d.y) begins ∙ along_cell at s r i
@@ -175,12 +175,12 @@ unfolding on_plane
 cell_on_plane at s r i c hs hr hi plane is =
     ap (is_within plane_bound) is ∙ lies_near (bounds_of at) plane_bound (board_cell at s r i) plane (spot_within at s r i hs hr hi)
 
--- how many rows are worth a look: what the outermost cell is deeper
+-- from step `first` on, the outermost cell is at most `step` deeper than m
 pub enough_steps : (o m : ℤ) (count apart first step : ℕ) → apart ≡ unsigned_abs (o -ℤ m) → first ≡ min count apart → first ≤ step → step < count
     → o ≤ℤ (m +ℤ pos step)
 enough_steps o m count apart first step is least low high = omega (arith, ints)
 
--- a cell in a row further inwards is less deep, by as many steps at least
+-- a cell in a row `step` steps inwards is less deep than the outermost cell by at least `step`
 inner_depth : (at : Frame) (way : Direction) (word_column : ℕ) (rows : RowSpan) (step i : ℕ) → step < rows.end - rows.from → i < 64
     → (depth_in way (board_cell at word_column (inner_row way.down rows step) i) +ℤ pos step)
     ≤ℤ depth_in way (board_cell at word_column (inner_row way.down rows 0) (outer_column way.right))
@@ -204,7 +204,7 @@ no_deeper at way word_column rows first found m outermost is outer within step l
     sum : (a o b p : ℤ) → (a +ℤ p) ≤ℤ b → o ≡ b → o ≤ℤ (m +ℤ p) → a ≤ℤ m
     sum a o b p h e k = omega (arith, ints)
 
--- a column further out is deeper
+-- a cell in a column further out is at least as deep
 outer_depth : (at : Frame) (way : Direction) (word_column row i column : ℕ) → counted way.right (pos i) ≤ℤ counted way.right (pos column)
     → depth_in way (board_cell at word_column row i) ≤ℤ depth_in way (board_cell at word_column row column)
 outer_depth at way word_column row i column far = by_cases way.right far (counted way.down (at.top +ℤ pos row))
@@ -280,7 +280,7 @@ row_deeper at way cells word_column row word column found deep later is low one 
 
 -- ---- a word column
 
--- a row of which the word is 0 has no live cell
+-- if the word of a row is 0, the row has no live cell
 dead_row_seen : (at : Frame) (way : Direction) (words : List ℕ) (gone : List Cell) (word_column row : ℕ) (found : Option ℤ) → word_column < at.word_columns → row < at.rows
     → slice_index words (word_of at word_column row) ≡ 0 → IsSeen at way (without (cells_on at words) gone) word_column row found
 dead_row_seen at way words gone word_column row found hs hr none i low alive =
@@ -293,7 +293,7 @@ seen_later : (at : Frame) (way : Direction) (cells : List Cell) (word_column row
     → IsSeen at way cells word_column row found → IsSeen at way cells word_column row later
 seen_later at way cells word_column row found later deeper seen i low alive = deeper.kept _ (seen i low alive)
 
--- a row that many steps inwards is one of the board's
+-- the row a number of steps inwards is a row of the board
 inner_row_low : (down : Bool) (rows : RowSpan) (step limit : ℕ) → rows.end ≤ limit → step < rows.end - rows.from → inner_row down rows step < limit
 inner_row_low true rows step limit most low = omega arith
 inner_row_low false rows step limit most low = omega arith
@@ -302,7 +302,7 @@ inner_row_low false rows step limit most low = omega arith
 abbrev pub AreSeen : Frame → Direction → List Cell → ℕ → RowSpan → ℕ → Option ℤ → Type 0
 AreSeen at way cells word_column rows count found = (step : ℕ) → step < count → IsSeen at way cells word_column (inner_row way.down rows step) found
 
--- those from a step on are dead
+-- the rows from step `from` to before step `to` are dead
 abbrev pub AreDeadRows : Frame → Direction → List ℕ → ℕ → RowSpan → ℕ → ℕ → Type 0
 AreDeadRows at way words word_column rows from to =
     (step : ℕ) → from ≤ step → step < to → slice_index words (word_of at word_column (inner_row way.down rows step)) ≡ 0
@@ -337,7 +337,7 @@ rows_seen at way words gone word_column rows step next found later hs most low s
         dead_row_seen at way words gone word_column (inner_row way.down rows k) later hs
         (inner_row_low way.down rows k at.rows most (omega (arith, near, apart))) (dead k from (omega (arith, near, apart)))
 
--- which step leads to a row
+-- the number of steps inwards from the outermost row to a row
 step_to : (down : Bool) (rows : RowSpan) (row : ℕ) → rows.from ≤ row → row < rows.end
     → (step : ℕ) × (step < rows.end - rows.from) × (row ≡ inner_row down rows step)
 step_to true rows row from to = (rows.end - (row + 1), omega arith, omega arith)
@@ -400,14 +400,14 @@ all_seen at way words gone found seen c e =
     (seen (k / 64 / at.rows) (k / 64 % at.rows) spot.word_column spot.row (k % 64) (omega arith)
     (ap (λ (d : Cell). has (without (cells_on at words) gone) d) (sym bit.3) ∙ e))
 
--- so this is how far the pattern reaches
+-- the greatest depth that was found is how far the pattern reaches
 pub reaches : (way : Orientation) (direction : Direction) (cells : List Cell) (found : Option ℤ)
     → ((c : Cell) → depth_in direction c ≡ depth (turned_cell way c)) → ((c : Cell) → has cells c ≡ true → IsReached found (depth_in direction c))
     → IfSome found (λ m. LiesUpTo way m cells)
 reaches way direction cells None is seen = tt
 reaches way direction cells (Some m) is seen = λ c e. subst (λ (z : ℤ). z ≤ℤ m) (is c) (seen c e)
 
--- a cell that doesn't stand in a column of the row has no bit there
+-- a cell that isn't at column i of the row has no bit there
 pub no_bit : (first cell : Cell) (i : ℕ) → (first.y ≡ cell.y → first.x +ℤ pos i ≡ cell.x → ⊥)
     → (bit_at 0 i == 1) ≡ same_cell (cell_at (first.x +ℤ pos i) first.y) cell
 no_bit first cell i apart = bit_is 0 first cell i (λ one. absurd (omega (arith, one, bit_at-zero i)))

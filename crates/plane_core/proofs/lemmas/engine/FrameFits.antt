@@ -1,4 +1,4 @@
--- That the numbers from which a frame is made fit their types.
+-- The numbers from which a frame is made fit their types.
 use Rattle.std.proofs.Common.{◌≡◌, ◌+◌, ◌-◌, ◌*◌, ◌/◌, ◌^◌, ◌<◌, ◌≤◌, ℕ, ℤ, pos, ◌+ℤ◌, ◌-ℤ◌, ◌≤ℤ◌, Fits, FitsSigned, true, false}
 use Rattle.std.proofs.Common.{◌∙◌, ap, arith, max, unsigned_abs, of_z, subst, to_z, w32, w64}
 use Rattle.std.proofs.lemmas.Int.{ints, to_z-of_z}
@@ -57,7 +57,7 @@ middle_low a b low small = omega arith
 fits_near : (x : ℤ) → unsigned_abs x ≤ plane_bound → FitsSigned w32 x
 fits_near x near = omega (arith, ints)
 
--- a number that is passed on is what it was
+-- a coordinate that is passed on as 32 bits is still within the bound
 pub passed_near : (x : ℤ) → unsigned_abs x ≤ plane_bound → unsigned_abs (to_z w32 (of_z w32 x)) ≤ plane_bound
 passed_near x near = rw (to_z-of_z w32 x (fits_near x near)) near
 
@@ -246,7 +246,7 @@ past_bottom at c fits frame past within =
     let h = within.bottom in
     omega (arith, ints, past)
 
--- and cells on it
+-- cells on the frame
 pub in_frame : (at : Frame) (c : Cell) → FitsSigned w32 c.x → FitsSigned w32 c.y → IsFrame at
     → lt_z (to_z w32 (of_z w32 c.x)) (to_z w32 (of_z w32 at.left)) ≡ false
     → le_z (to_z w32 (of_z w32 (to_z w32 (of_z w32 at.left) +ℤ to_z w32 (64 * at.word_columns)))) (to_z w32 (of_z w32 c.x)) ≡ false

@@ -17,7 +17,7 @@ use Rattle.plane_core.proofs.lemmas.Between.{HasRoom}
 
 -- ---- places in the list
 
--- a row's place in the list is inside it, and isn't large
+-- the index of a row's word is in the list, and isn't large
 pub word-inside : (at : Frame) (s r : ℕ) → s < at.word_columns → r < at.rows → word_of at s r < at.word_columns * at.rows
 word-inside at s r hs hr =
     let many : at.word_columns ≡ s + 1 + (at.word_columns - (s + 1)) = omega arith in
@@ -27,7 +27,7 @@ word-inside at s r hs hr =
 pub frame-small : (at : Frame) → IsFrame at → at.word_columns * at.rows ≤ 2 ^ 16 * 2 ^ 22
 frame-small at frame = mul-le-mul frame.word_columns frame.rows
 
--- two rows have one place in the list only if they are one
+-- different rows have different indices in the list
 pub one_word : (h s r t y : ℕ) → s * h + r ≡ t * h + y → r < h → y < h → (s ≡ t) × (r ≡ y)
 one_word h s r t y e hr hy = go (same_or_not s t)
   where
@@ -46,7 +46,7 @@ one_word h s r t y e hr hy = go (same_or_not s t)
 
 -- ---- cells
 
--- the cell so many columns and rows away from the board's corner
+-- the cell that is a columns and d rows from the board's corner
 pub spot_of : (at : Frame) (c : Cell) (a d : ℕ) → pos a ≡ c.x -ℤ at.left → pos d ≡ c.y -ℤ at.top → c ≡ board_cell at (a / 64) d (a % 64)
 spot_of at c a d p q = same_cells c.x c.y _ _ (omega (arith, ints)) (omega (arith, ints))
 
@@ -56,7 +56,7 @@ one_spot at t y k s d i hk hi e =
     let z : at.top +ℤ pos y ≡ at.top +ℤ pos d = ap (λ (c : Cell). c.y) e in
     (omega (arith, ints), omega (arith, ints), omega (arith, ints))
 
--- a cell on the board stands in one of its word columns and rows
+-- a cell on the board is in one of its word columns and rows
 pub spot_inside : (at : Frame) (c : Cell) (a d : ℕ) → IsWithin (bounds_of at) c → pos a ≡ c.x -ℤ at.left → pos d ≡ c.y -ℤ at.top
     → (a / 64 < at.word_columns) × (d < at.rows)
 spot_inside at c a d within p q =
@@ -72,7 +72,7 @@ lie_on S b at least h c e = h c (in_box S b c least e)
 pub sides_on_plane : (b : Bounds) (margin : ℕ) → AreSidesWithin (plane_bound - margin - 64) b → AreSidesWithin plane_bound b
 sides_on_plane b margin sides = fewer_sides (plane_bound - margin - 64) plane_bound b (omega arith) sides
 
--- a frame that is made so
+-- a frame around a box with a margin
 pub record IsRoundBox (b : Bounds) (margin : ℕ) (at : Frame) : Type 0 where
   pub left : at.left ≡ b.left -ℤ pos margin
   pub top : at.top ≡ b.top -ℤ pos margin
@@ -107,7 +107,7 @@ round_has_on b margin at is c within =
       bottom = let p = within.bottom in omega (arith, ints);
     }
 
--- the sides of a least box stand in their order
+-- the sides of a least box are in order
 pub box_in_order : (S : List Cell) (b : Bounds) → IsLeastBox S b → (b.left ≤ℤ b.right) × (b.top ≤ℤ b.bottom)
 box_in_order S b least =
     let (k, x, low, same, left) = least.left in
@@ -138,7 +138,7 @@ round_on_plane b margin at low across down sides is =
 
 -- ---- a frame in whose middle a box lies
 
--- a frame that is made so
+-- a frame in whose middle the box is
 pub record IsRoundMiddle (at : Frame) (b : Bounds) (new : Frame) : Type 0 where
   pub left : new.left ≡ b.left -ℤ pos ((64 * at.word_columns - (distance b.left b.right + 1)) / 2)
   pub top : new.top ≡ b.top -ℤ pos ((at.rows - (distance b.top b.bottom + 1)) / 2)

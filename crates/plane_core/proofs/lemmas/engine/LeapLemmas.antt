@@ -47,7 +47,7 @@ marks_differences n p one other x y change height sx sy differs = record {
       ∙ sym (sy r i d inside a (omega (arith, b)));
 }
 
--- a window of which all is dead shows no cell
+-- a window of empty rows shows the empty pattern
 empty_window : (n : ℕ) (left top : ℤ) → IsShownInside n left top 4 (replicate n (replicate 4 0)) []
 empty_window n left top r i a b d e =
     let some : 0 < n = omega (arith, b) in
@@ -57,7 +57,7 @@ empty_window n left top r i a b d e =
     ap (λ (v : List ℕ). slice_index v (r / n)) vector ∙ get_or-replicate 4 (r / n) 0 0 (div_below r n 4 some low) in
     ap (λ (n : ℕ). n == 1) (sym (ap (λ (w : ℕ). bit_at w i) row ∙ bit_at-zero i))
 
--- an odd number of generations is compared with nothing
+-- after an odd number of generations, the window is compared with an empty one
 pub run_odd : (n : ℕ) (rule : Numbers) (count : ℕ) (x y : List (List ℕ)) (change : DifferenceMask) → count ≤ 4 → count % 2 ≡ 1 → IsLaterWindow rule n x y count
     → DiffersOnlyIn n change y (replicate n (replicate 4 0)) → IsRun n rule count x y change
 run_odd n rule count x y change few odd made differs p cells height o shown = (
@@ -72,7 +72,7 @@ run_odd n rule count x y change few odd made differs p cells height o shown = (
     none : compared_with rule cells count ≡ []
     none = ap (λ (n : ℕ). cond (n == 0) (after rule cells (count - 2)) []) odd
 
--- an even number is compared with the generation two before it
+-- after an even number of generations, the window is compared with the window two generations earlier
 pub run_even : (n : ℕ) (rule : Numbers) (count : ℕ) (x y z : List (List ℕ)) (change : DifferenceMask) → 2 ≤ count → count ≤ 4 → count % 2 ≡ 0
     → IsLaterWindow rule n x y (count - 2) → IsLaterWindow rule n y z 2 → DiffersOnlyIn n change z y → IsRun n rule count x z change
 run_even n rule count x y z change some few even first second differs p cells height o shown = (
@@ -124,20 +124,20 @@ shown_read at p words x y n window cells word_columns rows left top shows read r
     ∙ shows_bit at words cells (x + i) (y + r) shows (omega arith) (omega arith)
     ∙ ap (λ (m : ℕ). m == 1) (sym (read r i (omega arith) (omega arith)))
 
--- so do rows that were read
+-- rows that were read show what the board shows
 pub rows_shown : (at : Frame) (left top : ℤ) (words : List ℕ) (x y : ℕ) (rows : List ℕ) (cells : List Cell) → x / 64 + 1 < at.word_columns → y + 64 ≤ at.rows
     → left ≡ at.left +ℤ pos x → top ≡ at.top +ℤ pos y → Shows at words cells → AreRowsRead at words x y 64 rows → ShowsInAllRows left top rows cells
 rows_shown at left top words x y rows cells word_columns fit west north shows read r i hr hi =
     ap (has cells) (same_cell_at _ _ (at.left +ℤ pos (x + i)) (at.top +ℤ pos (y + r)) (omega (arith, ints)) (omega (arith, ints)))
     ∙ shows_bit at words cells (x + i) (y + r) shows (omega arith) (omega arith) ∙ ap (λ (m : ℕ). m == 1) (sym (read r i hr hi))
 
--- and the window of these rows
+-- the window packed from rows shows what the rows show
 pub window_shown : (left top : ℤ) (rows : List ℕ) (window : List (List ℕ)) (cells : List Cell) → ShowsInAllRows left top rows cells
     → ((r : ℕ) → r < 64 → row_at 16 window r ≡ slice_index rows r) → IsShownInside 16 left top 0 window cells
 window_shown left top rows window cells shows packed r i a low d inside =
     shows r i (omega (arith, low)) (omega (arith, inside)) ∙ ap (λ (w : ℕ). bit_at w i == 1) (sym (packed r (omega (arith, low))))
 
--- so the rows of a window that was run are those of some generations later
+-- the rows of a window that was read and run are those of the board `count` generations later
 pub run_place : (at : Frame) (p : LeapWindow) (words : List ℕ) (rule : Numbers) (count x y n : ℕ) (read : List ℕ) (window later : List (List ℕ)) (rows : List ℕ)
     (change : DifferenceMask) → p.rows ≡ 4 * n → x / 64 + 1 < at.word_columns → y + p.rows ≤ at.rows → p.left ≡ at.left +ℤ pos x → p.top ≡ at.top +ℤ pos y
     → AreRowsRead at words x y (4 * n) read → ((r : ℕ) → r < 4 * n → row_at n window r ≡ slice_index read r) → IsRun n rule count window later change
@@ -154,7 +154,7 @@ run_place at p words rule count x y n read window later rows change height word_
 
 -- ---- place after place
 
--- the first places were run
+-- the first `done` windows were run
 pub record AreRunFirst (at : Frame) (words : List ℕ) (rule : Numbers) (count : ℕ) (places : List LeapWindow) (held : List (List ℕ))
     (boxes : List Bounds) (done : ℕ) : Type 0 where
   pub long : length places ≤ length held
@@ -195,7 +195,7 @@ run_more at words rule count places held boxes boxes2 done q rows change found b
 
 -- ---- putting back
 
--- a cell of the inner part, by the board's columns and rows
+-- a cell of the inner part is in an inner column and an inner row
 inner_place : (at : Frame) (p : LeapWindow) (x y end u v : ℕ) → p.left ≡ at.left +ℤ pos x → p.top ≡ at.top +ℤ pos y → end + 4 ≡ p.rows
     → IsInnerCell p (cell_on at u v) → IsInner x y end u v
 inner_place at p x y end u v left top height inner =

@@ -46,7 +46,7 @@ has-push cs c = has-append cs (c ∷ []) c ∙ or_right (has cs c) (has (c ∷ [
 
 -- ---- a word
 
--- a bit of a word is one of the word moved down
+-- a bit of a word is a bit of the shifted word
 moved_down : (n k i : ℕ) → k ≤ i → bit_at n i ≡ bit_at (n / 2 ^ k) (i - k)
 moved_down n k i low =
     ap (λ (m : ℕ). bit_at m i) (sym (div-add-mod' n (2 ^ k))) ∙ bit_at_cat_high (n / 2 ^ k) k (n % 2 ^ k) i (mod-lt n (pow_pos k)) low
@@ -95,7 +95,7 @@ read_one word first old new i low one read = record {
     at k near bit (inl same) = subst (λ (n : ℕ). has (new ++ c ∷ []) (cell_at (first.x +ℤ pos n) first.y) ≡ true) (sym same) (has-push new c)
     at k near bit (inr apart) = grows-push new c _ (read.complete k (omega arith) bit)
 
--- from one place to another there is nothing to read
+-- a range of bits that are 0 adds nothing to the list
 pub read_on : (word : ℕ) (first : Cell) (old new : List Cell) (i j : ℕ) → AreDead word i j → HasRead word first old i new → HasRead word first old j new
 read_on word first old new i j none read = record {
   grows = read.grows;
@@ -115,7 +115,7 @@ along_cell at s r i = same_cells _ _ _ _ (omega (arith, ints)) refl
 pub row-none : (at : Frame) (words : List ℕ) (r : ℕ) (old : List Cell) → HasReadRow at words r old 0 old
 row-none at words r old = record { grows = λ d e. e; sound = λ others shown among. among; complete = λ s i low. absurd (omega arith) }
 
--- word columns without a cell have nothing to read
+-- word columns without a live cell add nothing to the list
 pub row-on : (at : Frame) (words : List ℕ) (r n m : ℕ) (old new : List Cell) → IsRowEmpty at words r n m → HasReadRow at words r old n new
     → HasReadRow at words r old m new
 row-on at words r n m old new empty before = record {
@@ -180,7 +180,7 @@ rows-none at words cells none = record {
   complete = λ s r i hs low. absurd (omega arith);
 }
 
--- an empty band has nothing to read
+-- an empty band adds nothing to the list
 pub rows-on : (at : Frame) (words : List ℕ) (band : ℕ) (new : List Cell) → IsBandEmpty at words band 0 at.word_columns → HasReadRows at words (8 * band) new
     → HasReadRows at words (8 * band + 8) new
 rows-on at words band new empty before = record {
@@ -197,7 +197,7 @@ rows-on at words band new empty before = record {
         let same = ap (λ (n : ℕ). bit_at (slice_index words (word_of at s n)) i) row in
         absurd (omega (arith, none, same, bit))
 
--- a block without a column is empty
+-- if the union of the words of a word column in a band is 0, the word column is empty in that band
 pub word_column-empty : (at : Frame) (words : List ℕ) (s band from columns : ℕ) → from ≡ word_of at s (8 * band) → columns ≡ 0
     → ((b k : ℕ) → bit_at columns b ≡ 0 → k < 8 → bit_at (slice_index words (from + k)) b ≡ 0) → IsWordColumnEmpty at words band s
 word_column-empty at words s band from columns is zero here k b low small =
@@ -211,7 +211,7 @@ band-more at words band n before here s low near = elim (same_or_not s n) [
   | inr apart ↦ before s low (omega (arith, near, apart))
 ]
 
--- and one word column more at its end
+-- one more word column at the start of the range is empty
 pub band-less : (at : Frame) (words : List ℕ) (band n m : ℕ) → 1 ≤ n → IsBandEmpty at words band n m → IsWordColumnEmpty at words band (n - 1)
     → IsBandEmpty at words band (n - 1) m
 band-less at words band n m some before here s low near = elim (same_or_not s (n - 1)) [
@@ -219,7 +219,7 @@ band-less at words band n m some before here s low near = elim (same_or_not s (n
   | inr apart ↦ before s (omega (arith, low, apart, some)) near
 ]
 
--- one word more of a block
+-- one more word is added to the union of a block of eight
 pub eight-more : (words : List ℕ) (from k columns : ℕ)
     → ((b m : ℕ) → bit_at columns b ≡ 0 → m < k → bit_at (slice_index words (from + m)) b ≡ 0)
     → (b m : ℕ) → bit_at (bit_or columns (slice_index words (from + k))) b ≡ 0 → m < k + 1 → bit_at (slice_index words (from + m)) b ≡ 0
@@ -237,13 +237,13 @@ eight-more words from k columns before b m none near = go (same_or_not m k)
 pub missed_eight : (span : RowSpan) (first : ℕ) → (nat_le span.end first || nat_le (first + 8) span.from) ≡ true → (k : ℕ) → k < 8 → HasRow span (first + k) → ⊥
 missed_eight span first e k low inside = let a = inside.low in let b = inside.high in grind (arith, nat_tests)
 
--- where its span doesn't reach, a word column is empty
+-- a word column is empty in a band that its span doesn't reach
 pub word_column_missed : (at : Frame) (words : List ℕ) (spans : List RowSpan) (s band : ℕ) → s < at.word_columns → band < at.rows / 8
     → LieInSpans at spans (cells_on at words) → ((k : ℕ) → k < 8 → IsInSpan spans s (8 * band + k) → ⊥) → IsWordColumnEmpty at words band s
 word_column_missed at words spans s band hs hb live missed k b low small =
     dead_outside at words spans s (8 * band + k) b live hs (omega (arith, low, hb)) small (missed k low)
 
--- and where no span reaches, word columns are
+-- word columns that no span reaches are empty
 pub band_missed : (at : Frame) (words : List ℕ) (spans : List RowSpan) (word_columns : RowSpan) (band from to : ℕ) → band < at.rows / 8 → to ≤ at.word_columns
     → LieInSpans at spans (cells_on at words) → LieInWordColumns at spans word_columns → ((s : ℕ) → from ≤ s → s < to → HasRow word_columns s → ⊥)
     → IsBandEmpty at words band from to
@@ -251,7 +251,7 @@ band_missed at words spans word_columns band from to hb most live held out s pas
     word_column_missed at words spans s band (omega (arith, near, most)) hb live
     (λ k low inside. out s past near (held s (8 * band + k) (omega (arith, near, most)) inside))
 
--- two neighbouring bands
+-- two adjacent ranges of word columns of a band are empty
 pub band_joined : (at : Frame) (words : List ℕ) (band from mid to : ℕ) → IsBandEmpty at words band from mid → IsBandEmpty at words band mid to
     → IsBandEmpty at words band from to
 band_joined at words band from mid to first second s past near = elim (less_or_not s mid) [
@@ -259,7 +259,7 @@ band_joined at words band from mid to first second s past near = elim (less_or_n
   | inr more ↦ second s more near
 ]
 
--- the bands that have the rows of a span, as far as these are on the board
+-- the bands that contain the rows of a span, up to the end of the board
 pub bands_begin : (first all from : ℕ) → from ≡ min first all → 8 * (from / 8) ≤ all
 bands_begin first all from is = omega (arith, is)
 
@@ -273,7 +273,7 @@ bands_held rows all from end r from_is end_is low inside =
     let b = inside.high in
     record { low = omega (arith, from_is); high = omega (arith, end_is) }
 
--- outside of the bands that spans reach there is nothing to read
+-- the bands before those that the spans reach add nothing to the list
 pub bands_before : (at : Frame) (words : List ℕ) (spans : List RowSpan) (bands : RowSpan) (cells : List Cell) → cells ≡ [] → 8 * bands.from ≤ at.rows
     → LieInSpans at spans (cells_on at words) → ((s r : ℕ) → s < at.word_columns → r < at.rows → IsInSpan spans s r → HasRow bands (r / 8))
     → HasReadRows at words (8 * bands.from) cells
@@ -298,7 +298,7 @@ bands_after at words spans bands band cells low live held before = record {
 natural : (d : ℤ) (a : ℤ) → a ≤ℤ d → pos (unsigned_abs (d -ℤ a)) ≡ d -ℤ a
 natural d a h = omega (arith, ints)
 
--- what was read off the whole board, in order, is what it shows
+-- the cells read from the whole board, in order, are the pattern that it shows
 pub read_all : (at : Frame) (words : List ℕ) (S new : List Cell) → InOrder S → LieOn at S → Shows at words S → HasReadRows at words (at.rows) new
     → set_of new ≡ S
 read_all at words S new o fits shown read = sym (is_set_of S new o (λ c. both_true (has S c) (has new c) (there c) (read.sound S shown c)))
@@ -317,7 +317,7 @@ read_all at words S new o fits shown read = sym (is_set_of S new o (λ c. both_t
         let bit : (bit_at (slice_index words (word_of at (a / 64) d)) (a % 64) == 1) ≡ true = sym (shown (a / 64) d (a % 64) hs hr (omega arith)) ∙ alive in
         ap (λ (x : Cell). has new x) is ∙ read.complete (a / 64) d (a % 64) hs hr (omega arith) (eqb-true _ 1 bit)
 
--- so what was read off all rows, put in order, is the pattern
+-- the cells read from all rows, in order, are the pattern of the board
 pub all_read : (at : Frame) (words : List ℕ) (new set : List Cell) → HasReadRows at words at.rows new → set ≡ set_of new → set ≡ cells_on at words
 all_read at words new set read is =
     is ∙ read_all at words (cells_on at words) new (cells_in_order at words) (cells_lie_on at words) (shows_cells at words) read

@@ -40,11 +40,11 @@ use Rattle.plane_core.proofs.lemmas.Between.{IsReadAt}
 
 -- ---- one window
 
--- one generation is the next
+-- the pattern after one generation is the next generation
 pub after-one : (rule : Numbers) (S : List Cell) → after rule S 1 ≡ next rule S
 after-one rule S = after-suc rule S 0 ∙ ap (next rule) (after-none rule S)
 
--- a row more without a live cell
+-- one more row is added to the union of the rows
 pub rows_more : (rows : List ℕ) (r all : ℕ) → ((i : ℕ) → bit_at all i ≡ 0 → (k : ℕ) → k < r → bit_at (slice_index rows k) i ≡ 0)
     → (i : ℕ) → bit_at (bit_or all (slice_index rows r)) i ≡ 0 → (k : ℕ) → k < r + 1 → bit_at (slice_index rows k) i ≡ 0
 rows_more rows r all before i none k low = go (same_or_not k r)
@@ -76,12 +76,12 @@ next_shown at words rule x y window later rows columns fits read run unpacked ce
     shown = shown_next rule cells 10 left top 0 window later order
         (shown_read at (record { left = left; top = top; rows = 40 }) words x y 10 window cells columns fits refl refl shows read) run
 
--- what lies next to an inner column or row lies in the window
+-- a column or row next to an inner one is in the window
 near_by : (first at : ℤ) (from i end : ℕ) → 4 ≤ i → end ≤ 60 → i < end → distance (first +ℤ pos (from + i)) at ≤ 1
     → (unsigned_abs (at -ℤ (first +ℤ pos from)) < end + 1) × (at ≡ first +ℤ pos (from + unsigned_abs (at -ℤ (first +ℤ pos from))))
 near_by first at from i end low most high near = (omega (arith, ints, near), omega (arith, ints, near))
 
--- where no cell is alive, none is in the next generation
+-- if the window has no live cell, its inner part has none in the next generation
 pub empty_shown : (at : Frame) (words : List ℕ) (rule : Numbers) (x y : ℕ) (rows : List ℕ) → x / 64 + 1 < at.word_columns → y + 40 ≤ at.rows
     → AreRowsRead at words x y 40 rows → ((r i : ℕ) → r < 40 → bit_at (slice_index rows r) i ≡ 0) → AreNextRows at words rule x y rows
 empty_shown at words rule x y rows columns fits read empty cells order shows r i d_low e a_low b =
@@ -108,7 +108,7 @@ band_none at y from cells windows none = record {
   covered = λ u v a b d e. absurd (omega arith);
 }
 
--- a window more
+-- one more window of the band
 pub band_more : (at : Frame) (y from x : ℕ) (cells : List Cell) (windows new : List NextRows) (window : NextRows) → window.x ≡ x
     → IsNextWindowOf at y cells window → new ≡ windows ++ window ∷ [] → AreBandOf at y from (x + 4) cells windows → AreBandOf at y from (x + 56 + 4) cells new
 band_more at y from x cells windows new window here is pushed before = record {
@@ -122,7 +122,7 @@ band_more at y from x cells windows new window here is pushed before = record {
     place u v a b d e alive (inr past) =
         inr (record { i = u - x; low = omega arith; high = omega arith; is = omega (arith, here) })
 
--- or none, since it has no live cell
+-- a window without live cells is skipped
 pub band_skipped : (at : Frame) (y from x : ℕ) (cells : List Cell) (windows : List NextRows) (rows : List ℕ) → ShowsInnerRows at x y rows cells
     → ((r i : ℕ) → r < 40 → bit_at (slice_index rows r) i ≡ 0) → AreBandOf at y from (x + 4) cells windows → AreBandOf at y from (x + 56 + 4) cells windows
 band_skipped at y from x cells windows rows shown empty before = record {
@@ -139,7 +139,7 @@ band_skipped at y from x cells windows rows shown empty before = record {
         absurd (false≢true (sym ((λ t. has cells (cell_on at (column t) (row t))) ∙ shown (v - y) (u - x) (omega arith) (omega arith) (omega arith) (omega arith)
         ∙ ap (λ (n : ℕ). n == 1) (empty (v - y) (u - x) (omega arith))) ∙ alive))
 
--- a band has what a wider one has
+-- a band also shows each narrower range of columns
 pub band_within : (at : Frame) (y from end wide : ℕ) (cells : List Cell) (windows : List NextRows) → end ≤ wide → AreBandOf at y from wide cells windows
     → AreBandOf at y from end cells windows
 band_within at y from end wide cells windows low band = record {
@@ -149,7 +149,7 @@ band_within at y from end wide cells windows low band = record {
 
 -- ---- rows, one window after another
 
--- of row v of the board the cells in the inner parts of windows have been listed
+-- the live cells of row v in the inner parts of the windows have been listed
 pub record HasListedRow (at : Frame) (v : ℕ) (cells : List Cell) (windows : List NextRows) (old new : List Cell) : Type 0 where
   pub grows : AreAmong new old
   pub sound : AreAmong cells old → AreAmong cells new
@@ -158,7 +158,7 @@ pub record HasListedRow (at : Frame) (v : ℕ) (cells : List Cell) (windows : Li
 pub row_none : (at : Frame) (v : ℕ) (cells old : List Cell) → HasListedRow at v cells [] old old
 row_none at v cells old = record { grows = λ c e. e; sound = λ among. among; complete = λ u some. absurd (omega (arith, some.2)) }
 
--- an inner bit of a masked word
+-- masking a word keeps its inner bits
 masked_one : (word i : ℕ) → 4 ≤ i → i < 60 → bit_at word i ≡ 1 → bit_at (bit_and word inner_mask) i ≡ 1
 masked_one word i low high one = go (inner_bit i)
   where
@@ -179,7 +179,7 @@ one_masked word i one = go (inner_bit i)
     go (inl inner) = let mask = inner.0 in (inner.1, inner.2, omega (arith, both, one, mask))
     go (inr outer) = let mask = outer.0 in absurd (omega (arith, both, one, mask))
 
--- the row of a window more
+-- the row of one more window has been listed
 pub row_more : (at : Frame) (y r k : ℕ) (cells : List Cell) (windows : List NextRows) (window : NextRows) (word : ℕ) (first : Cell) (old mid new : List Cell)
     → 4 ≤ r → r < 36 → k < length windows → window ≡ get_or windows k window → IsNextWindowOf at y cells window
     → word ≡ bit_and (slice_index window.rows r) inner_mask → first ≡ cell_on at window.x (y + r) → HasListedRow at (y + r) cells (take k windows) old mid
@@ -214,7 +214,7 @@ row_more at y r k cells windows window word first old mid new low high there is 
 pub rows_none : (at : Frame) (y : ℕ) (cells : List Cell) (windows : List NextRows) (old : List Cell) → HasListedRows at y 4 cells windows old old
 rows_none at y cells windows old = record { grows = λ c e. e; sound = λ among. among; complete = λ u r low high. absurd (omega arith) }
 
--- a row more
+-- one more row has been listed
 pub listed_more : (at : Frame) (y r : ℕ) (cells : List Cell) (windows : List NextRows) (old mid new : List Cell) → HasListedRows at y r cells windows old mid
     → HasListedRow at (y + r) cells windows mid new → HasListedRows at y (r + 1) cells windows old new
 listed_more at y r cells windows old mid new before row = record {
@@ -231,7 +231,7 @@ listed_more at y r cells windows old mid new before row = record {
 
 -- ---- the board
 
--- where a cell of the next generation lies: at most a column and a row outside of the hull
+-- each cell of the next generation is at most one column and one row outside the hull
 pub record IsSpotOf (at : Frame) (hull : Hull) (c : Cell) : Type 0 where
   pub u : ℕ
   pub v : ℕ
@@ -279,7 +279,7 @@ next_spot at rule words hull c rim held alive = spot (near-after rule cells 1 c 
         let on = spot_inside at d a b within p q in
         beside d a b p q near (held (a / 64) b (a % 64) on.0 on.1 (omega arith) (ap (has cells) (sym (spot_of at d a b p q)) ∙ live))
 
--- so it lies on the board
+-- the next generation is on the board
 pub next_on : (at : Frame) (rule : Numbers) (words : List ℕ) (hull : Hull) → HasRim at hull → LiesInHull at hull (cells_on at words)
     → LieOn at (after rule (cells_on at words) 1)
 next_on at rule words hull rim held c alive = within (next_spot at rule words hull c rim held alive)
@@ -294,7 +294,7 @@ next_on at rule words hull rim held c alive = within (next_spot at rule words hu
         let rows = rim.bottom in
         record { left = omega (arith, ints); top = omega (arith, ints); right = omega (arith, ints); bottom = omega (arith, ints) }
 
--- above the hull there is nothing
+-- no cell of the next generation is above the first band
 pub above_none : (at : Frame) (rule : Numbers) (words : List ℕ) (hull : Hull) (new : List Cell) → HasRim at hull → LiesInHull at hull (cells_on at words)
     → new ≡ [] → HasListedAbove at (hull.rows.from - 5 + 4) (after rule (cells_on at words) 1) new
 above_none at rule words hull new rim held none = record {
@@ -307,7 +307,7 @@ above_none at rule words hull new rim held none = record {
       absurd (omega (arith, ints));
 }
 
--- a band more
+-- one more band has been listed
 pub above_more : (at : Frame) (rule : Numbers) (words : List ℕ) (hull : Hull) (y : ℕ) (windows : List NextRows) (old new : List Cell) → HasRim at hull
     → LiesInHull at hull (cells_on at words)
     → AreBandOf at y (64 * hull.word_columns.from - 5 + 4) (64 * hull.word_columns.end + 1) (after rule (cells_on at words) 1) windows
@@ -338,7 +338,7 @@ above_more at rule words hull y windows old new rim held band listed before = re
             (band.covered spot.u spot.v late high (omega arith) (omega arith) live)
             (ap (λ (n : ℕ). has (after rule (cells_on at words) 1) (cell_on at spot.u n)) row ∙ live)
 
--- at last all is listed
+-- after the last band, all cells are listed
 pub all_listed : (at : Frame) (rule : Numbers) (words : List ℕ) (hull : Hull) (y : ℕ) (new : List Cell) → HasRim at hull → LiesInHull at hull (cells_on at words)
     → hull.rows.end < y + 4 → HasListedAbove at (y + 4) (after rule (cells_on at words) 1) new → AreOnBoard at (after rule (cells_on at words) 1) new
 all_listed at rule words hull y new rim held end listed = record {
@@ -358,7 +358,7 @@ all_listed at rule words hull y new rim held end listed = record {
     both_true false true there back = back refl
     both_true false false there back = refl
 
--- what lies in the spans lies in their hull
+-- if each live cell is in the spans and the hull holds the spans, each live cell is in the hull
 pub hull_held : (at : Frame) (words : List ℕ) (spans : List RowSpan) (hull : Hull) → LieInSpans at spans (cells_on at words)
     → HoldsSpans spans at.word_columns hull → LiesInHull at hull (cells_on at words)
 hull_held at words spans hull live holds s r i hs hr hi alive = holds s r hs (live s r i hs hr hi alive)
@@ -370,7 +370,7 @@ next_listed at rule words new set are is =
     is ∙ sym (is_set_of (after rule (cells_on at words) 1) new (in_order-after rule (cells_on at words) 1 (cells_in_order at words)) (λ c. sym (are.same c)))
     ∙ after-one rule (cells_on at words)
 
--- and a pattern
+-- the next generation is a pattern
 pub next_is_pattern : (at : Frame) (rule : Numbers) (words : List ℕ) (new set : List Cell) → AreSidesWithin plane_bound (bounds_of at)
     → AreOnBoard at (after rule (cells_on at words) 1) new → set ≡ set_of new → IsPattern set
 unfolding on_plane

@@ -1,4 +1,4 @@
--- The pattern that a board shows is one list of cells.
+-- The pattern that a board shows is a unique list of cells.
 use Rattle.std.proofs.Common.{◌≡◌, ◌≢◌, ◌==◌, ◌+◌, ◌*◌, ◌/◌, ◌%◌, ◌<◌, ℕ, zero, suc, pos, ◌-ℤ◌, ◌≤ℤ◌, Bool, true, false, cond, List, ◌∷◌}
 use Rattle.std.proofs.Common.{arith, refl, ap, ◌∙◌, sym, subst, inl, inr, ◌⊎◌, slice_index, unsigned_abs, ℤ}
 use Rattle.std.specs.Int.{bit_at}
@@ -17,7 +17,7 @@ use Rattle.plane_core.proofs.lemmas.plane.CaseLemmas.{same_or_not}
 use Rattle.plane_core.proofs.lemmas.engine.FrameLemmas.{one_spot, spot_inside, spot_of, word-inside}
 use Rattle.plane_core.proofs.lemmas.plane.SetLemmas.{has-cases, has-head, has-set_of, in_order-set_of, or_right, same_lists}
 
--- a bit that is 1 is one of the cells
+-- each bit that is 1 is a listed cell
 has-lit : (at : Frame) (ws : List ℕ) (n k : ℕ) → k < n → is_live_bit ws k ≡ true → has (lit_before at ws n) (lit_cell at k) ≡ true
 has-lit at ws zero k low lit = absurd (omega arith)
 has-lit at ws (suc n) k low lit = go (same_or_not k n) (is_live_bit ws n) refl (λ h. has-lit at ws n k h lit)
@@ -33,7 +33,7 @@ has-lit at ws (suc n) k low lit = go (same_or_not k n) (is_live_bit ws n) refl (
     go (inr apart) true is before = or_right _ _ (before (omega arith))
     go (inr apart) false is before = before (omega arith)
 
--- and each of the cells is such a bit
+-- each listed cell is a bit that is 1
 lit-has : (at : Frame) (ws : List ℕ) (n : ℕ) (c : Cell) → has (lit_before at ws n) c ≡ true → (k : ℕ) × (k < n) × (is_live_bit ws k ≡ true) × (c ≡ lit_cell at k)
 lit-has at ws zero c e = absurd (false≢true e)
 lit-has at ws (suc n) c e = go (is_live_bit ws n) refl e (lit-has at ws n c)
@@ -70,7 +70,7 @@ is_live_bit-number at ws s r i hi =
     let bit : number_of at s r i % 64 ≡ i = omega arith in
     λ j. bit_at (slice_index ws (word j)) (bit j) == 1
 
--- where a bit of the list stands
+-- bit k of the list is in a word column and a row of the board
 pub record IsPlaced (at : Frame) (k : ℕ) : Type 0 where
   pub word_column : k / 64 / at.rows < at.word_columns
   pub row : k / 64 % at.rows < at.rows
@@ -120,13 +120,13 @@ shows_cells at ws s r i hs hr hi = has-set_of _ c ∙ both_true (has (lit_before
         ap (λ (x : Cell). has (lit_before at ws n) x) (sym (lit_cell-number at s r i hr hi))
         ∙ has-lit at ws n (number_of at s r i) (omega (arith, inside)) (is_live_bit-number at ws s r i hi ∙ e)
 
--- a cell of a board is one of its bits
+-- each cell of a board's pattern is a bit that is 1
 pub bit_of_cell : (at : Frame) (ws : List ℕ) (c : Cell) → has (cells_on at ws) c ≡ true
     → (k : ℕ) × (k < 64 * (at.word_columns * at.rows)) × (is_live_bit ws k ≡ true) × (c ≡ lit_cell at k)
 unfolding cells_on
 bit_of_cell at ws c e = lit-has at ws _ c (sym (has-set_of _ c) ∙ e)
 
--- each bit of a board is a cell that lies on it
+-- the cell of each bit of a board is on the board
 pub spot_within : (at : Frame) (s r i : ℕ) → s < at.word_columns → r < at.rows → i < 64 → IsWithin (bounds_of at) (board_cell at s r i)
 spot_within at s r i hs hr hi = record {
   left = omega (arith, ints);
@@ -149,7 +149,7 @@ cells_in_order at ws = in_order-set_of (lit_before at ws (64 * (at.word_columns 
 natural : (d : ℤ) (a : ℤ) → a ≤ℤ d → pos (unsigned_abs (d -ℤ a)) ≡ d -ℤ a
 natural d a h = omega (arith, ints)
 
--- a list in order that the board shows, and of which it has all cells, is that list
+-- an ordered list of cells on the board that the board shows is the board's pattern
 pub only_cells : (at : Frame) (ws : List ℕ) (S : List Cell) → InOrder S → LieOn at S → Shows at ws S → cells_on at ws ≡ S
 only_cells at ws S o on shown = same_lists (cells_on at ws) S (cells_in_order at ws) o (λ c. both_true (has (cells_on at ws) c) (has S c) (there c) (back c))
   where

@@ -18,7 +18,7 @@ use Rattle.plane_core.proofs.lemmas.plane.RunLemmas.{after-plus, in_order-after}
 use Rattle.plane_core.proofs.lemmas.plane.SpeedLemmas.{after-suc}
 use Rattle.plane_core.proofs.lemmas.Between.{IsStillOutside}
 
--- what a cell is after n generations is decided by what lies within n of it
+-- the state of a cell after n generations depends only on the cells within n of it
 pub after-local : (rule : Numbers) (S T : List Cell) (n : ℕ) (c : Cell) → InOrder S → InOrder T
     → ((d : Cell) → king_distance c d ≤ n → has S d ≡ has T d) → has (after rule S n) c ≡ has (after rule T n) c
 after-local rule S T zero c o u same =
@@ -30,20 +30,20 @@ after-local rule S T (suc n) c o u same =
     (λ d near. after-local rule S T n d o u (λ e further. same e (omega (arith, triangle c d e 1 n near further))))
     ∙ sym (ap (λ (V : List Cell). has V c) (after-suc rule T n) ∙ has-next rule (after rule T n) c)
 
--- where nothing is alive within n, nothing is alive after n generations
+-- if no cell within n is alive, the cell is dead after n generations
 pub none-after : (rule : Numbers) (S : List Cell) (n : ℕ) (c : Cell) → ((d : Cell) → king_distance c d ≤ n → ¬ (has S d ≡ true))
     → has (after rule S n) c ≡ false
 none-after rule S n c none =
     false_unless (has (after rule S n) c) (λ h. let d = near-after rule S n c h in none d.0 d.2 d.1)
 
--- two tests agree, unless they don't
+-- two Booleans that don't differ are equal
 pub same_unless : (a b : Bool) → ¬ (a ≢ b) → a ≡ b
 same_unless true true h = refl
 same_unless true false h = absurd (h (λ e. false≢true (sym e)))
 same_unless false true h = absurd (h (λ e. false≢true e))
 same_unless false false h = refl
 
--- what lies within n of a cell in a box lies within n of the box
+-- a cell within n of a cell in a box is within n of the box
 near_in : (boxes : List Bounds) (n : ℕ) (c d : Cell) → king_distance c d ≤ n → IsInOne boxes d → IsNearOne n boxes c
 near_in boxes n c d near h = near_wider boxes (0 + n) n c (omega arith) (near_further boxes 0 n c d near (near_itself boxes d h))
 
@@ -56,11 +56,11 @@ still-early rule S boxes m n c all le far =
     ∙ sym (false_unless (has S c)
     (λ h. far (near_in boxes m c c (omega (arith, distance_itself c.x, distance_itself c.y)) (all c h))))
 
--- so the same boxes begin the leaps over an even number of generations
+-- boxes that hold all live cells are also right for leaps of an even number of generations
 pub quiet-start : (rule : Numbers) (S : List Cell) (boxes : List Bounds) → HoldAll boxes S → IsQuiet rule S boxes
 quiet-start rule S boxes all c far = still-early rule S boxes 2 2 c all (omega arith) far
 
--- what lies in no inner part stays as it is for up to four generations
+-- each cell in no inner part is unchanged for up to four generations
 pub still_outside-held : (rule : Numbers) (S : List Cell) (boxes : List Bounds) (places : List LeapWindow) (n : ℕ) → HoldAll boxes S
     → AreCovered places boxes → n ≤ 4 → IsStillOutside rule places S n
 still_outside-held rule S boxes places n all covered le c out =
@@ -80,7 +80,7 @@ still-four rule S boxes c o quiet far =
     (λ d near. quiet d (λ close. far (near_further boxes 2 2 c d near close)))
     ∙ still-two rule S boxes c quiet far
 
--- two generations or four
+-- an even number from 1 to 4 is 2 or 4
 even_leap : (n : ℕ) → 1 ≤ n → n ≤ 4 → n % 2 ≡ 0 → (n ≡ 2) ⊎ (n ≡ 4)
 even_leap n low high even = either (same_or_not n 2)
   where
@@ -100,7 +100,7 @@ pub still_outside-quiet : (rule : Numbers) (S : List Cell) (boxes : List Bounds)
 still_outside-quiet rule S boxes places n o quiet covered low high even c out =
     still-even rule S boxes n c o quiet (even_leap n low high even) (λ near. out (covered c near))
 
--- Outside of the new boxes the last generation is the one two before it, so two generations on it is itself two generations on.
+-- Outside the new boxes, the pattern is the same as two generations earlier, so two generations later it is unchanged.
 quiet_by_last : (rule : Numbers) (S last : List Cell) (new : List Bounds) → InOrder S → InOrder last → S ≡ after rule last 2
     → ((d : Cell) → ¬ IsInOne new d → has S d ≡ has last d) → IsQuiet rule S new
 quiet_by_last rule S last new o u is same c far =
@@ -108,7 +108,7 @@ quiet_by_last rule S last new o u is same c far =
     (λ d near. same d (λ in_one. far (near_in new 2 c d near in_one)))
     ∙ ap (λ (T : List Cell). has T c) (sym is)
 
--- what the last generation is compared with
+-- after an even number of generations, the last one is compared with the generation two earlier
 pub compared-even : (rule : Numbers) (S : List Cell) (n : ℕ) → n % 2 ≡ 0 → compared_with rule S n ≡ after rule S (n - 2)
 compared-even rule S n even = ap (λ (b : Bool). cond {A = List Cell} b (after rule S (n - 2)) []) (eq-eqb (n % 2) 0 even)
 
@@ -144,7 +144,7 @@ quiet-next rule S boxes new places n o quiet covered low high even differ =
     both : (d : Cell) → ¬ IsNearOne 4 boxes d → has (after rule S n) d ≡ has (after rule S (n - 2)) d
     both d far = still-even rule S boxes n d o quiet which far ∙ sym (before d which far)
 
--- after an odd number of generations the new boxes, of the cells that are alive then, hold all
+-- after an odd number of generations, the new boxes hold all live cells
 pub boxed-next : (rule : Numbers) (S : List Cell) (boxes new : List Bounds) (places : List LeapWindow) (n : ℕ) → HoldAll boxes S
     → AreCovered places boxes → n ≤ 4 → n % 2 ≡ 1 → HoldDifferences places (after rule S n) (compared_with rule S n) new
     → HoldAll new (after rule S n)
@@ -156,7 +156,7 @@ boxed-next rule S boxes new places n all covered le odd differ c h =
 
 -- ---- when cells are taken out or put in
 
--- where the two patterns differ only in cells of some boxes more, these with the old boxes are quiet for the other pattern
+-- if the patterns differ only in cells of `more`, boxes around the old ones and `more` are quiet for the other pattern
 pub quiet-changed : (rule : Numbers) (S T : List Cell) (boxes more new : List Bounds) → InOrder S → InOrder T → IsQuiet rule S boxes
     → ((c : Cell) → has T c ≢ has S c → IsInOne more c) → ((c : Cell) → IsNearOne 2 boxes c → IsNearOne 2 new c)
     → ((c : Cell) → IsNearOne 2 more c → IsNearOne 2 new c) → IsQuiet rule T new

@@ -40,7 +40,7 @@ in_or_not span n = low (less_or_not n span.from)
 
 -- ---- widening
 
--- a cell that is put on the board lies in a row that is put in the span of its word column
+-- a cell of the board is in the spans if its row is in the span of its word column
 pub cell_held : (at : Frame) (spans : List RowSpan) (c : Cell) (a d : ℕ) → pos a ≡ c.x -ℤ at.left → pos d ≡ c.y -ℤ at.top
     → ((r : ℕ) → HasRow (record { from = d; end = d + 1 }) r → IsInSpan spans (a / 64) r) → LieInSpans at spans (c ∷ [])
 cell_held at spans c a d p q held s r i hs hr hi e = elim (has-cases c [] (board_cell at s r i) e) [
@@ -50,7 +50,7 @@ cell_held at spans c a d p q held s r i hs hr hi e = elim (has-cases c [] (board
       subst (λ (t : ℕ). IsInSpan spans t r) (sym is.0) (held r (record { low = omega (arith, is.1); high = omega (arith, is.1) }))
 ]
 
--- one cell of a list more
+-- one more cell of a list is in the spans
 pub held_more : (at : Frame) (old new : List RowSpan) (cs : List Cell) (k : ℕ) (d : Cell) → k < length cs → AreWidened old new → LieInSpans at old (take k cs)
     → LieInSpans at new (get_or cs k d ∷ []) → LieInSpans at new (take (k + 1) cs)
 held_more at old new cs k d low wide before here s r i hs hr hi e =
@@ -63,7 +63,7 @@ held_more at old new cs k d low wide before here s r i hs hr hi e =
     c : Cell
     c = board_cell at s r i
 
--- the inner part of a window lies in two word columns
+-- the inner part of a window is in the spans of two word columns
 pub inner_held : (at : Frame) (p : LeapWindow) (x y end : ℕ) (mid new : List RowSpan) → p.left ≡ at.left +ℤ pos x → p.top ≡ at.top +ℤ pos y
     → end + 4 ≡ p.rows
     → ((r : ℕ) → HasRow (record { from = y + 4; end = y + end }) r → IsInSpan mid (x / 64) r) → AreWidened mid new
@@ -87,7 +87,7 @@ inner_held at p x y end mid new left top height first wide second s r i hs hr hi
         let is : x / 64 + 1 ≡ s = omega (arith, ints) in
         subst (λ (t : ℕ). IsInSpan new t r) is (second r here)
 
--- one place more
+-- one more window is in the spans
 pub places_more : (at : Frame) (old new : List RowSpan) (places : List LeapWindow) (done : ℕ) (d : LeapWindow) → done < length places → AreWidened old new
     → ((k : ℕ) (p : LeapWindow) → k < done → HoldInner at old (slice_index_or places k p)) → HoldInner at new (slice_index_or places done d)
     → (k : ℕ) (p : LeapWindow) → k < done + 1 → HoldInner at new (slice_index_or places k p)
@@ -100,7 +100,7 @@ places_more at old new places done d low wide before here k p near s r i hs hr h
 
 -- ---- a leap
 
--- what lives after a leap lies in the spans: in an inner part, or where it was alive before
+-- each cell that is alive after a leap is in the spans: it is in an inner part, or was alive before
 pub spans_after : (rule : Numbers) (at : Frame) (places : List LeapWindow) (S : List Cell) (n : ℕ) (old new : List RowSpan) → LieInSpans at old S
     → AreWidened old new → HoldCovered at new places → IsStillOutside rule places S n → LieInSpans at new (after rule S n)
 spans_after rule at places S n old new live wide covered still s r i hs hr hi e = elim (in_or_not (span_of new s) r) [
@@ -122,7 +122,7 @@ hull_more spans n old new before kept held s r low inside = elim (same_or_not s 
 
 -- ---- emptying
 
--- words of a list that are what they were or 0
+-- each word is unchanged or 0
 abbrev pub AreZeroed : List ℕ → List ℕ → Type 0
 AreZeroed old new = (m : ℕ) → (slice_index new m ≡ slice_index old m) ⊎ (slice_index new m ≡ 0)
 
@@ -140,7 +140,7 @@ pub live_bit : (at : Frame) (words : List ℕ) (s r i : ℕ) → s < at.word_col
     → has (cells_on at words) (board_cell at s r i) ≡ true
 live_bit at words s r i hs hr hi one = shows_cells at words s r i hs hr hi ∙ ap (λ (n : ℕ). n == 1) one
 
--- outside of the spans all is dead
+-- all cells outside the spans are dead
 pub dead_outside : (at : Frame) (words : List ℕ) (spans : List RowSpan) (s r i : ℕ) → LieInSpans at spans (cells_on at words) → s < at.word_columns → r < at.rows
     → i < 64 → (IsInSpan spans s r → ⊥) → bit_at (slice_index words (word_of at s r)) i ≡ 0
 dead_outside at words spans s r i live hs hr hi outside =
@@ -188,7 +188,7 @@ empty_spans at words spans none long = record {
   live = λ s r i hs hr hi e. absurd (false≢true (sym (ap (λ (S : List Cell). has S (board_cell at s r i)) none) ∙ e));
 }
 
--- one row of a word column more is emptied
+-- one more row of a word column is emptied
 pub row_emptied : (at : Frame) (words : List ℕ) (word_column row from i : ℕ) → i ≡ word_of at word_column row → i < length words
     → ((r : ℕ) → from ≤ r → r < row → slice_index words (word_of at word_column r) ≡ 0) → (r : ℕ) → from ≤ r → r < row + 1
     → slice_index (set words i 0) (word_of at word_column r) ≡ 0

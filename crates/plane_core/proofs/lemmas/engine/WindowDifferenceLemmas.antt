@@ -33,7 +33,7 @@ no_difference one other mask j i lo lt lm low set none =
       bit_at-lt (slice_index other j) i,
     )
 
--- a bit that is in no lane
+-- a bit that is 0 in the union of the lanes is 0 in each lane
 pub in_no_lane : (v : List ℕ) (word : ℕ)
     → ((i : ℕ) → bit_at word i ≡ max (max (bit_of v 0 i) (bit_of v 1 i)) (max (bit_of v 2 i) (bit_of v 3 i)))
     → (j i : ℕ) → j < 4 → bit_at word i ≡ 0 → bit_of v j i ≡ 0
@@ -87,17 +87,17 @@ not_marked places rows j i q lp lr low one none = split (other_than (slice_index
 
 -- ---- vector after vector
 
--- in the first vectors the windows differ only in these columns
+-- in the first `count` vectors, the windows differ only in the marked columns
 abbrev pub DifferInColumns : ℕ → List (List ℕ) → List (List ℕ) → List ℕ → ℕ → Type 0
 DifferInColumns n one other columns count = (k : ℕ) → k < count → (j i : ℕ) → j < 4 → 4 ≤ i → i < 60 → 4 ≤ j * n + k → j * n + k + 4 < 4 * n
     → bit_of columns j i ≡ 0 → bit_at (lane_at one k j) i ≡ bit_at (lane_at other k j) i
 
--- and only in these rows
+-- in the first `count` vectors, the windows differ only in the marked rows
 abbrev pub DifferInRows : ℕ → List (List ℕ) → List (List ℕ) → List ℕ → ℕ → Type 0
 DifferInRows n one other rows count = (k : ℕ) → k < count → (j i : ℕ) → j < 4 → 4 ≤ i → i < 60 → 4 ≤ j * n + k → j * n + k + 4 < 4 * n
     → bit_of rows j (j * n + k) ≡ 0 → bit_at (lane_at one k j) i ≡ bit_at (lane_at other k j) i
 
--- the places of vector k hold all its inner places in which the windows differ
+-- `places` marks each inner place of vector k in which the windows differ
 abbrev pub HoldPlaces : ℕ → List (List ℕ) → List (List ℕ) → List ℕ → ℕ → Type 0
 HoldPlaces n one other places k = (j i : ℕ) → j < 4 → 4 ≤ i → i < 60 → 4 ≤ j * n + k → j * n + k + 4 < 4 * n
     → bit_of places j i ≡ 0 → bit_at (lane_at one k j) i ≡ bit_at (lane_at other k j) i

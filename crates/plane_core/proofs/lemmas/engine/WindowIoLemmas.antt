@@ -14,7 +14,7 @@ use Rattle.plane_core.proofs.lemmas.Between.{IsReadAt}
 
 -- ---- reading
 
--- a row that is joined of two words of the board
+-- a row that is joined from two words of the board
 pub read_word : (at : Frame) (words : List ℕ) (x y r i word : ℕ) → i < 64
     → (i + x % 64 < 64 → bit_at word i ≡ bit_at (slice_index words (x / 64 * at.rows + y + r)) (i + x % 64))
     → (64 ≤ i + x % 64 → bit_at word i ≡ bit_at (slice_index words (x / 64 * at.rows + y + at.rows + r)) (i + x % 64 - 64))
@@ -35,7 +35,7 @@ read_word at words x y r i word low left right = split (cases_lt (i + x % 64) 64
         let bit : i + x % 64 - 64 ≡ (x + i) % 64 = omega arith in
         right second ∙ (λ t. bit_at (slice_index words (place t)) (bit t))
 
--- one row more was read
+-- one more row is read
 pub rows_more : (at : Frame) (words : List ℕ) (x y r word : ℕ) (rows : List ℕ) → r < length rows → AreRowsRead at words x y r rows
     → ((i : ℕ) → i < 64 → bit_at word i ≡ bit_on at words (x + i) (y + r)) → AreRowsRead at words x y (r + 1) (set rows r word)
 rows_more at words x y r word rows within read new q i low inside = split (cases_eq q r)
@@ -48,7 +48,7 @@ rows_more at words x y r word rows within read new q i low inside = split (cases
         ∙ ap (λ (p : ℕ). bit_on at words (x + i) (y + p)) (sym e)
     split (inr apart) = ap (λ (w : ℕ). bit_at w i) (get_or-set_other rows r q word 0 apart) ∙ read q i (omega arith) inside
 
--- four rows more were read
+-- four more rows are read
 pub four_rows_read : (at : Frame) (words : List ℕ) (x y r : ℕ) (rows new : List ℕ) → AreRowsRead at words x y r rows
     → ((m : ℕ) → (m < r) ⊎ (r + 4 ≤ m) → slice_index new m ≡ slice_index rows m)
     → ((j i : ℕ) → j < 4 → i < 64 → bit_at (slice_index new (r + j)) i ≡ bit_on at words (x + i) (y + (r + j))) → AreRowsRead at words x y (r + 4) new
@@ -60,7 +60,7 @@ four_rows_read at words x y r rows new read others made q i low inside = split (
         let is : r + (q - r) ≡ q = omega arith in
         subst (λ (m : ℕ). bit_at (slice_index new m) i ≡ bit_on at words (x + i) (y + m)) is (made (q - r) i (omega arith) inside)
 
--- the window of rows that were read
+-- the window into which the rows that were read are packed
 pub read_packed : (at : Frame) (words : List ℕ) (x y n : ℕ) (rows : List ℕ) (window : List (List ℕ)) → AreRowsRead at words x y (4 * n) rows
     → ((r : ℕ) → r < 4 * n → row_at n window r ≡ slice_index rows r) → IsReadAt at words x y n window
 read_packed at words x y n rows window read packed r i low inside = ap (λ (w : ℕ). bit_at w i) (packed r low) ∙ read r i low inside
@@ -82,12 +82,12 @@ chosen_yes t y n e = ap (λ (m : ℕ). cond (m == 1) y n) e
 chosen_no : (t y n : ℕ) → t ≡ 0 → cond (t == 1) y n ≡ n
 chosen_no t y n e = ap (λ (m : ℕ). cond (m == 1) y n) e
 
--- what becomes of one place of the board
+-- one bit of the board is replaced by an inner bit of the word, or it is unchanged
 abbrev IsOnePut : ℕ → ℕ → ℕ → ℕ → ℕ → ℕ → ℕ → Type 0
 IsOnePut x y word old new u v =
     ((c : IsInnerColumn x u) × (v ≡ y) × (new ≡ bit_at word c.i)) ⊎ ((IsInnerColumn x u → v ≢ y) × (new ≡ old))
 
--- a place in one of the two word columns: it is column i of the word, if that is an inner one
+-- a bit in one of the two word columns is replaced by bit i of the word if i is an inner column
 put_there : (x y word old new u v i mask value : ℕ) → v ≡ y → (i < 64 → u ≡ x + i) → (IsInnerColumn x u → u ≡ x + i)
     → mask ≡ bit_at inner_mask i → value ≡ bit_at word i → new ≡ cond (mask == 1) value old → IsOnePut x y word old new u v
 put_there x y word old new u v i mask value row there back m w is = split (inner_bit i)
@@ -102,7 +102,7 @@ put_there x y word old new u v i mask value row there back m w is = split (inner
           is ∙ chosen_no mask value old (m ∙ none),
         )
 
--- one place of the board, whose row is put back into two words
+-- one bit of the board, when a row is put back into two words
 pub place_put : (at : Frame) (x y word m1 v1 m2 v2 u v old new : ℕ) → y < at.rows → v < at.rows
     → ((i : ℕ) → i < x % 64 → bit_at m1 i ≡ 0) → ((i : ℕ) → x % 64 ≤ i → i < 64 → bit_at m1 i ≡ bit_at inner_mask (i - x % 64))
     → ((i : ℕ) → x % 64 ≤ i → i < 64 → bit_at v1 i ≡ bit_at word (i - x % 64))
@@ -155,7 +155,7 @@ place_put at x y word m1 v1 m2 v2 u v old new inside hv m1low m1high v1high m2is
     split (inr apart) (inl e) = in_second e (same_spot at.rows (u / 64) v (x / 64 + 1) y (omega arith) hv inside)
     split (inr apart) (inr further) = inr (outside apart further, kept apart further)
 
--- both words of a row
+-- a row is put back into two words
 pub row_put : (at : Frame) (old mid new : List ℕ) (x y word m1 v1 m2 v2 : ℕ) → y < at.rows
     → ((i : ℕ) → i < x % 64 → bit_at m1 i ≡ 0) → ((i : ℕ) → x % 64 ≤ i → i < 64 → bit_at m1 i ≡ bit_at inner_mask (i - x % 64))
     → ((i : ℕ) → x % 64 ≤ i → i < 64 → bit_at v1 i ≡ bit_at word (i - x % 64))
@@ -196,7 +196,7 @@ row_put at old mid new x y word m1 v1 m2 v2 inside m1low m1high v1high m2is v2is
         ∙ ap (λ (w : ℕ). cond (bit_at m2 (u % 64) == 1) (bit_at v2 (u % 64)) (bit_at w (u % 64))) (first_others b (λ f. later (sym f)))
         ∙ ap (λ (m : ℕ). cond (bit_at m2 (u % 64) == 1) (bit_at v2 (u % 64)) (bit_at (slice_index old m) (u % 64))) (sym e)
 
--- a number that is none of four numbers from a on
+-- a number that is none of a to a + 3 is below or above them
 out_of_four : (n a : ℕ) → ((j : ℕ) → j < 4 → n ≡ a + j → ⊥) → (n < a) ⊎ (a + 4 ≤ n)
 out_of_four n a none = split (cases_lt n a) (cases_lt n (a + 4))
   where
@@ -205,7 +205,7 @@ out_of_four n a none = split (cases_lt n a) (cases_lt n (a + 4))
     split (inr least) (inr high) = inr high
     split (inr least) (inl low) = absurd (none (n - a) (omega arith) (omega arith))
 
--- four words of each of two word columns
+-- four rows are put back into four words of each of two word columns
 pub rows_put : (at : Frame) (old mid new rows first second : List ℕ) (x y r m1 m2 : ℕ) → y + 4 ≤ at.rows
     → ((i : ℕ) → i < x % 64 → bit_at m1 i ≡ 0) → ((i : ℕ) → x % 64 ≤ i → i < 64 → bit_at m1 i ≡ bit_at inner_mask (i - x % 64))
     → ((j i : ℕ) → j < 4 → x % 64 ≤ i → i < 64 → bit_at (slice_index first j) i ≡ bit_at (slice_index rows (r + j)) (i - x % 64))
@@ -287,7 +287,7 @@ rows_put at old mid new rows first second x y r m1 m2 inside m1low m1high v1high
     split (inr least) (inr high) = off (λ j low e. absurd (omega arith))
     split (inr least) (inl low) = on (v - y) (omega arith) (omega arith)
 
--- four rows more
+-- four more rows are put back
 pub four_more : (at : Frame) (x y end : ℕ) (rows old mid new : List ℕ) → 4 ≤ end → IsPutBack at x y end rows old mid
     → AreRowsPut at x (y + end) end rows mid new → IsPutBack at x y (end + 4) rows old new
 four_more at x y end rows old mid new least put four u v hu hv = split (four u v hu hv) (put u v hu hv)
@@ -317,7 +317,7 @@ four_more at x y end rows old mid new least put four u v hu hv = split (four u v
                 let row = c.row.is in
                 off c.column (record { j = c.row.r - end; low = omega arith; is = omega arith })
 
--- one row more
+-- one more row is put back
 pub put_more : (at : Frame) (x y end : ℕ) (rows old mid new : List ℕ) → 4 ≤ end → IsPutBack at x y end rows old mid
     → IsRowPut at x (y + end) (slice_index rows end) mid new → IsPutBack at x y (end + 1) rows old new
 put_more at x y end rows old mid new least put row u v hu hv = split (row u v hu hv) (put u v hu hv)
@@ -351,7 +351,7 @@ none_put at x y rows old u v hu hv = inr (λ c. let low = c.row.low in let high 
 pub column_low : (x : ℕ) → x % 64 < 64
 column_low x = omega arith
 
--- the two words of a row that begins in column x
+-- the two words of a row that begins in column x are in the list
 pub words_in : (at : Frame) (words : List ℕ) (x y : ℕ) → FillsFrame at words → x / 64 + 1 < at.word_columns → y < at.rows
     → (x / 64 * at.rows + y < length words) × (x / 64 * at.rows + y + at.rows < length words)
 words_in at words x y long word_column row =
@@ -359,7 +359,7 @@ words_in at words x y long word_column row =
     let second : (x / 64 + 1) * at.rows + y < at.word_columns * at.rows = word-inside at (x / 64 + 1) y word_column row in
     (omega (arith, long, first), omega (arith, long, second))
 
--- the places of these words fit their type, since a list has fewer items than that has numbers
+-- the indices of these words fit their type, since the type has more numbers than a list has items
 pub fits_begin : (at : Frame) (words : List ℕ) (x y most : ℕ) → length words * 8 < 9223372036854775808 → FillsFrame at words → x / 64 + 1 < at.word_columns
     → y + most ≤ at.rows → Fits w64 (x / 64 * at.rows) × Fits w64 (x / 64 * at.rows + y) × Fits w64 (x / 64 * at.rows + y + at.rows)
 fits_begin at words x y most small long word_column row =
@@ -375,6 +375,6 @@ pub fits_row : (at : Frame) (words : List ℕ) (x y : ℕ) → length words * 8 
     → y < at.rows → Fits w64 (x / 64 * at.rows) × Fits w64 (x / 64 * at.rows + y) × Fits w64 (x / 64 * at.rows + y + at.rows)
 fits_row at words x y small long word_column row = fits_begin at words x y 1 small long word_column (omega (arith, row))
 
--- the word of a row of a word column
+-- the index of the word of a row of a word column is in the list
 pub index_in : (at : Frame) (words : List ℕ) (s r n : ℕ) → FillsFrame at words → s < at.word_columns → r < at.rows → n ≡ word_of at s r → n < length words
 index_in at words s r n long word_column row is = let inside = word-inside at s r word_column row in omega (arith, long, is, inside)

@@ -29,7 +29,7 @@ use Rattle.plane_core.proofs.lemmas.Between.{IsSpot, ShowsRows}
 
 -- ---- a window round a box
 
--- the window that begins here
+-- the window that begins at (left, top)
 abbrev pub window_at : ℤ → ℤ → WindowOrigin
 window_at left top = record { left = left; top = top }
 
@@ -84,7 +84,7 @@ place_has_cells b width height p S is least c e = inside (has-all (IsWithin b) S
           south = omega (arith, ints);
         }
 
--- a pattern in a window far inside the plane lies far inside too
+-- a pattern in a window far from the edge of the plane is far from the edge too
 pub inland_within : (p : WindowOrigin) (S : List Cell) → IsInland p → ((c : Cell) → has S c ≡ true → IsInWindow 16 p.left p.top c)
     → lies_within 951000 S ≡ true
 inland_within p S far inside = has-list_all (is_within 951000) S near
@@ -115,7 +115,7 @@ zeros zero i = refl
 zeros (suc n) zero = refl
 zeros (suc n) (suc i) = zeros n i
 
--- a cell of the list at a place
+-- the cell at a place of a list is a member
 pub has-at : (cs : List Cell) (i : ℕ) (d : Cell) → i < length cs → has cs (get_or cs i d) ≡ true
 has-at [] i d low = absurd (omega arith)
 has-at (c ∷ cs) zero d low = has-head c cs
@@ -125,7 +125,7 @@ or_none : (a : Bool) → (a || false) ≡ a
 or_none true = refl
 or_none false = refl
 
--- a cell more
+-- one more cell is put into the rows
 pub put_shown : (p : WindowOrigin) (rows : List ℕ) (S : List Cell) (c : Cell) (a d : ℕ) → IsSpot p c a d → a < 64 → d < length rows → ShowsRows p rows S
     → ShowsRows p (set rows d (bit_or (get_or rows d 0) (1 * 2 ^ a % 2 ^ 64))) (S ++ c ∷ [])
 put_shown p rows S c a d at ha hd shown r i low near = has-append S (c ∷ []) e ∙ row (same_or_not r d)
@@ -167,7 +167,7 @@ put_shown p rows S c a d at ha hd shown r i low near = has-append S (c ∷ []) e
         missed (same_cell e c) refl (λ (u, v). apart v) ∙ shown r i low near
         ∙ ap (λ (w : ℕ). bit_at w i == 1) (sym (get_or-set_other rows d r new 0 apart))
 
--- a cell of a list more
+-- one more cell of a list is put into the rows
 pub shown_taken : (p : WindowOrigin) (rows : List ℕ) (cs : List Cell) (i : ℕ) (d : Cell) → i < length cs → ShowsRows p rows (take i cs ++ get_or cs i d ∷ [])
     → ShowsRows p rows (take (i + 1) cs)
 shown_taken p rows cs i d low shown = subst (λ (S : List Cell). ShowsRows p rows S) (sym (take_more cs i d low)) shown
@@ -210,7 +210,7 @@ in_rows n long is low = omega arith
 
 -- ---- rows in vectors
 
--- the window of rows
+-- a window packed from rows holds the pattern of the rows
 pub shown_packed : (p : WindowOrigin) (rows : List ℕ) (x : List (List ℕ)) (S : List Cell) → FillsRows p.left p.top rows S
     → ((r : ℕ) → r < 64 → row_at 16 x r ≡ slice_index rows r) → Holds 16 p.left p.top x S
 shown_packed p rows x S fills same = record { in_order = fills.in_order; inside = fills.inside; shown = held }

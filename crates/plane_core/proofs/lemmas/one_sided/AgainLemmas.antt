@@ -1,4 +1,4 @@
--- Whether a window shows the start again, moved or not, and what follows if it doesn't.
+-- Whether a window shows a translate of the start, and what follows if it doesn't.
 use Rattle.std.proofs.Common.{◌≡◌, ◌≢◌, ◌==◌, ◌+◌, ◌*◌, ◌/◌, ◌^◌, ◌<◌, ◌≤◌, ℕ, ℤ, pos, ◌+ℤ◌, ◌≤ℤ◌, zero, suc, Bool, true, false}
 use Rattle.std.proofs.Common.{List, [], ◌∷◌, arith, refl, ap, ◌∙◌, sym, subst, inl, inr, ◌⊎◌, w64}
 use Rattle.std.specs.Cmp.{both_ways as both_true}
@@ -34,7 +34,7 @@ pub record BeginsRow (top : ℤ) (S : List Cell) (r : ℕ) : Type 0 where
   pub some : (c : Cell) × (has S c ≡ true) × (c.y ≡ top +ℤ pos r)
   pub least : (c : Cell) → has S c ≡ true → (top +ℤ pos r) ≤ℤ c.y
 
--- where a pattern begins moves with it
+-- if a pattern is moved, its first column and row move with it
 column_moves : (left dx dy : ℤ) (S : List Cell) (b a : ℕ) → BeginsColumn left S b → BeginsColumn left (shifted dx dy S) a → pos a ≡ pos b +ℤ dx
 column_moves left dx dy S b a p q =
     let c = p.some in
@@ -59,7 +59,7 @@ row_moves top dx dy S b a p q =
     one : (cx ex fx : ℤ) → cx ≡ top +ℤ pos b → ex ≡ top +ℤ pos a → ex ≡ fx +ℤ dy → (top +ℤ pos a) ≤ℤ (cx +ℤ dy) → (top +ℤ pos b) ≤ℤ fx → pos a ≡ pos b +ℤ dy
     one cx ex fx p q r s t = omega (arith, ints)
 
--- a lit bit is a cell
+-- a bit that is 1 is a cell of the pattern
 cell_of : (n : ℕ) (left top : ℤ) (x : List (List ℕ)) (S : List Cell) (i r : ℕ) → 0 < n → Holds n left top x S → AreVectors n x → bit_at (row_at n x r) i ≡ 1
     → has S (in_window left top i r) ≡ true
 cell_of n left top x S i r some h whole e = held_anywhere n left top x S i r some h whole ∙ ap (λ (m : ℕ). m == 1) e
@@ -96,7 +96,7 @@ begins_row n left top x S r some h whole first = record {
 
 -- ---- the start again
 
--- the members of a moved pattern
+-- a moved pattern has a moved cell exactly if the pattern has the cell
 has-moved : (dx dy : ℤ) (S : List Cell) (c d : Cell) → d ≡ moved_by dx dy c → has (shifted dx dy S) d ≡ has S c
 has-moved dx dy S c d is = ap (has (shifted dx dy S)) is ∙ both_true (has (shifted dx dy S) (moved_by dx dy c)) (has S c)
     (λ h. let e = has-map_from (moved_by dx dy) S (moved_by dx dy c) h in subst (λ (f : Cell). has S f ≡ true) (sym (same c e.0 e.2)) e.1)
@@ -116,7 +116,7 @@ equal_bits (suc zero) (suc zero) p q e = refl
 equal_bits (suc (suc a)) b p q e = absurd (omega arith)
 equal_bits a (suc (suc b)) p q e = absurd (omega arith)
 
--- A window that shows the start again, and where both begin.
+-- Two windows show the same cells, from column b and row e in x, and from column a and row d in y.
 pub record IsAgain (n : ℕ) (x y : List (List ℕ)) (b a e d : ℕ) : Type 0 where
   pub same : (i r : ℕ) → bit_at (row_at n x (e + r)) (b + i) ≡ bit_at (row_at n y (d + r)) (a + i)
 
@@ -139,11 +139,11 @@ is_again n left top dx dy x y S b a e d some wx wy hx hy p q r s = record { same
         (same_cell_at _ _ _ _ (omega (arith, ints, across)) (omega (arith, ints, down))))
         ∙ held_anywhere n left top y (shifted dx dy S) (a + i) (d + k) some hy wy)
 
--- the rows are the same, counted from there
+-- the rows of the two windows are equal, counted from where their cells begin
 pub rows_again : (n : ℕ) (x y : List (List ℕ)) (b a e d r : ℕ) → IsAgain n x y b a e d → row_at n x (e + r) / 2 ^ b ≡ row_at n y (d + r) / 2 ^ a
 rows_again n x y b a e d r again = same_from_bits _ _ (λ i. moved_bit (row_at n x (e + r)) b i ∙ again.same i r ∙ sym (moved_bit (row_at n y (d + r)) a i))
 
--- two tests of a bit
+-- two bits are equal if each is 1 when the other is
 alike_bits : (a b : ℕ) → a < 2 → b < 2 → (a ≡ 1 → b ≡ 1) → (b ≡ 1 → a ≡ 1) → a ≡ b
 alike_bits zero zero p q f g = refl
 alike_bits zero (suc zero) p q f g = absurd (omega (arith, g refl))
@@ -151,7 +151,7 @@ alike_bits (suc zero) b p q f g = sym (f refl)
 alike_bits (suc (suc a)) b p q f g = absurd (omega arith)
 alike_bits zero (suc (suc b)) p q f g = absurd (omega arith)
 
--- the columns are the same, counted from the first one
+-- the columns with live cells are the same, counted from the first of them
 pub columns_again : (n : ℕ) (left top dx dy : ℤ) (x y : List (List ℕ)) (S : List Cell) (w v b a : ℕ) → 0 < n → AreVectors n x → AreVectors n y
     → IsColumns n x w → IsColumns n y v → Holds n left top x S → Holds n left top y (shifted dx dy S) → BeginsColumn left S b
     → BeginsColumn left (shifted dx dy S) a → w / 2 ^ b ≡ v / 2 ^ a
@@ -184,7 +184,7 @@ columns_again n left top dx dy x y S w v b a some wx wy cw cv hx hy p q =
             let at : k ≡ b + i = let o = ap (λ (d : Cell). d.x) l.place in omega (arith, ints, across) in
             ap (λ (c : ℕ). bit_at w c) (sym at) ∙ cw.all s k l.row l.bit
 
--- where there was a cell, there is one
+-- if the first window has a cell, so has the second
 pub some_again : (n : ℕ) (left top dx dy : ℤ) (x y : List (List ℕ)) (S : List Cell) (w v : ℕ) → 0 < n → AreVectors n x → IsColumns n x w → IsColumns n y v
     → Holds n left top x S → Holds n left top y (shifted dx dy S) → 0 < w → w < 2 ^ 64 → v ≡ 0 → ⊥
 some_again n left top dx dy x y S w v some wx cw cv hx hy alive small none =
@@ -196,14 +196,14 @@ some_again n left top dx dy x y S w v some wx cw cv hx hy alive small none =
     go : (c : Cell) → (k : ℕ) × (s : ℕ) × IsLit n left top y (moved_by dx dy c) k s → ⊥
     go c (k, s, l) = let one = cv.all s k l.row l.bit in let z = bit_at-zero k in let m = ap (λ (u : ℕ). bit_at u k) none in absurd (omega arith)
 
--- from the words of columns: the first one is that of the pattern
+-- the number of trailing zeros of the word of columns is the first column of the pattern
 pub begins : (n : ℕ) (left top : ℤ) (x : List (List ℕ)) (S : List Cell) (w : ℕ) → 0 < n → Holds n left top x S → AreVectors n x → IsColumns n x w → 0 < w
     → w < 2 ^ 64
     → BeginsColumn left S (trailing_zeros w64 w)
 begins n left top x S w some h whole columns alive small =
     let f = bit_at-trailing_zeros w64 w alive small in begins_column n left top x S w (trailing_zeros w64 w) some h whole columns f.1 f.2
 
--- the same rows, where the code reads an empty one past the window
+-- the rows are the same, where rows past the window are read as empty
 pub same_rows : (n : ℕ) (left top dx dy : ℤ) (x y : List (List ℕ)) (S : List Cell) (w v p q r first second a b : ℕ) → 0 < n → AreVectors n x → AreVectors n y
     → IsColumns n x w → IsColumns n y v → Holds n left top x S → Holds n left top y (shifted dx dy S) → IsCorner n x w first a → IsCorner n y v second b
     → (first + r < 4 * n → p ≡ row_at n x (first + r)) → (4 * n ≤ first + r → p ≡ 0)
@@ -247,7 +247,7 @@ alike_held n left top x y S T alike hx hy = same_lists S T hx.in_order hy.in_ord
 pub new-none : (rule : Numbers) (S : List Cell) → NeverRecurs rule S 0
 new-none rule S p dx dy some none = absurd (omega arith)
 
--- one generation more
+-- one more generation that isn't a translate of the start
 pub new-more : (rule : Numbers) (S : List Cell) (g : ℕ) → NeverRecurs rule S g → ((dx dy : ℤ) → after rule S (g + 1) ≢ shifted dx dy S)
     → NeverRecurs rule S (g + 1)
 new-more rule S g before other p dx dy some low = new p some low (same_or_not p (g + 1))
@@ -266,12 +266,12 @@ unmoved (c ∷ cs) = λ i. same_cell_at _ _ _ _ (still c.x) (still c.y) i ∷ un
     still : (a : ℤ) → a +ℤ pos 0 ≡ a
     still a = omega (arith, ints)
 
--- a generation that was there before: all that follow were there before too
+-- if generation m equals an earlier one and the start doesn't recur up to m, it never recurs
 pub new-ever : (rule : Numbers) (S : List Cell) (m h g : ℕ) → h < m → after rule S h ≡ after rule S m → NeverRecurs rule S m → NeverRecurs rule S g
 new-ever rule S m h g less back new p dx dy some low e =
     let q = earlier p in new q.0 dx dy (q.2 some) (omega (arith, q.1)) (sym q.3 ∙ e)
   where
-    -- it isn't the start
+    --     the earlier generation isn't the start
     late : 1 ≤ h
     late = elim (less_or_not 0 h) [
       | inl past ↦ past
@@ -296,7 +296,7 @@ new-ever rule S m h g less back new p dx dy some low e =
           | inr more ↦ (q + 1, omega arith, λ _. omega arith, step p q e)
         ]
 
--- the window after some generations, with one that was kept
+-- the window after `made` generations, and an earlier window that was kept
 pub record IsChanging (rule : Numbers) (n : ℕ) (start now kept : List (List ℕ)) (columns made : ℕ) : Type 0 where
   pub whole : AreVectors n now
   pub columns_are : IsColumns n now columns
@@ -312,7 +312,7 @@ changing_start rule n start now columns made followed whole are = record {
   earlier = (made, omega arith, followed.held);
 }
 
--- a generation more, which isn't the start again
+-- one more generation, which isn't a translate of the start
 pub changing_more : (rule : Numbers) (n : ℕ) (start now kept later : List (List ℕ)) (columns columns_later made : ℕ) (again : Bool) → 0 < n
     → IsChanging rule n start now kept columns made → IsRimClear n now → IsNextWindow rule n now later → AreVectors n later → IsColumns n later columns_later
     → ((S : List Cell) (left top dx dy : ℤ) → Holds n left top start S → Holds n left top later (shifted dx dy S) → again ≡ true) → again ≡ false
@@ -332,12 +332,12 @@ changing_more rule n start now kept later columns columns_later made again some 
     held S left top h = subst (λ (T : List Cell). Holds n left top later T) (sym (after-more rule S made))
         (next_held rule n left top now later (after rule S made) some before.whole clear step (before.followed.held S left top h))
 
--- it is kept
+-- the current window is kept
 pub changing_keeps : (rule : Numbers) (n : ℕ) (start now kept : List (List ℕ)) (columns made : ℕ) → IsChanging rule n start now kept columns made
     → IsChanging rule n start now now columns made
 changing_keeps rule n start now kept columns made c = changing_start rule n start now columns made c.followed c.whole c.columns_are
 
--- it is the one that was kept
+-- if the current window equals the kept one, the pattern never recurs
 pub changing_ends : (rule : Numbers) (n : ℕ) (left top : ℤ) (start now kept : List (List ℕ)) (columns made most : ℕ) (S : List Cell)
     → IsChanging rule n start now kept columns (made + 1) → (h : ℕ) → h ≤ made
     → ((S : List Cell) (left top : ℤ) → Holds n left top start S → Holds n left top kept (after rule S h)) → AreAlike n now kept → Holds n left top start S

@@ -12,12 +12,12 @@ use Rattle.plane_core.specs.windows.Windows.{IsLaterWindow, IsNextWindow}
 use Rattle.plane_core.proofs.lemmas.windows.ShiftLemmas.{bit_left_high, bit_left_low}
 use Rattle.plane_core.proofs.lemmas.windows.WindowLemmas.{none_made, one_made}
 
--- both windows, so many generations on
+-- both windows, `made` generations later
 pub record AreMade (rule : Numbers) (n : ℕ) (whole alone later later_alone : List (List ℕ)) (made : ℕ) : Type 0 where
   pub one : IsLaterWindow rule n whole later made
   pub other : IsLaterWindow rule n alone later_alone made
 
--- a cell that is seen then is a diverge
+-- if a diverging cell is seen after `made` generations, the cluster diverges from the whole
 pub diverging_seen : (rule : Numbers) (n : ℕ) (whole alone later later_alone : List (List ℕ)) (depth made most : ℕ)
     → AreMade rule n whole alone later later_alone made → made ≤ most → HasDivergingCell n later later_alone (depth + made)
     → DivergesFromWhole rule n whole alone depth most
@@ -42,7 +42,7 @@ made_more rule n whole alone later later_alone next next_alone made are a b = re
 
 -- ---- one word
 
--- a bit of a word so deep inside that the other one hasn't
+-- a bit at least `depth` inside that is 1 in `here` and 0 in `there`
 pub record IsDivergingBit (here there depth : ℕ) : Type 0 where
   pub i : ℕ
   pub west : depth ≤ i
@@ -82,7 +82,7 @@ diverging_bit here there inside depth some small deep = record {
     digit : (bit_at here i ≡ 1) × (bit_at there i ≡ 0) × (bit_at inside i ≡ 1)
     digit = digits (bit_at here i) (bit_at there i) (bit_at inside i) (bit_at-lt here i) (bit_at-lt there i) (bit_at-lt inside i) (sym split ∙ one)
 
--- the columns so deep inside
+-- the bits of the mask are the columns at least d inside
 pub inside_bit : (d i : ℕ) → d < 32 → bit_at ((2 ^ 64 - 1) / 2 ^ (2 * d) * 2 ^ d % 2 ^ 64) i ≡ 1 → (d ≤ i) × (i + d < 64)
 inside_bit d i small one = (west (cases_lt i d), east (cases_lt i 64))
   where

@@ -25,14 +25,14 @@ use Rattle.plane_core.proofs.lemmas.Between.{FloodsCluster}
 
 -- ---- the cluster
 
--- where a cell would stand in the window
+-- the column and the row that a cell has in the window
 column_in : ℤ → Cell → ℕ
 column_in left c = unsigned_abs (c.x -ℤ left)
 
 row_in : ℤ → Cell → ℕ
 row_in top c = unsigned_abs (c.y -ℤ top)
 
--- the cell stands in the window, and its bit is in the flood
+-- the cell is in the window, and its bit is in the flood
 is_flooded : List ℕ → ℤ → ℤ → Cell → Bool
 is_flooded flood left top c = same_cell c (in_window left top (column_in left c) (row_in top c)) && (bit_in flood (row_in top c) (column_in left c) == 1)
 
@@ -47,7 +47,7 @@ row_seen : (left top : ℤ) (i r : ℕ) → row_in top (in_window left top i r) 
 unfolding row_in
 row_seen left top i r = omega (arith, ints)
 
--- for the window's own cells it is the bit
+-- a cell of the window is flooded exactly if its bit is 1
 seen_flooded : (flood : List ℕ) (left top : ℤ) (i r : ℕ) → is_flooded flood left top (in_window left top i r) ≡ (bit_in flood r i == 1)
 unfolding is_flooded
 seen_flooded flood left top i r =
@@ -78,7 +78,7 @@ spot-flooded : (flood : List ℕ) (left top : ℤ) (c : Cell) → IsSpot flood l
 spot-flooded flood left top c s =
     ap (is_flooded flood left top) s.place ∙ seen_flooded flood left top s.i s.r ∙ ap (λ (m : ℕ). m == 1) s.lit
 
--- what is linked to a cell of the flood is in the flood
+-- a path from a cell of the flood ends in the flood
 walks : (rows flood : List ℕ) (left top : ℤ) (row column : ℕ) (cells : List Cell) → IsFlooded rows flood row column → ShowsInRows left top rows cells
     → (c d : Cell) (path : List Cell) → Leads cells c path d → IsSpot flood left top c → IsSpot flood left top d
 walks rows flood left top row column cells is shows c d [] leads s = subst (IsSpot flood left top) leads s
@@ -142,7 +142,7 @@ flooded_cluster rows flood left top row column cells is shows o = record {
         has-filter (is_flooded flood left top) cells d
         ∙ (λ t. linked-has cells (in_window left top column row) d a t && spot-flooded flood left top d s t)
 
--- and the window with the flood's rows holds it
+-- the window with the flood's rows holds the cluster
 pub flooded_held : (rows flood : List ℕ) (left top : ℤ) (row column : ℕ) (cells : List Cell) → IsFlooded rows flood row column
     → ShowsInRows left top rows cells → InOrder cells → FillsRows left top flood (cluster_in flood left top cells)
 unfolding cluster_in
@@ -179,7 +179,7 @@ flooded_held rows flood left top row column cells is shows o = record {
         dead true b d e f = e
         dead false b d e f = sym f
 
--- the window shows two cells further inside what it shows at a lesser depth
+-- rows show a pattern except in the outer two columns and rows, if the window shows it from a depth of at most 2
 pub shown_rows : (window : List (List ℕ)) (rows : List ℕ) (left top : ℤ) (depth : ℕ) (cells : List Cell) → depth ≤ 2
     → ((r : ℕ) → r < 64 → slice_index rows r ≡ row_at 16 window r) → IsShownInside 16 left top depth window cells → ShowsInRows left top rows cells
 shown_rows window rows left top depth cells few unpacked shown r i a b d e =
@@ -198,7 +198,7 @@ cluster_flooded window rows flood row column unpacked is depth few cells left to
 
 -- ---- the pattern
 
--- A window of 64 rows is a board of one lane. What it shows of the flood is the cluster.
+-- A window of 64 rows is a board of one word column. The cells that it shows of the flood are the cluster.
 pub flooded_pattern : (at : Frame) (rows flood : List ℕ) (row column : ℕ) (cells : List Cell) → at.word_columns ≡ 1 → at.rows ≡ 64
     → IsFlooded rows flood row column → ShowsInRows at.left at.top rows cells → InOrder cells → IsCluster cells (cells_on at flood)
 unfolding cluster_in

@@ -17,7 +17,7 @@ followed_none rule start = record {
   new = λ S left top h. new-none rule S;
 }
 
--- a crop of so many rows
+-- the part is a crop of `many` rows, from row `from` on, that contain all live cells
 pub record IsCropOf (n many from : ℕ) (rows : List ℕ) (part : List (List ℕ)) : Type 0 where
   pub four : many ≡ 4 * n
   pub lies : LiesInCrop many from rows
@@ -33,7 +33,7 @@ filled : (n many from : ℕ) (left top : ℤ) (rows : List ℕ) (part : List (Li
 filled n many from left top rows part S c h =
     uncrop_held n from left top rows part S (subst (λ (m : ℕ). LiesInCrop m from rows) c.four c.lies) c.is h
 
--- it goes on in the crop
+-- a pattern that is followed in the rows is followed in the crop
 pub followed_in_crop : (rule : Numbers) (n many from made : ℕ) (start now : List ℕ) (first window : List (List ℕ)) → IsCropOf n many from start first
     → IsCropOf n many from now window → IsFollowedInRows rule start now made → IsFollowed rule n first window made
 followed_in_crop rule n many from made start now first window cs cn followed = record {
@@ -48,13 +48,13 @@ followed_in_crop rule n many from made start now first window cs cn followed = r
     held S left top up same h = subst (λ (t : ℤ). Holds n left t window (after rule S made)) (sym same)
         (held_in n many from left up now window (after rule S made) cn (followed.held S left up (begun S left top up same h)))
 
--- it is seen there not to recur
+-- if no pattern in the crop recurs, no pattern in the rows does
 pub new_in_rows : (rule : Numbers) (n many from most : ℕ) (start : List ℕ) (first : List (List ℕ)) → IsCropOf n many from start first
     → ((S : List Cell) (left top : ℤ) → Holds n left top first S → NeverRecurs rule S most)
     → (S : List Cell) (left top : ℤ) → FillsRows left top start S → NeverRecurs rule S most
 new_in_rows rule n many from most start first cs new S left top h = new S left (top +ℤ pos from) (held_in n many from left top start first S cs h)
 
--- it has outgrown the crop
+-- a pattern that is followed in the crop is followed in the rows
 pub followed_in_rows : (rule : Numbers) (n many from made : ℕ) (start later : List ℕ) (first window : List (List ℕ)) → IsCropOf n many from start first
     → IsCropOf n many from later window → IsFollowed rule n first window made → IsFollowedInRows rule start later made
 followed_in_rows rule n many from made start later first window cs cl followed = record {

@@ -36,13 +36,13 @@ row_past n x r some whole far = get_or_past _ (r / n) 0 (omega (
       4} {y = r} some).1 far,
 ))
 
--- a bit of a word moved down
+-- bit i of a word shifted right by k is bit k + i of the word
 pub moved_bit : (n k i : ℕ) → bit_at (n / 2 ^ k) i ≡ bit_at n (k + i)
 moved_bit n k i = ap (λ (m : ℕ). m % 2) (div-div-eq-div-mul n (2 ^ k) (2 ^ i) ∙ ap (λ (m : ℕ). n / m) (sym (pow-add 2 k i)))
 
 -- ---- cells
 
--- where a cell of the window stands in it
+-- the column and the row of a live cell in the window
 pub record IsLit (n : ℕ) (left top : ℤ) (x : List (List ℕ)) (c : Cell) (i r : ℕ) : Type 0 where
   pub column : i < 64
   pub row : r < 4 * n
@@ -55,7 +55,7 @@ natural a b low = omega (arith, ints)
 pub below : (a b : ℤ) (m : ℕ) → b ≤ℤ a → a <ℤ (b +ℤ pos m) → unsigned_abs (a -ℤ b) < m
 below a b m low high = omega (arith, ints)
 
--- each live cell is one of these
+-- each live cell of the pattern has a column and a row in the window
 pub lit : (n : ℕ) (left top : ℤ) (x : List (List ℕ)) (S : List Cell) (c : Cell) → Holds n left top x S → has S c ≡ true
     → (i : ℕ) × (r : ℕ) × IsLit n left top x c i r
 lit n left top x S c h e =
@@ -81,7 +81,7 @@ outside n left top x S c h out = false_unless (has S c) (λ e. out (h.inside c e
 pub not_lit : (m : ℕ) → m ≡ 0 → false ≡ (m == 1)
 not_lit m none = ap (λ (k : ℕ). k == 1) (sym none)
 
--- the window's rows and columns go on without end, with no cell in them
+-- a bit of the window shows its cell, even past the window's border, where no cell is alive
 pub held_anywhere : (n : ℕ) (left top : ℤ) (x : List (List ℕ)) (S : List Cell) (i r : ℕ) → 0 < n → Holds n left top x S → AreVectors n x
     → has S (in_window left top i r) ≡ (bit_at (row_at n x r) i == 1)
 held_anywhere n left top x S i r some h whole = go (less_or_not i 64) (less_or_not r (4 * n))
@@ -97,7 +97,7 @@ held_anywhere n left top x S i r some h whole = go (less_or_not i 64) (less_or_n
 
 -- ---- a generation
 
--- a live cell while the rim is clear
+-- a cell of the window that isn't on the rim
 pub record IsInner (n : ℕ) (left top : ℤ) (c : Cell) : Type 0 where
   pub west : left <ℤ c.x
   pub north : top <ℤ c.y
@@ -156,7 +156,7 @@ inner n left top x S c h clear e = go (lit n left top x S c h e)
           | inr last ↦ absurd (let same : r ≡ 4 * n - 1 = omega (arith, low) in dark (row_at n x r) (ap (row_at n x) same ∙ clear.bottom) l.bit)
         ]
 
--- what the next generation has lies beside an inner cell, or is one
+-- if the rim is clear, each cell of the next generation is in the window
 inside_next : (rule : Numbers) (n : ℕ) (left top : ℤ) (x : List (List ℕ)) (S : List Cell) (c : Cell) → Holds n left top x S → IsRimClear n x
     → has (next rule S) c ≡ true → IsInWindow n left top c
 inside_next rule n left top x S c h clear e = go (lives_cases rule S c (sym (has-next rule S c) ∙ e))
@@ -195,7 +195,7 @@ bit_if S m e c same small shown = ap (λ (d : Cell). cond {A = ℕ} (has S d) 1 
     one (suc zero) low = refl
     one (suc (suc n)) low = absurd (omega arith)
 
--- the live cells of three in a row of the window
+-- the row sum of a window is the number of live cells among a cell and its left and right neighbours
 row_seen : (S : List Cell) (n : ℕ) (left top : ℤ) (x : List (List ℕ)) → 0 < n → Holds n left top x S → AreVectors n x → (e : Cell) (r i : ℕ) → i < 64
     → e ≡ in_window left top i r → row_total S e ≡ row_sum (row_at n x r) i
 row_seen S n left top x some h whole e r i low is =
@@ -243,7 +243,7 @@ row_seen S n left top x some h whole e r i low is =
         bit_if S (bit_at word (i + 1)) (moved_by (pos 1) (pos 0) e) (in_window left top (i + 1) r)
         (ap (moved_by (pos 1) (pos 0)) is ∙ same_cell_at _ _ _ _ (omega (arith, ints)) (omega (arith, ints))) (bit_at-lt word (i + 1)) (seen (i + 1))
 
--- none in a row above the window
+-- the row above the window has no live cells
 row_over : (S : List Cell) (n : ℕ) (left top : ℤ) (x : List (List ℕ)) → Holds n left top x S → (e : Cell) (i : ℕ) → e.y ≡ top -ℤ pos 1
     → row_total S e ≡ row_sum 0 i
 row_over S n left top x h e i is =
@@ -276,7 +276,7 @@ row_next n x r some whole = go (r + 1 == 4 * n) refl
     go true e = let last : r + 1 ≡ 4 * n = eqb-true (r + 1) (4 * n) e in sym (row_past n x (r + 1) some whole (omega arith))
     go false e = refl
 
--- the neighbourhood of a cell of the window, at its border too
+-- three row sums count the live cells in the neighbourhood of a cell of the window, even at its border
 block_seen : (S : List Cell) (n : ℕ) (left top : ℤ) (x : List (List ℕ)) → 0 < n → Holds n left top x S → AreVectors n x → (r i : ℕ) → i < 64
     → row_sum (row_above n x r) i + row_sum (row_at n x r) i + row_sum (row_below n x r) i
     ≡ around S (in_window left top i r) + cond (has S (in_window left top i r)) 1 0
@@ -293,7 +293,7 @@ block_seen S n left top x some h whole r i low =
     above (suc r) = row_seen S n left top x some h whole (moved_by (pos 0) (negsuc 0) (in_window left top i (suc r))) r i low
         (same_cell_at _ _ _ _ (omega (arith, ints)) (omega (arith, ints)))
 
--- with a clear rim the next window holds the next generation
+-- if the rim is clear, the next window holds the next generation
 pub next_held : (rule : Numbers) (n : ℕ) (left top : ℤ) (x y : List (List ℕ)) (S : List Cell) → 0 < n → AreVectors n x → IsRimClear n x → IsNextWindow rule n x y
     → Holds n left top x S → Holds n left top y (next rule S)
 next_held rule n left top x y S some whole clear step h = record {
@@ -319,7 +319,7 @@ next_held rule n left top x y S some whole clear step h = record {
 pub four_words : (a b c d i : ℕ) → bit_at (bit_or (bit_or a b) (bit_or c d)) i ≡ max (max (bit_at a i) (bit_at b i)) (max (bit_at c i) (bit_at d i))
 four_words a b c d i = bit_at_or (bit_or a b) (bit_or c d) i ∙ (λ t. max (bit_at_or a b i t) (bit_at_or c d i t))
 
--- the bit of a word in which all four lanes are joined
+-- bit i of the union of the vector's four lanes
 abbrev pub joined_bit : List ℕ → ℕ → ℕ
 joined_bit v i = max (max (bit_of v 0 i) (bit_of v 1 i)) (max (bit_of v 2 i) (bit_of v 3 i))
 
@@ -363,7 +363,7 @@ row_low n (suc (suc zero)) k h low = omega arith
 row_low n (suc (suc (suc zero))) k h low = omega arith
 row_low n (suc (suc (suc (suc j)))) k h low = absurd (omega arith)
 
--- the vectors before vector k, joined
+-- `joined` is the union of the vectors before vector k
 pub record HasJoined (x : List (List ℕ)) (joined : List ℕ) (k : ℕ) : Type 0 where
   pub whole : (m : ℕ) → m < k → IsVector (slice_index_or x m [])
   pub all : (m j i : ℕ) → m < k → j < 4 → bit_at (lane_at x m j) i ≡ 1 → bit_of joined j i ≡ 1
@@ -418,7 +418,7 @@ columns_joined n x all w k joined is bits = record {
 pub whole_joined : (n : ℕ) (x : List (List ℕ)) (all : List ℕ) (k : ℕ) → HasJoined x all k → k ≡ n → AreVectors n x
 whole_joined n x all k joined is m low = joined.whole m (omega arith)
 
--- the vectors before vector k, compared
+-- the vectors before vector k have been compared, and differ only where a bit of `marks` is 1
 abbrev pub AreAlikeBelow : List (List ℕ) → List (List ℕ) → List ℕ → ℕ → Type 0
 AreAlikeBelow x y marks k = (m j i : ℕ) → m < k → j < 4 → bit_of marks j i ≡ 0 → bit_at (lane_at x m j) i ≡ bit_at (lane_at y m j) i
 

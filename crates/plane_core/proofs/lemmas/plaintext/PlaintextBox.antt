@@ -1,4 +1,4 @@
--- The smallest box of a pattern, as a walk of the writer needs it.
+-- The smallest box of a pattern, as the writer uses it.
 use Rattle.std.proofs.Common.{◌≡◌, ◌≤ℤ◌, true, nat_le, List, [], ◌∷◌, Some, refl, sym, ap, subst, ◌∙◌, arith}
 use Rattle.std.specs.List.{AllByRecursion, list_all}
 use Rattle.std.specs.Prelude.{unsigned_abs}
@@ -11,7 +11,7 @@ use Rattle.plane_core.specs.plane.Cells.{plane_bound, IsPattern, on_plane}
 use Rattle.plane_core.specs.PlaintextWalk.{IsBox, IsAhead}
 use Rattle.plane_core.proofs.lemmas.plaintext.PlaintextOrder.{AllByRecursion-weaker}
 
--- the least box of a first cell and others
+-- the smallest box of a nonempty list
 abbrev pub least : Cell → List Cell → Bounds
 least c [] = box_at c
 least c (d ∷ ds) = widened c (least d ds)
@@ -36,7 +36,7 @@ widened-within c d b h = record {
   bottom = omega (arith, ints, clamps, h.bottom);
 }
 
--- each cell is in the least box
+-- each cell is in the smallest box
 pub all_within : (c : Cell) (cs : List Cell) → AllByRecursion (IsWithin (least c cs)) (c ∷ cs)
 all_within c [] = (record { left = omega (arith, ints); top = omega (arith, ints); right = omega (arith, ints); bottom = omega (arith, ints) }, tt)
 all_within c (d ∷ ds) = (

@@ -13,7 +13,7 @@ use Rattle.plane_core.proofs.lemmas.plaintext.PlaintextOrder.{cell_of, IsInRow, 
 use Rattle.plane_core.proofs.lemmas.plaintext.PlaintextRows.{places_from, live_cells-cons_live, live_cells-cons_dead}
 use Rattle.plane_core.proofs.lemmas.plaintext.PlaintextWalks.{apart_rows, apart_rows_down, apart_columns, apart_columns_left}
 
--- a cell that is at none of the places
+-- a cell that is at none of the places isn't a live cell of them
 none_there : (d : Cell) (ps : List Place) → AllByRecursion (λ p. same_cell d (cell_of p) ≡ false) ps → has (live_cells ps) d ≡ false
 unfolding live_cells
 none_there d [] h = refl
@@ -24,7 +24,7 @@ none_there d (p ∷ ps) h =
     (λ e. ap (λ cs. has cs d) (live_cells-cons_dead p ps e) ∙ more)
     (cases_Bool (is_live p.byte))
 
--- the cell at offset k of what follows column x of row y
+-- the cell k columns after column x of row y, in a row that is read from column x on
 row_has : (n y x k : ℕ) (row : List ℕ) → has (live_cells (places_from n y x row)) (cell_at (pos (x + k)) (pos y)) ≡ is_live (get_or row k 0)
 unfolding live_cells
 row_has n y x k [] = refl

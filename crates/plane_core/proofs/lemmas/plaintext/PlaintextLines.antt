@@ -1,4 +1,4 @@
--- The places of a text line by line, and their first fault and their cells.
+-- The places of a text, line by line, with their first fault and their cells.
 use Rattle.std.proofs.Common.{◌≡◌, ◌==◌, ℕ, pos, ◌+◌, ◌*◌, ◌<◌, ◌≤◌, Fits, w64, true, false, not, List, [], ◌∷◌, ◌++◌, Option}
 use Rattle.std.proofs.Common.{Some, None, length, get_or, drop, map, filter, refl, sym, ap, ◌∙◌, arith}
 use Rattle.std.specs.Option.{option_or}
@@ -19,7 +19,7 @@ use Rattle.plane_core.proofs.lemmas.plaintext.PlaintextRows.{row_in_limits, live
 abbrev pub parts_of : List ℕ → List (List ℕ)
 parts_of text = slice_split (λ b. b == line_feed) text
 
--- the places of some lines, of which the first is line n and the first row is row y
+-- the places of some lines; the first line is line n, and the first row is row y
 unfoldable pub places_after : ℕ → ℕ → List (List ℕ) → List Place
 places_after n y parts = flat_map places_of_row
     (enumerate_from y (filter (λ line. not (is_comment line.1)) (enumerate_from n (map strip_carriage_return parts))))
@@ -52,7 +52,7 @@ unfolding live_cells
 live_cells-append ps qs = ap (map (λ p. cell_at (pos p.x) (pos p.y))) (filter-append (λ p. is_live p.byte) ps qs)
     ∙ map-append _ (filter (λ p. is_live p.byte) ps) (filter (λ p. is_live p.byte) qs)
 
--- a loop over the parts that has met the first n of them meets this line next
+-- after the first n parts, `line` is the next part
 abbrev pub IsNext : List (List ℕ) → ℕ → List ℕ → Type 0
 IsNext parts n line = (n < length parts) × (line ≡ get_or parts n line)
 
@@ -71,7 +71,7 @@ pub no_place_past : (n y : ℕ) (parts : List (List ℕ)) → n ≡ length parts
 unfolding places_after
 no_place_past n y parts h = rw (drop_all n parts (omega arith)) refl
 
--- the first fault of the lines from line n + 1 on, where n lines are done
+-- a comment has no fault: the first fault is in the lines after it
 pub no_fault_in_comment : (n y : ℕ) (parts : List (List ℕ)) (line : List ℕ) → IsNext parts n line → is_comment (strip_carriage_return line) ≡ true
     → first_fault (places_after (n + 1) y (drop n parts)) ≡ first_fault (places_after (n + 1 + 1) y (drop (n + 1) parts))
 no_fault_in_comment n y parts line t e = ap first_fault (comment_here n y parts line t e)
@@ -101,7 +101,7 @@ neither : {X : Type 0} (a b : Option X) → option_or a b ≡ None → (a ≡ No
 neither None b h = (refl, h)
 neither (Some x) b h = absurd (cc)
 
--- where the lines from line n + 1 on have no fault: no row has, and each byte of a row is in the limits
+-- if the lines from line n + 1 on have no fault, neither the next row nor the lines after it have one
 no_fault_both : (n y : ℕ) (parts : List (List ℕ)) (line : List ℕ) → IsNext parts n line → is_comment (strip_carriage_return line) ≡ false
     → first_fault (places_after (n + 1) y (drop n parts)) ≡ None → (first_fault (places_of_row (y, (n + 1, strip_carriage_return line))) ≡ None)
     × (first_fault (places_after (n + 1 + 1) (y + 1) (drop (n + 1) parts)) ≡ None)
@@ -135,18 +135,18 @@ pub no_cell_past_lines : (n y : ℕ) (parts : List (List ℕ)) (cells : List Cel
 unfolding live_cells
 no_cell_past_lines n y parts cells h = rw (no_place_past n y parts h) (append-nil cells)
 
--- a loop's step: what is done grows by what the rest loses
+-- a loop's step: the cells that are added are those that the remainder loses
 pub moved_over : (done more new remainder later all : List Cell) → new ≡ done ++ more → remainder ≡ more ++ later → done ++ remainder ≡ all → new ++ later ≡ all
 moved_over done more new remainder later all g e h = ap (λ cs. cs ++ later) g ∙ append_assoc done more later ∙ ap (λ cs. done ++ cs) (sym e) ∙ h
 
--- a loop has met no more rows than lines
+-- there are at most as many rows as lines
 pub one_row_more : (y n : ℕ) → y ≤ n → y + 1 ≤ n + 1
 one_row_more y n h = omega arith
 
 pub one_line_more : (y n : ℕ) → y ≤ n → y ≤ n + 1
 one_line_more y n h = omega arith
 
--- a number of lines, or of rows, and one more is a word: a text has no more lines than bytes, and one
+-- one more than a number of lines or rows fits a word, since a text has at most one line more than bytes
 pub fits_one_more : (text : List ℕ) (n k : ℕ) → length text * 1 < 9223372036854775808 → n < length (parts_of text) → k ≤ n → Fits w64 (k + 1)
 fits_one_more text n k small low few =
     omega (arith, length-slice_split (λ b. b == line_feed) text, count_by-le-length (λ b. b == line_feed) text, small, low, few)

@@ -36,7 +36,7 @@ pub AllByRecursion-append : {X : Type 0} (P : X → Type 0) (xs ys : List X) →
 AllByRecursion-append P [] ys h k = k
 AllByRecursion-append P (x ∷ xs) ys h k = (h.0, AllByRecursion-append P xs ys h.1 k)
 
--- two lists in order, each element of the first before those of the second
+-- the concatenation of two ordered lists is ordered if each element of the first is before each of the second
 pub IsStrictlySortedBy-append : {X : Type 0} (c : X → X → Ordering) (xs ys : List X) → IsStrictlySortedBy c xs → IsStrictlySortedBy c ys
     → AllByRecursion (λ x. AllByRecursion (λ y. c x y ≡ Less) ys) xs → IsStrictlySortedBy c (xs ++ ys)
 unfolding IsStrictlySortedBy
@@ -53,7 +53,7 @@ unfolding IsStrictlySortedBy
 IsStrictlySortedBy-map c f [] h = tt
 IsStrictlySortedBy-map c f (x ∷ xs) h = (AllByRecursion-map (λ y. c (f x) y ≡ Less) f xs h.0, IsStrictlySortedBy-map c f xs h.1)
 
--- in row y, from column x on
+-- the place is in row y, in column x or further right
 abbrev pub IsInRow : ℕ → ℕ → Place → Type 0
 IsInRow y x q = (q.y ≡ y) × (x ≤ q.x)
 
@@ -71,14 +71,14 @@ row_in_order line y x (b ∷ row) = (
   row_in_order line y (x + 1) row,
 )
 
--- what holds of the places of some lines, by whether the first is a comment
+-- a property of the places of lines holds if it holds in both cases: the first line is a comment, or it isn't
 by_first_line : (P : List Place → Type 0) (n y : ℕ) (line : List ℕ) (parts : List (List ℕ)) → P (places_after (n + 1) y parts)
     → P (places_from n y 0 (strip_carriage_return line) ++ places_after (n + 1) (y + 1) parts) → P (places_after n y (line ∷ parts))
 by_first_line P n y line parts c r =
     ⊎_elim (λ e. subst P (sym (places_after-cons_comment n y line parts e)) c) (λ e. subst P (sym (places_after-cons_row n y line parts e)) r)
     (cases_Bool (is_comment (strip_carriage_return line)))
 
--- in row y or below it
+-- the place is in row y or below it
 abbrev IsFromRow : ℕ → Place → Type 0
 IsFromRow y q = y ≤ q.y
 

@@ -25,7 +25,7 @@ use Rattle.plane_core.proofs.lemmas.plaintext.PlaintextOrder.{AllByRecursion-wea
 use Rattle.plane_core.proofs.lemmas.plaintext.PlaintextRows.{places_from, first_fault-cons_none, live_cells-cons_live, live_cells-cons_dead}
 use Rattle.plane_core.proofs.lemmas.plaintext.PlaintextWalks.{left_of, above, lt_z-true, lt_z-false}
 
--- cells as bytes
+-- the bytes that are written for cells
 abbrev bytes : (ℤ → Bool) → List ℤ → List ℕ
 bytes f xs = map (λ x. byte_of (f x)) xs
 
@@ -45,11 +45,11 @@ no_feed f [] k d l = absurd (omega arith)
 no_feed f (x ∷ xs) zero d l = elim (f x) as (λ v. eqb (byte_of v) line_feed ≡ false) [ true ↦ refl | false ↦ refl ]
 no_feed f (x ∷ xs) (suc k) d l = no_feed f xs k d (omega arith)
 
--- one row of a box
+-- the bytes of one row of a box
 abbrev row_bytes : List Cell → Bounds → ℤ → List ℕ
 row_bytes cells b z = bytes (λ x. has cells (cell_at x z)) (span b.left b.right)
 
--- the lines of the text are the rows, and one of no byte after the last line feed
+-- the lines of the text are the rows, and an empty line after the last line feed
 split_rows : (cells : List Cell) (b : Bounds) (zs : List ℤ) → parts_of (flat_map (row_text cells b) zs) ≡ map (row_bytes cells b) zs ++ [] ∷ []
 unfolding row_text
 split_rows cells b [] = refl
@@ -219,7 +219,7 @@ absorb g true h = rw (h refl) refl
 absorb true false h = refl
 absorb false false h = refl
 
--- a pattern is those cells of its box that it has
+-- a pattern consists of those cells of its box that it contains
 kept : (cells : List Cell) (b : Bounds) → IsPattern cells → box_of cells ≡ Some b → filter (has cells) (grid b (span b.top b.bottom)) ≡ cells
 kept cells b p e =
     let box = IsBox-box_of cells b p e in
@@ -232,7 +232,7 @@ kept cells b p e =
     let high = box.high in
     has_grid d b b.top (suc (distance b.top b.bottom)) w box.wide top (omega (arith, ints))))
 
--- the text of the rows of a small box is the pattern at the corner
+-- the text of the rows of a small box is read as the pattern, moved to the corner
 box_text_read : (cells : List Cell) (b : Bounds) → IsPattern cells → box_of cells ≡ Some b → FitsThousandSquare b
     → pattern (box_text (Some b) cells) ≡ Ok (map (moved_by (neg_ℤ b.left) (neg_ℤ b.top)) cells)
 unfolding box_text

@@ -1,4 +1,4 @@
--- One row of a plaintext text, from a column on: its first fault, and its cells.
+-- One row of a plaintext text, from a column on: its first fault and its cells.
 use Rattle.std.proofs.Common.{◌≡◌, ℕ, zero, suc, pos, ◌+◌, ◌<◌, ◌≤◌, true, false, nat_lt, ◌&&◌, List, [], ◌∷◌, ◌++◌}
 use Rattle.std.proofs.Common.{Option, Some, None, length, get_or, drop, map, refl, sym, ap, ◌∙◌, arith}
 use Rattle.std.specs.List.{slice_get, filter_map, cons_option, enumerate_from}
@@ -15,7 +15,7 @@ use Rattle.plane_core.specs.PlaintextPlaces.{side_limit, Place}
 abbrev pub places_from : ℕ → ℕ → ℕ → List ℕ → List Place
 places_from line y x row = map (λ at. record { line = line; y = y; x = at.0; byte = at.1 }) (enumerate_from x row)
 
--- the first place decides where it has a fault
+-- a fault at the first place is the first fault
 pub first_fault-cons_some : (p : Place) (ps : List Place) (f : PlaintextFault) → fault_at p ≡ Some f → first_fault (p ∷ ps) ≡ Some f
 unfolding first_fault
 first_fault-cons_some p ps f h = rw h refl
@@ -35,7 +35,7 @@ live_cells-cons_dead p ps h = rw h refl
 abbrev pub place_at : ℕ → ℕ → ℕ → List ℕ → Place
 place_at line y x row = record { line = line; y = y; x = x; byte = get_or row x 0 }
 
--- the places from column x on are the one at x, and those from the next on
+-- the places from column x on are the place at x and the places from x + 1 on
 pub places_from_more : (line y x : ℕ) (row : List ℕ) → x < length row
     → places_from line y x (drop x row) ≡ place_at line y x row ∷ places_from line y (x + 1) (drop (x + 1) row)
 places_from_more line y x row h = ap (places_from line y x) (drop_more row x 0 h)
@@ -48,7 +48,7 @@ pub no_fault_here : (line y x : ℕ) (row : List ℕ) → x < length row → fau
     → first_fault (places_from line y x (drop x row)) ≡ first_fault (places_from line y (x + 1) (drop (x + 1) row))
 no_fault_here line y x row h e = ap first_fault (places_from_more line y x row h) ∙ first_fault-cons_none _ _ e
 
--- a byte that is no cell, one past the limits, and one within them
+-- the first fault if the next byte isn't a cell, is past the limits, or is within them
 pub bad_byte : (line y x : ℕ) (row : List ℕ) → x < length row → is_cell (get_or row x 0) ≡ false
     → first_fault (places_from line y x (drop x row)) ≡ Some (BadByte line (x + 1))
 unfolding fault_at
@@ -96,14 +96,14 @@ pub first_fault-cons : (p : Place) (ps : List Place) → first_fault (p ∷ ps) 
 unfolding first_fault
 first_fault-cons p ps h = first-cons_option (fault_at p) (filter_map fault_at ps) h
 
--- each byte of a row without a fault is
+-- each byte of a row without a fault is in the first 1,000 columns and rows
 pub row_in_limits : (line y x : ℕ) (row : List ℕ) → first_fault (places_from line y x row) ≡ None → (k : ℕ) → k < length row
     → (x + k < side_limit) × (y < side_limit)
 row_in_limits line y x [] h k l = absurd (omega arith)
 row_in_limits line y x (b ∷ row) h zero l = let s = in_limits _ (first_fault-cons _ _ h).0 in (omega arith, s.1)
 row_in_limits line y x (b ∷ row) h (suc k) l = let s = row_in_limits line y (x + 1) row (first_fault-cons _ _ h).1 k (omega arith) in (omega arith, s.1)
 
--- a cell doesn't know the number of its line
+-- the live cells of a row don't depend on its line number
 pub live_cells-line : (line y x : ℕ) (row : List ℕ) → live_cells (places_from line y x row) ≡ live_cells (places_from 0 y x row)
 unfolding live_cells
 live_cells-line line y x [] = refl

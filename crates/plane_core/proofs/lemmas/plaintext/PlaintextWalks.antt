@@ -15,7 +15,7 @@ use Rattle.plane_core.specs.PlaintextWalk.{IsAhead}
 use Rattle.plane_core.proofs.lemmas.plane.SetLemmas.{in_order-head, in_order-tail, in_order-cons, in_order-nil, before-trans, has-before, has-append}
 use Rattle.plane_core.proofs.lemmas.plaintext.PlaintextOrder.{AllByRecursion-weaker}
 
--- what a row has before a walk at column x, where the box ends before column e
+-- the remaining cells of a row when a walk is at column x of a box that ends before column e
 pub record IsRowAhead (y x e : ℤ) (cells : List Cell) : Type 0 where
   pub in_order : InOrder cells
   pub here : AllByRecursion (λ c. (c.y ≡ y) × (x ≤ℤ c.x) × (c.x <ℤ e)) cells
@@ -38,13 +38,13 @@ apart_rows_down a b h = grind (arith, ints)
 pub apart_columns : (a b : Cell) → a.y ≡ b.y → b.x <ℤ a.x → same_cell a b ≡ false
 apart_columns a b e h = grind (arith, ints)
 
--- a walk at column z, before the first cell of a row, has no cell there
+-- a column before the first remaining cell of a row has no cell
 pub has-gap : (y x e z : ℤ) (c : Cell) (cs : List Cell) → IsRowAhead y x e (c ∷ cs) → z <ℤ c.x → has (c ∷ cs) (cell_at z y) ≡ false
 has-gap y x e z c cs h l =
     let less = left_of (cell_at z y) c (sym h.here.0.0) l in
     has-before (cell_at z y) (c ∷ cs) (less, before-trans (cell_at z y) c cs less (in_order-head c cs h.in_order))
 
--- past the first cell it has only the others
+-- a column after the first cell has a cell only if another of the cells is there
 pub has-past : (y z : ℤ) (c : Cell) (cs : List Cell) → c.y ≡ y → c.x <ℤ z → has (c ∷ cs) (cell_at z y) ≡ has cs (cell_at z y)
 has-past y z c cs e l = ap (λ b. b || has cs (cell_at z y)) (apart_columns (cell_at z y) c (sym e) l)
 
@@ -82,7 +82,7 @@ in_order-drop zero cs o = o
 in_order-drop (suc n) [] o = in_order-nil
 in_order-drop (suc n) (c ∷ cs) o = in_order-drop n cs (in_order-tail c cs o)
 
--- how many of the cells, from the first on, are in row y
+-- the number of cells at the front of the list that are in row y
 abbrev pub len_in_row : ℤ → List Cell → ℕ
 len_in_row y cells = prefix_len (λ c. int_eq c.y y) cells
 
@@ -121,7 +121,7 @@ left_below_row y (c ∷ cs) o h =
     )))
     (cases_Bool (int_eq c.y y))
 
--- the cells of row y, and those below it, of what is ahead at row y
+-- the remaining cells are split into the cells of row y and the cells of lower rows
 pub IsRowAhead-taken : (y : ℤ) (b : Bounds) (cs : List Cell) → IsAhead y b cs → IsRowAhead y b.left (b.right +ℤ pos 1) (take (len_in_row y cs) cs)
 IsRowAhead-taken y b cs h = record {
   in_order = in_order-take (len_in_row y cs) cs h.in_order;
@@ -146,7 +146,7 @@ or-false : (b : Bool) → (b || false) ≡ b
 or-false true = refl
 or-false false = refl
 
--- a cell of row y is among those of that row
+-- a cell of row y is remaining exactly if it is among the cells at the front
 pub has-taken : (y : ℤ) (b : Bounds) (cs : List Cell) → IsAhead y b cs → (x : ℤ) → has cs (cell_at x y) ≡ has (take (len_in_row y cs) cs) (cell_at x y)
 has-taken y b cs h x =
     let n = len_in_row y cs in
@@ -157,7 +157,7 @@ has-taken y b cs h x =
     ap (λ ds. has ds (cell_at x y)) (sym (take-append-drop n cs)) ∙ has-append (take n cs) (drop n cs) (cell_at x y)
     ∙ ap (λ v. has (take n cs) (cell_at x y) || v) none ∙ or-false (has (take n cs) (cell_at x y))
 
--- and a cell of a row below is among the others
+-- a cell of a lower row is remaining exactly if it is among the other cells
 pub has-left : (y : ℤ) (cs : List Cell) (x z : ℤ) → y <ℤ z → has cs (cell_at x z) ≡ has (drop (len_in_row y cs) cs) (cell_at x z)
 has-left y cs x z l =
     let n = len_in_row y cs in
@@ -168,12 +168,12 @@ has-left y cs x z l =
     ap (λ ds. has ds (cell_at x z)) (sym (take-append-drop n cs)) ∙ has-append (take n cs) (drop n cs) (cell_at x z)
     ∙ ap (λ v. v || has (drop n cs) (cell_at x z)) none
 
--- the part of a row that a walk has before it, with its first cell
+-- the remaining part of a row begins with its next cell
 pub IsRowAhead-at : (y x e : ℤ) (row : List Cell) (i : ℕ) (d : Cell) → i < length row → IsRowAhead y x e (drop i row)
     → IsRowAhead y x e (get_or row i d ∷ drop (i + 1) row)
 IsRowAhead-at y x e row i d l h = subst (IsRowAhead y x e) (drop_more row i d l) h
 
--- what a loop's test says
+-- a loop's test implies the order of the numbers
 pub lt_z-true : (a b : ℤ) → lt_z a b ≡ true → a <ℤ b
 lt_z-true a b h = grind (arith, ints)
 
@@ -186,7 +186,7 @@ above a b h = grind (arith, ints)
 pub apart_columns_left : (a b : Cell) → a.y ≡ b.y → a.x <ℤ b.x → same_cell a b ≡ false
 apart_columns_left a b e h = grind (arith, ints)
 
--- a walk along the row, of which i cells have been met
+-- a walk along the row that has passed i cells has passed one more
 pub walked-on : (y : ℤ) (cells : List Cell) (i : ℕ) (d : Cell) → i < length cells → int_eq (get_or cells i d).y y ≡ true
     → len_in_row y cells ≡ i + len_in_row y (drop i cells) → len_in_row y cells ≡ (i + 1) + len_in_row y (drop (i + 1) cells)
 walked-on y cells i d l e h =
@@ -204,7 +204,7 @@ walked-off y cells i d l e h =
 pub walked-all : (y : ℤ) (cells : List Cell) (i : ℕ) → length cells ≤ i → len_in_row y cells ≡ i + len_in_row y (drop i cells) → i ≡ len_in_row y cells
 walked-all y cells i l h = let none = ap (len_in_row y) (drop_all i cells l) in omega (arith, h, none)
 
--- what the test of a cell's row says, which compares bits
+-- the test of a cell's row, which compares bits, implies that the rows are equal
 pub same_bits : (a y : ℤ) → FitsSigned w32 a → of_z w32 a ≡ of_z w32 y → int_eq a (to_z w32 (of_z w32 y)) ≡ true
 same_bits a y fits e =
     let same : a ≡ to_z w32 (of_z w32 y) = sym (to_z-of_z w32 a fits) ∙ ap (to_z w32) e in

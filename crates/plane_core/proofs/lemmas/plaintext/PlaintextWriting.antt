@@ -15,7 +15,7 @@ use Rattle.plane_core.proofs.lemmas.plane.SetLemmas.{has-head}
 use Rattle.plane_core.proofs.lemmas.plaintext.PlaintextWalks.{IsRowAhead, IsRowAhead-at, has-gap, has-past, has-taken, has-left, len_in_row}
 use Rattle.plane_core.specs.PlaintextPlaces.{dot, letter_o, line_feed}
 
--- what was written, as another form of its text
+-- a text that was written can be replaced by an equal text
 pub Writes_as : {V E : Type 0} {contents : V → Option (List ℕ)} {x y : Output V} {r : Result (Unit {0}) E} {a b : List ℕ} → a ≡ b
     → Writes contents x y r a → Writes contents x y r b
 Writes_as {E} {contents} {x} {y} {r} e h = subst (λ t. Writes {E = E} contents x y r t) e h
@@ -39,7 +39,7 @@ run-append a (suc m) n (suc k) e =
     let start : (a +ℤ pos 1) +ℤ pos m ≡ a +ℤ pos (suc m) = omega (arith, ints) in
     ap (λ zs. a ∷ zs) (run-append (a +ℤ pos 1) m n k (omega arith) ∙ ap (λ b. run (a +ℤ pos 1) m ++ run b n) start)
 
--- two functions that agree from a on agree along a run
+-- two functions that agree on a run of numbers map the run to the same list
 pub map-run : {X : Type 0} (f h : ℤ → X) (a : ℤ) (n : ℕ) → ((z : ℤ) → a ≤ℤ z → z <ℤ (a +ℤ pos n) → f z ≡ h z) → map f (run a n) ≡ map h (run a n)
 map-run f h a zero e = refl
 map-run f h a (suc n) e =
@@ -55,7 +55,7 @@ map-run-same b a (suc n) = ap (λ bs. b ∷ bs) (map-run-same b (a +ℤ pos 1) n
 abbrev pub bytes_at : List Cell → ℤ → List ℤ → List ℕ
 bytes_at cells y xs = map (λ x. byte_of (has cells (cell_at x y))) xs
 
--- what is to be written of row y from column x on, where the box ends before column e
+-- the remaining text of row y from column x on, if the box ends before column e
 unfoldable pub row_remainder : List Cell → ℤ → ℤ → ℤ → List ℕ
 row_remainder cells y x e = bytes_at cells y (run x (distance x e)) ++ line_feed ∷ []
 
@@ -93,7 +93,7 @@ row_remainder-cons y x e c cs h =
     ap (λ bs. bs ++ line_feed ∷ []) columns ∙ append_assoc (replicate gap dot) (letter_o ∷ bytes_at cs y (run (c.x +ℤ pos 1) remainder)) (line_feed ∷ [])
     ∙ sym (append_assoc (replicate gap dot) (letter_o ∷ []) (bytes_at cs y (run (c.x +ℤ pos 1) remainder) ++ line_feed ∷ []))
 
--- the same, in a loop over the cells of the row
+-- the remaining text of a row, in a loop over the cells of the row
 pub row_remainder-at : (y x e : ℤ) (row : List Cell) (i : ℕ) (d : Cell) (prefix whole : List ℕ) → i < length row → IsRowAhead y x e (drop i row)
     → whole ≡ prefix ++ row_remainder (drop i row) y x e
     → whole ≡ (prefix ++ (replicate (distance x (get_or row i d).x) dot ++ letter_o ∷ [])) ++ row_remainder (drop (i + 1) row) y ((get_or row i d).x +ℤ pos 1) e
@@ -107,7 +107,7 @@ pub row_remainder-end : (y x e : ℤ) (row : List Cell) (i : ℕ) (prefix whole 
     → whole ≡ prefix ++ (replicate (distance x e) dot ++ line_feed ∷ [])
 row_remainder-end y x e row i prefix whole l w = w ∙ ap (λ ds. prefix ++ row_remainder ds y x e) (drop_all i row l) ∙ ap (λ t. prefix ++ t) (row_remainder-nil y x e)
 
--- lists that have the same cells of row y have the same text of it
+-- lists with the same cells in row y have the same text for it
 pub row_text-same : (cs ds : List Cell) (b : Bounds) (y : ℤ) → ((x : ℤ) → has cs (cell_at x y) ≡ has ds (cell_at x y)) → row_text cs b y ≡ row_text ds b y
 unfolding row_text
 row_text-same cs ds b y h = ap (λ bs. bs ++ line_feed ∷ [])
@@ -116,7 +116,7 @@ row_text-same cs ds b y h = ap (λ bs. bs ++ line_feed ∷ [])
 pub row_text-taken : (y : ℤ) (b : Bounds) (cs : List Cell) → IsAhead y b cs → row_text cs b y ≡ row_text (take (len_in_row y cs) cs) b y
 row_text-taken y b cs h = row_text-same cs (take (len_in_row y cs) cs) b y (has-taken y b cs h)
 
--- what is to be written of the rows of a box from row y on
+-- the remaining text of the rows of a box from row y on
 unfoldable pub rows_remainder : List Cell → Bounds → ℤ → List ℕ
 rows_remainder cells b y = flat_map (row_text cells b) (run y (distance y (b.bottom +ℤ pos 1)))
 
@@ -126,7 +126,7 @@ box_text_is cells b l =
     let n : suc (distance b.top b.bottom) ≡ distance b.top (b.bottom +ℤ pos 1) = omega (arith, ints) in
     ap (λ k. flat_map (row_text cells b) (run b.top k)) n
 
--- the rest has the cells of row y and of those below it
+-- the remaining cells contain the cells of row y and of lower rows
 abbrev pub SameFrom : ℤ → List Cell → List Cell → Type 0
 SameFrom y cells remainder = (x z : ℤ) → y ≤ℤ z → has cells (cell_at x z) ≡ has remainder (cell_at x z)
 

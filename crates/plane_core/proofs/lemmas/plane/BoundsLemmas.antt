@@ -55,7 +55,7 @@ box_of-push (d ∷ ds) c = ap (λ (b : Option Bounds). Some (grown d b)) (box_of
     swapped None = widened-pair d c
     swapped (Some b) = widened-swap d c b
 
--- a loop's step
+-- a loop's step: the box of one more cell
 pub box_more : (cs : List Cell) (i : ℕ) (d : Cell) → i < length cs → box_of (take (i + 1) cs) ≡ Some (grown (get_or cs i d) (box_of (take i cs)))
 box_more cs i d low = ap box_of (take_more cs i d low) ∙ box_of-push (take i cs) (get_or cs i d)
 
@@ -122,7 +122,7 @@ box_of-least [] = tt
 box_of-least (c ∷ []) = least-alone c
 box_of-least (c ∷ d ∷ ds) = least-widened c (d ∷ ds) (grown d (box_of ds)) (box_of-least (d ∷ ds))
 
--- there is no box just where there is no cell
+-- there is no box exactly if there is no cell
 pub box_of-none : (cs : List Cell) → IsNone (box_of cs) ↔ (cs ≡ [])
 box_of-none [] = (λ _. refl, λ _. refl)
 box_of-none (c ∷ cs) = (λ e. absurd (false≢true (sym e)), λ e. absurd cc)

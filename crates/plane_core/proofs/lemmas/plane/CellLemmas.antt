@@ -15,13 +15,13 @@ use Rattle.plane_core.specs.plane.Cells.{cell_at, cell_cmp, same_cell, king_dist
 pub cell_cmp_total : IsTotalOrder cell_cmp
 cell_cmp_total = then_total (on_total (λ c. c.y) int_cmp_total) (on_total (λ c. c.x) int_cmp_total)
 
--- an order of pairs that ties has two ties
+-- a lexicographic order ties only if both its parts tie
 both_tie : (p q : Ordering) → ordering_then p q ≡ Equal → (p ≡ Equal) × (q ≡ Equal)
 both_tie Less q e = (e, cc)
 both_tie Equal q e = (refl, e)
 both_tie Greater q e = (e, cc)
 
--- cells that tie are one cell
+-- cells that tie are equal
 pub cell_cmp-same : (a b : Cell) → cell_cmp a b ≡ Equal → a ≡ b
 cell_cmp-same a b e =
     let ties = both_tie (int_cmp a.y b.y) (int_cmp a.x b.x) e in
@@ -63,7 +63,7 @@ both_equal Greater q = refl
 pub same_cell-eq : (a b : Cell) → (int_eq a.y b.y && int_eq a.x b.x) ≡ same_cell a b
 same_cell-eq a b = both_equal (int_cmp a.y b.y) (int_cmp a.x b.x)
 
--- coordinates within the bound, as they are passed on
+-- a coordinate that is passed on as 32 bits is still within the bound
 pub passed_within : (x : ℤ) → FitsSigned w32 x → unsigned_abs x ≤ plane_bound → unsigned_abs (to_z w32 (of_z w32 x)) ≤ plane_bound
 passed_within x fits low = rw (to_z-of_z w32 x fits) low
 
@@ -75,11 +75,11 @@ pub y_passed : (c : Cell) → FitsSigned w32 c.y → on_plane c ≡ true → uns
 unfolding on_plane
 y_passed c fits on = passed_within c.y fits (leb-true _ _ ((and_parts (nat_le (unsigned_abs c.x) plane_bound) _ on).1))
 
--- cells with the same column and row are one
+-- cells with the same column and row are equal
 pub same_cells : (x y v w : ℤ) → x ≡ v → y ≡ w → cell_at x y ≡ cell_at v w
 same_cells x y v w p q i = cell_at (p i) (q i)
 
--- the same of a cell that may lie one step past the bound
+-- the same for a cell that may be one step off the plane
 pub near_x_passed : (c : Cell) → FitsSigned w32 c.x → near_plane c ≡ true → unsigned_abs (to_z w32 (of_z w32 c.x)) ≤ plane_bound + 1
 unfolding near_plane
 near_x_passed c fits on = rw (to_z-of_z w32 c.x fits) (leb-true _ _ ((and_parts (nat_le (unsigned_abs c.x) (plane_bound + 1)) _ on).0))

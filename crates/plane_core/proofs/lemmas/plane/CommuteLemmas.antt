@@ -30,7 +30,7 @@ pub record IsRigid (f g : Cell → Cell) : Type 0 where
   pub keeps : (a b : Cell) → king_distance (f a) (f b) ≡ king_distance a b
 
 module _ (f g : Cell → Cell) (rigid : IsRigid f g) where
-  -- the members of an image
+  -- an image has a cell exactly if the pattern has its preimage
   has-image : (S : List Cell) (c : Cell) → has (map f S) c ≡ has S (g c)
   has-image S c = both_true (has (map f S) c) (has S (g c))
       (λ h. let d = has-map_from f S c h in subst (λ (x : Cell). has S x ≡ true) (sym (ap g d.2 ∙ rigid.back d.0)) d.1)
@@ -43,7 +43,7 @@ module _ (f g : Cell → Cell) (rigid : IsRigid f g) where
       ∙ (λ i. cond ((ap (λ (x : Cell). king_distance x (f d)) (sym (rigid.there c)) ∙ rigid.keeps (g c) d) i == 1) 1 0 + around-image ds c i)
       ∙ sym (around-cons d ds (g c))
 
-  -- a count over a list into which a new cell is put
+  -- inserting a new cell counts like prepending it
   around-put : (x : Cell) (ds : List Cell) (c : Cell) → has ds x ≡ false → around (put x ds) c ≡ around (x ∷ ds) c
   around-put x [] c h = refl
   around-put x (d ∷ ds) c h = go (cell_cmp x d) refl h (around-put x ds c)
@@ -54,7 +54,7 @@ module _ (f g : Cell → Cell) (rigid : IsRigid f g) where
       go Equal is h ih = absurd (false≢true (sym h))
       go Greater is h ih = omega (arith, around-cons d (put x ds) c, ih h, around-cons x ds c, around-cons x (d ∷ ds) c, around-cons d ds c)
 
-  -- a count over the set of an image
+  -- counting in the set of an image is counting in the image
   around-set_of : (S : List Cell) (c : Cell) → InOrder S → around (set_of (map f S)) c ≡ around (map f S) c
   around-set_of [] c o = refl
   around-set_of (d ∷ ds) c o =

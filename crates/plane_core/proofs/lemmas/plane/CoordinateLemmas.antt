@@ -38,7 +38,7 @@ y_within c on = leb-true _ _ ((and_parts (nat_le (unsigned_abs c.x) plane_bound)
 pub same_passed : (a b : ℤ) → FitsSigned w32 a → FitsSigned w32 b → of_z w32 a ≡ of_z w32 b → a ≡ b
 same_passed a b fa fb same = sym (to_z-of_z w32 a fa) ∙ ap (to_z w32) same ∙ to_z-of_z w32 b fb
 
--- what isn't less than another is more by their difference
+-- if a isn't less than b, a is b plus their difference
 pub more_by : (a b : ℤ) (n : ℕ) → FitsSigned w32 a → FitsSigned w32 b → lt_z (passed a) (passed b) ≡ false → n ≡ unsigned_abs (passed a -ℤ passed b)
     → a ≡ b +ℤ pos n
 more_by a b n fa fb low is = more (rw (to_z-of_z w32 a fa, to_z-of_z w32 b fb) at low) (rw (to_z-of_z w32 a fa, to_z-of_z w32 b fb) at is)
@@ -122,7 +122,7 @@ sum_of a b la lb = sum_of_small a b (omega (arith, la)) (omega (arith, lb))
 pub step_of : (a b : ℤ) → unsigned_abs a ≤ plane_bound + 1 → unsigned_abs b ≤ 2 → IsSum a b
 step_of a b la lb = sum_of_small a b (omega (arith, la)) (omega (arith, lb))
 
--- a coordinate so many cells to the right of one, or below it
+-- a coordinate n cells to the right of a, or below it
 pub record IsMoved (a : ℤ) (n : ℕ) : Type 0 where
   pub step : FitsSigned w32 (pos n)
   pub fits : FitsSigned w32 (passed a +ℤ to_z w32 n)
@@ -165,7 +165,7 @@ difference_of a b la lb = record {
     low : unsigned_abs (a -ℤ b) ≤ 16777216
     low = omega (arith, ints, la, lb)
 
--- so many cells to the left, or up
+-- a coordinate n cells to the left of a, or above it
 pub record IsMovedBack (a : ℤ) (n : ℕ) : Type 0 where
   pub step : FitsSigned w32 (pos n)
   pub fits : FitsSigned w32 (passed a -ℤ to_z w32 n)
@@ -186,7 +186,7 @@ moved_back a n near few = record {
 
 -- ---- a view of a board
 
--- a window of 64 rows that begins so many columns and rows further, as a board of its own
+-- a window of 64 rows that begins x columns and y rows into a board, as a board of its own
 pub record IsViewOf (at : Frame) (x y : ℕ) (view : Frame) : Type 0 where
   pub left : view.left ≡ at.left +ℤ pos x
   pub top : view.top ≡ at.top +ℤ pos y

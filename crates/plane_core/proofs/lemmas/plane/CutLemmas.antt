@@ -28,7 +28,7 @@ use Rattle.plane_core.proofs.lemmas.plane.TurnLemmas.{images_on_plane, list_all-
 
 -- ---- where cells in order can be cut
 
--- no cell before the next one lies in a row below this one
+-- no cell up to place i is in a row below the cell at i
 above_cut : (S : List Cell) (i : ℕ) (z c : Cell) → InOrder S → i < length S → has (take (suc i) S) c ≡ true → c.y ≤ℤ (get_or S i z).y
 above_cut [] i z c o low h = absurd (omega arith)
 above_cut (d ∷ ds) zero z c o low h = elim (has-cases d [] c h) [ inl same ↦ at_once c.y d.y (ap (λ (e : Cell). e.y) same) | inr none ↦ absurd (false≢true none) ]
@@ -41,7 +41,7 @@ above_cut (d ∷ ds) (suc i) z c o low h = elim (has-cases d (take (suc i) ds) c
   | inr more ↦ above_cut ds i z c (in_order-tail d ds o) (omega arith) more
 ]
 
--- no cell from this one on lies in a row above it
+-- no cell from place i on is in a row above the cell at i
 below_cut : (S : List Cell) (i : ℕ) (z d : Cell) → InOrder S → has (drop i S) d ≡ true → (get_or S i z).y ≤ℤ d.y
 below_cut [] zero z d o h = absurd (false≢true h)
 below_cut [] (suc i) z d o h = absurd (false≢true h)
@@ -57,7 +57,7 @@ below_cut (c ∷ cs) (suc i) z d o h = below_cut cs i z d (in_order-tail c cs o)
 further : (a b c d : ℤ) (far : ℕ) → a ≤ℤ b → far < unsigned_abs (c -ℤ b) → b ≤ℤ c → c ≤ℤ d → far < distance a d
 further a b c d far p h q r = omega (arith, ints)
 
--- a cell that is further below the one before it than so far begins a part
+-- a list can be cut before a cell that is more than `far` rows below the previous cell
 pub is_cut : (S : List Cell) (i far : ℕ) (z : Cell) → InOrder S → 1 ≤ i → i < length S → far < unsigned_abs ((get_or S i z).y -ℤ (get_or S (i - 1) z).y)
     → IsCut far S i
 is_cut S zero far z o some low h = absurd (omega arith)
@@ -86,7 +86,7 @@ is_cut S (suc i) far z o some low h = record {
 
 -- ---- the two parts
 
--- each part of a pattern is one
+-- each part of a pattern is a pattern
 pub is_pattern-take : (S : List Cell) (cut : ℕ) → IsPattern S → IsPattern (take cut S)
 is_pattern-take S cut p = record {
   in_order = in_order-take cut S p.in_order;
@@ -99,7 +99,7 @@ is_pattern-drop S cut p = record {
   on_plane = (and_parts _ _ (sym (list_all-append on_plane (take cut S) (drop cut S)) ∙ ap (list_all on_plane) (take-append-drop cut S) ∙ p.on_plane)).1;
 }
 
--- the pattern has run if both parts have
+-- if both parts have run, their union is the run of the whole pattern
 pub run_from_parts : (rule : Numbers) (S : List Cell) (cut n : ℕ) (above below whole : List Cell) → InOrder S → IsCut (2 * n) S cut
     → HasRun rule (take cut S) n above → HasRun rule (drop cut S) n below → whole ≡ set_of (above ++ below) → HasRun rule S n whole
 run_from_parts rule S cut n above below whole o p one other both = record {
@@ -119,7 +119,7 @@ same_cells : (T : List Cell) → map (turned_cell Same) T ≡ T
 same_cells [] = refl
 same_cells (c ∷ cs) = ap (λ (ds : List Cell). c ∷ ds) (same_cells cs)
 
--- a pattern is turned by a placement that doesn't move it
+-- the transform that swaps columns and rows without moving
 abbrev pub transposing : Transform
 transposing = record { orientation = Diagonal; dx = pos 0; dy = pos 0 }
 
@@ -144,12 +144,12 @@ is_pattern-image S on = record {
   on_plane = list_all-set_of on_plane (map (turned_cell Diagonal) S) ∙ images_on_plane Diagonal S on;
 }
 
--- turned and turned again
+-- transposing a pattern twice gives the pattern back
 pub image_back : (T : List Cell) → InOrder T → image Diagonal (image Diagonal T) ≡ T
 unfolding image
 image_back T o = image-image Diagonal Diagonal T ∙ ap set_of (same_cells T) ∙ set_of-in_order T o
 
--- turned cells lie as far out
+-- transposed cells are within n of the origin exactly if the cells are
 turned_within : (n : ℕ) (S : List Cell) → list_all (is_within n) (map (turned_cell Diagonal) S) ≡ list_all (is_within n) S
 turned_within n [] = refl
 turned_within n (c ∷ cs) = λ i. crossed (leb (unsigned_abs c.y) n) (leb (unsigned_abs c.x) n) i && turned_within n cs i
@@ -160,7 +160,7 @@ turned_within n (c ∷ cs) = λ i. crossed (leb (unsigned_abs c.y) n) (leb (unsi
     crossed false true = refl
     crossed false false = refl
 
--- the pattern has run if it has with its columns as rows
+-- if the transposed pattern has run, the run transposed back is the run of the pattern
 pub run_from_turned : (rule : Numbers) (S : List Cell) (n : ℕ) (later whole : List Cell) → InOrder S → HasRun rule (image Diagonal S) n later
     → whole ≡ image Diagonal later → HasRun rule S n whole
 unfolding image

@@ -21,14 +21,14 @@ use Rattle.plane_core.proofs.lemmas.plane.SpeedLemmas.{after-suc}
 
 -- ---- the nine cells of a neighbourhood
 
--- 1 where the pattern has the cell, else 0
+-- 1 if the pattern has the cell, and otherwise 0
 abbrev pub live : List Cell → ℤ → ℤ → ℕ
 live S x y = cond (has S (cell_at x y)) 1 0
 
 live_low : (S : List Cell) (x y : ℤ) → live S x y ≤ 1
 live_low S x y = elim (has S (cell_at x y)) as (λ b. cond {A = ℕ} b 1 0 ≤ 1) [ true ↦ omega arith | false ↦ omega arith ]
 
--- what is counted at a moved cell
+-- a pattern in order has the cell at (x, y) `live` times
 one_live : (S : List Cell) (c : Cell) (x y : ℤ) → InOrder S → c.x ≡ x → c.y ≡ y → times S c ≡ live S x y
 one_live S c x y o p q = times_once S c o ∙ (λ i. cond (has S (cell_at (p i) (q i))) 1 0)
 
@@ -51,7 +51,7 @@ block S x y a b d e o p q r s =
 
 -- ---- one generation
 
--- what a slow rule answers
+-- the numbers of a slow rule: no birth below 3, and no survival on 4 or 5
 pub record AnswersSlowly (rule : Numbers) : Type 0 where
   pub births : (n : ℕ) → is_birth rule n ≡ true → 3 ≤ n
   pub fours : is_survival rule 4 ≡ false
@@ -80,7 +80,7 @@ answers_slowly rule slow = record {
     at_least (suc (suc zero)) e = absurd (false≢true (sym none.1 ∙ e))
     at_least (suc (suc (suc n))) e = omega arith
 
--- no cell of the pattern lies deeper than m
+-- no cell of the pattern is deeper than m
 abbrev pub EndsAt : ℤ → List Cell → Type 0
 EndsAt m S = (x y : ℤ) → has S (cell_at x y) ≡ true → (x +ℤ y) ≤ℤ m
 
@@ -104,7 +104,7 @@ past m S x y ends far = go (has S (cell_at x y)) refl
 dark : (m : ℤ) (S : List Cell) (x y : ℤ) → EndsAt m S → m <ℤ (x +ℤ y) → live S x y ≡ 0
 dark m S x y ends far = none-live S x y (past m S x y ends far)
 
--- what a cell that is born past the frontier saw: the three cells behind it
+-- the live neighbours of a cell that is born past the frontier: the three cells behind it
 pub record SawThree (m : ℤ) (S : List Cell) (x y : ℤ) : Type 0 where
   pub corner : live S (x -ℤ pos 1) (y -ℤ pos 1) ≡ 1
   pub left : live S (x -ℤ pos 1) y ≡ 1
@@ -141,7 +141,7 @@ saw_three rule m S x y o slow ends far e = record {
 compare : (a b : ℤ) → (b ≤ℤ a) ⊎ (a <ℤ b)
 compare a b = grind (arith, ints)
 
--- a generation
+-- one generation goes at most 1 past the frontier
 pub ends-next : (rule : Numbers) (m : ℤ) (S : List Cell) → InOrder S → AnswersSlowly rule → EndsAt m S → EndsAt (m +ℤ pos 1) (next rule S)
 ends-next rule m S o slow ends x y e = go (compare m (x +ℤ y))
   where
@@ -151,7 +151,7 @@ ends-next rule m S o slow ends x y e = go (compare m (x +ℤ y))
 
 -- ---- two generations
 
--- the one behind a cell two past the frontier had four neighbours, or five
+-- the cell behind a cell two past the frontier had four or five neighbours
 crowded : (n a b c d e f g h i : ℕ) → n + i ≡ (a + (b + c)) + ((d + (i + e)) + (f + (g + h))) → a ≡ 0 → b ≡ 0 → d ≡ 0 → c ≡ 1 → e ≡ 1 → f ≡ 1
     → g ≡ 1 → h ≤ 1 → (n ≡ 4) ⊎ (n ≡ 5)
 crowded n a b c d e f g h i s p q r t u v w low = elim (less_or_not n 5) [ inl four ↦ inl (omega arith) | inr five ↦ inr (omega arith) ]
@@ -161,7 +161,7 @@ survived : (rule : Numbers) (S : List Cell) (x y : ℤ) → has S (cell_at x y) 
 survived rule S x y alive e = sym (ap (λ b. cond b (is_survival rule (around S (cell_at x y))) (is_birth rule (around S (cell_at x y)))) alive)
     ∙ sym (has-next rule S (cell_at x y)) ∙ e
 
--- none lives two past the frontier after two generations
+-- no cell is alive two past the frontier after two generations
 none_two_past : (rule : Numbers) (m : ℤ) (S : List Cell) (x y : ℤ) → InOrder S → AnswersSlowly rule → EndsAt m S → x +ℤ y ≡ m +ℤ pos 2
     → has (next rule (next rule S)) (cell_at x y) ≡ true → ⊥
 none_two_past rule m S x y o slow ends deep e = refused (crowded (around S (cell_at u v)) _ _ _ _ _ _ _ _ _
@@ -175,7 +175,7 @@ none_two_past rule m S x y o slow ends deep e = refused (crowded (around S (cell
     v : ℤ
     v = y -ℤ pos 1
 
-    -- what it saw in the generation between, and what the cell to its left and the one above it had seen
+    -- the live neighbours of the cell one generation earlier, and of its left and upper neighbours before that
     between : SawThree (m +ℤ pos 1) (next rule S) x y
     between = saw_three rule (m +ℤ pos 1) (next rule S) x y (in_order-next rule S) slow (ends-next rule m S o slow ends) (omega (arith, ints)) e
 
@@ -225,7 +225,7 @@ ends-after rule m S (suc k) o slow ends =
     (ends-later ((m +ℤ pos k) +ℤ pos 1) _ _ (sym (two_more rule S k))
     (ends-twice rule (m +ℤ pos k) (after rule S (k + k)) (in_order-after rule S (k + k) o) slow (ends-after rule m S k o slow ends)))
 
--- in an even number of generations, and in an odd one
+-- the bound after n generations, for even and for odd n
 ends_by : (rule : Numbers) (m : ℤ) (S : List Cell) (n : ℕ) (x y : ℤ) → InOrder S → AnswersSlowly rule → EndsAt m S
     → has (after rule S n) (cell_at x y) ≡ true → (pos 2 *ℤ (x +ℤ y)) ≤ℤ ((pos 2 *ℤ m) +ℤ pos (n + 1))
 ends_by rule m S n x y o slow ends e = within (n / 2) (halves (n / 2) refl)

@@ -21,7 +21,7 @@ or_left : (a b : Bool) → a ≡ true → (a || b) ≡ true
 or_left true b e = refl
 or_left false b e = absurd (false≢true e)
 
--- a number at most a step off is one of three
+-- a number at most 1 from another is one of three
 one_step : (a b : ℤ) → distance a b ≤ 1 → ((a +ℤ negsuc 0) ≡ b) ⊎ ((a ≡ b) ⊎ ((a +ℤ pos 1) ≡ b))
 one_step a b h = elim (near a b) [
   | inl (p, q, r, s) ↦ inl (int_eq-true (a +ℤ negsuc 0) b p)
@@ -77,7 +77,7 @@ has-flat_map (e ∷ es) d c h k = has-append (neighbourhood e) (flat_map neighbo
   | inr more ↦ or_right (has (neighbourhood e) c) (has (flat_map neighbourhood es) c) (has-flat_map es d c more k)
 ]
 
--- a cell with a live neighbour has one
+-- a cell with a positive number of live neighbours has a live neighbour
 pub a_neighbour : (S : List Cell) (c : Cell) → 0 < around S c → (d : Cell) × (has S d ≡ true) × (king_distance c d ≡ 1)
 a_neighbour [] c h = absurd (omega arith)
 a_neighbour (d ∷ ds) c h = go (king_distance c d == 1) refl (a_neighbour ds c)
@@ -94,7 +94,7 @@ born_beside : (rule : Numbers) (n : ℕ) → is_birth rule n ≡ true → 0 < n
 born_beside rule zero e = absurd (false≢true e)
 born_beside rule (suc n) e = omega arith
 
--- what lives next is alive or has a live neighbour
+-- a cell that is alive next is alive now or has a live neighbour
 pub lives_cases : (rule : Numbers) (S : List Cell) (c : Cell) → lives rule S c ≡ true → (has S c ≡ true) ⊎ (0 < around S c)
 lives_cases rule S c e = go (has S c) refl e
   where
@@ -111,7 +111,7 @@ lives_near rule S c e = elim (lives_cases rule S c e) [
   | inr beside ↦ let d = a_neighbour S c beside in has-flat_map S d.0 c d.1 (in_neighbourhood d.0 c (omega (arith, d.2)))
 ]
 
--- for every cell of the plane: it is in the next generation just where the rule's numbers say so
+-- each cell of the plane is in the next generation exactly if the rule's numbers say so
 pub has-next : (rule : Numbers) (S : List Cell) (c : Cell) → has (next rule S) c ≡ lives rule S c
 unfolding next
 has-next rule S c = has-filter (lives rule S) (set_of (flat_map neighbourhood S)) c ∙ ap (λ b. b && lives rule S c) (has-set_of (flat_map neighbourhood S) c)
@@ -131,7 +131,7 @@ in_order-next rule S = in_order-filter (lives rule S) (set_of (flat_map neighbou
 
 -- ---- counting
 
--- a list in order has a cell once or not at all
+-- an ordered list has a cell at most once
 pub times_once : (S : List Cell) (c : Cell) → InOrder S → times S c ≡ cond (has S c) 1 0
 times_once [] c o = refl
 times_once (d ∷ ds) c o = go (same_cell c d) refl (times_once ds c (in_order-tail d ds o))

@@ -28,7 +28,7 @@ times-sum : (cs : List Cell) (c : Cell) → times cs c ≡ sum_by (λ d. cond (s
 times-sum [] c = refl
 times-sum (d ∷ ds) c = ap (λ (n : ℕ). cond (same_cell c d) 1 0 + n) (times-sum ds c) ∙ sym (sum_by-cons (λ d. cond (same_cell c d) 1 0) d ds)
 
--- as often once it is sorted
+-- a permutation of a list contains each cell equally often
 times-moved : (cs ds : List Cell) (c : Cell) → IsPermutation cs ds → times ds c ≡ times cs c
 times-moved cs ds c moved = times-sum ds c ∙ sum_by-IsPermutation _ cs ds moved ∙ sym (times-sum cs c)
 
@@ -38,7 +38,7 @@ times-before c (d ∷ ds) h =
     let apart : cond {A = ℕ} (same_cell c d) 1 0 ≡ 0 = ap (λ o. cond {A = ℕ} (is_eq o) 1 0) h.0 in
     omega (arith, apart, times-before c ds h.1)
 
--- a cell is at most nine times in the list of the neighbourhoods
+-- a cell occurs at most nine times in the list of neighbourhoods
 pub nine_at_most : (S : List Cell) (c : Cell) → InOrder S → times (flat_map neighbourhood S) c ≤ 9
 nine_at_most S c o =
     sum (times-neighbourhoods S c ∙ sym (neighbourhood_total-around S c)) (one _) (one _) (one _) (one _) (one _) (one _) (one _) (one _) (one _)
@@ -52,22 +52,22 @@ nine_at_most S c o =
 
 -- ---- runs
 
--- the run of c goes on in the list after it
+-- the run of c continues in the list that follows c
 abbrev pub goes_on : Cell → List Cell → Bool
 goes_on c [] = false
 goes_on c (d ∷ ds) = same_cell d c
 
--- the cells that pass, each tested once with the length of its run, of whose first n cells were counted already
+-- one cell for each run whose length passes the test; n cells of the first run are already counted
 abbrev pub picked : (Cell → ℕ → Bool) → ℕ → List Cell → List Cell
 picked p n [] = []
 picked p n (c ∷ cs) = cond (goes_on c cs) (picked p (n + 1) cs) (cond (p c (n + 1)) (c ∷ picked p 0 cs) (picked p 0 cs))
 
--- no run is longer than nine
+-- no run is longer than nine; n cells of the first run are already counted
 abbrev pub AreShort : ℕ → List Cell → Type 0
 AreShort n [] = Unit {0}
 AreShort n (c ∷ cs) = (n < 9) × AreShort (cond (goes_on c cs) (n + 1) 0) cs
 
--- how often a cell is in the list, and was before it
+-- how often a cell is in the list, plus the n cells of the first run that are already counted
 abbrev in_all : ℕ → Cell → List Cell → Cell → ℕ
 in_all n c cs e = times (c ∷ cs) e + cond (same_cell e c) n 0
 
@@ -98,12 +98,12 @@ are_short n c (d ∷ ds) few = (
     go true is more new = more (λ e. omega (arith, few e, in_all-more n c d ds e (same_cell-same d c is)))
     go false is more new = new (λ e. omega (arith, few e, none_on (same_cell e d) (times (d ∷ ds) e)))
 
--- what was made, and what is to be picked from the rest, are all
+-- `made`, followed by the cells that are picked from the rest, is `all`
 pub record IsTallied (p : Cell → ℕ → Bool) (n : ℕ) (rest made all : List Cell) : Type 0 where
   pub short : AreShort n rest
   pub told : made ++ picked p n rest ≡ all
 
--- a place before the end of a whole list, and one past it
+-- a place before the end of a list is less than the list's length, and a place past the end isn't
 pub inside : (i end len : ℕ) → i < end → len ≡ end → i < len
 inside i end len low whole = omega (arith, low, whole)
 
@@ -113,11 +113,11 @@ past i end len high whole = omega (arith, high, whole)
 pub fits_one_more : (n : ℕ) → n < 9 → Fits w8 (n + 1)
 fits_one_more n low = record { fits = omega (arith, low) }
 
--- a cell of the list, which stands first in what is left
+-- the cell at place i is the first cell of the list from i on
 left_from : (near : List Cell) (i : ℕ) (d c : Cell) → i < length near → c ≡ get_or near i d → drop i near ≡ c ∷ drop (i + 1) near
 left_from near i d c low is = drop_more near i d low ∙ ap (λ (x : Cell). x ∷ drop (i + 1) near) (sym is)
 
--- whether a run goes on is told by the next cell
+-- a run continues exactly if the next cell is equal
 pub next_tells : (near : List Cell) (i : ℕ) (c d e : Cell) (b : Bool) → i + 1 < length near → d ≡ get_or near (i + 1) e → same_cell d c ≡ b
     → goes_on c (drop (i + 1) near) ≡ b
 next_tells near i c d e b low is same = ap (goes_on c) (left_from near (i + 1) e d low is) ∙ same
@@ -149,7 +149,7 @@ tested p n c cs left made all is off t =
     joined true = append_assoc made (c ∷ []) (picked p 0 cs)
     joined false = ap (λ (xs : List Cell). xs ++ picked p 0 cs) (append-nil made)
 
--- The cells that passed were moved to the prefix of the list, of which the rest is as it was. So many are kept there.
+-- The `kept` cells that passed so far are at the front of the list. The list from `place` on is unchanged.
 pub record IsKept (p : Cell → ℕ → Bool) (n kept place end : ℕ) (near all : List Cell) : Type 0 where
   pub whole : length near ≡ end
   pub prefix : kept ≤ place
@@ -159,7 +159,7 @@ pub count_low : (p : Cell → ℕ → Bool) (n kept place end : ℕ) (near all :
 count_low p n kept place end near all low k =
     (subst (AreShort n) (drop_more near place (cell_at (pos 0) (pos 0)) (omega (arith, low, k.whole))) k.tallied.short).0
 
--- a run goes on
+-- the run of the cell at the place continues
 pub kept_further : (p : Cell → ℕ → Bool) (n kept place end : ℕ) (near all : List Cell) (c d : Cell) → place < end → IsKept p n kept place end near all
     → c ≡ get_or near place d → goes_on c (drop (place + 1) near) ≡ true → IsKept p (n + 1) kept (place + 1) end near all
 kept_further p n kept place end near all c d low k is on = record {
@@ -168,7 +168,7 @@ kept_further p n kept place end near all c d low k is on = record {
   tallied = further p n c (drop (place + 1) near) (drop place near) (take kept near) all (left_from near place d c (omega (arith, low, k.whole)) is) on k.tallied;
 }
 
--- a run ends: its cell is kept if it passes, else not
+-- a run ends: its cell is kept if it passes the test, and otherwise dropped
 pub kept_more : (p : Cell → ℕ → Bool) (n kept place end : ℕ) (near all : List Cell) (c d : Cell) → place < end → IsKept p n kept place end near all
     → c ≡ get_or near place d → goes_on c (drop (place + 1) near) ≡ false → p c (n + 1) ≡ true
     → IsKept p 0 (kept + 1) (place + 1) end (set near kept c) all
@@ -194,7 +194,7 @@ kept_same p n kept place end near all c d low k is off fails =
           (subst (λ b. IsTallied p 0 (drop (place + 1) near) (take kept near ++ cond b (c ∷ []) []) all) fails t);
     }
 
--- at the end of the list
+-- at the end of the list, the kept cells are `all`
 pub kept_all : (p : Cell → ℕ → Bool) (n kept place end : ℕ) (near all : List Cell) → end ≤ place → IsKept p n kept place end near all → take kept near ≡ all
 kept_all p n kept place end near all past k =
     sym (append-nil (take kept near))
@@ -223,7 +223,7 @@ not_less c d low other = go (cell_cmp d c) refl low other
     go Equal is low other = absurd (false≢true (sym other))
     go Greater is low other = greater_turned d c is
 
--- a cell before the first of a sorted list is before all of it
+-- a cell before the first cell of a sorted list is before all its cells
 before-rises : (c d : Cell) (ds : List Cell) → cell_cmp c d ≡ Less → Rises d ds → IsBefore c (d ∷ ds)
 before-rises c d [] less r = (less, tt)
 before-rises c d (e ∷ es) less r = (less, before-rises c e es (past (same_cell e d) refl) r.1)
@@ -245,7 +245,7 @@ filter-same : (f g : Cell → Bool) (cs : List Cell) → AllByRecursion (λ c. f
 filter-same f g [] h = refl
 filter-same f g (c ∷ cs) h = λ i. cond (h.0 i) (c ∷ filter-same f g cs h.1 i) (filter-same f g cs h.1 i)
 
--- what is picked passes with the length of its run: with how often the list has it
+-- a cell of a sorted list is picked exactly if it passes the test with its number of occurrences
 picked-filter : (p : Cell → ℕ → Bool) (n : ℕ) (c : Cell) (cs : List Cell) → Rises c cs
     → picked p n (c ∷ cs) ≡ filter (λ e. p e (in_all n c cs e)) (dedup_from same_cell c cs)
 picked-filter p n c [] r = ap (λ (k : ℕ). cond (p c k) (c ∷ []) []) (omega (arith, in_all-head n c []))
@@ -284,11 +284,11 @@ picked-filter p n c (d ∷ ds) r = go (same_cell d c) refl (picked-filter p (n +
 
 -- ---- the next generation
 
--- whether a cell lives next that is so often in the list of the neighbourhoods
+-- whether a cell is alive in the next generation if it occurs n times in the list of neighbourhoods
 abbrev pub lives_in : Numbers → List Cell → Cell → ℕ → Bool
 lives_in rule S c n = lives_by rule n (has S c)
 
--- a live cell stays or a dead one is born: where both do or neither does, it is all one which the cell is
+-- if `stays` and `born` are equal, the result doesn't depend on whether the cell is alive
 pub all_one : (alive stays born : Bool) → beq stays born ≡ true → cond alive stays born ≡ born
 all_one false stays born e = refl
 all_one true true true e = refl
@@ -296,7 +296,7 @@ all_one true true false e = absurd (false≢true e)
 all_one true false true e = absurd (false≢true e)
 all_one true false false e = refl
 
--- and where just one does, it lives if it is what stays
+-- if `stays` and `born` differ, the result is whether `alive` equals `stays`
 pub just_one : (alive stays born : Bool) → beq stays born ≡ false → cond alive stays born ≡ beq alive stays
 just_one true true born e = refl
 just_one true false born e = refl
@@ -305,7 +305,7 @@ just_one false true false e = refl
 just_one false false true e = refl
 just_one false false false e = absurd (false≢true (sym e))
 
--- what is picked from the sorted list of the neighbourhoods is the next generation
+-- the cells picked from the sorted list of neighbourhoods are the next generation
 pub picked-next : (rule : Numbers) (S near : List Cell) → InOrder S → IsPermutation (flat_map neighbourhood S) near → IsSorted cell_cmp near
     → picked (lives_in rule S) 0 near ≡ next rule S
 unfolding next
@@ -329,7 +329,7 @@ short_runs S near o moved = go near (λ c. omega (arith, times-moved (flat_map n
     go [] few = tt
     go (c ∷ cs) few = are_short 0 c cs (λ e. omega (arith, few e, none_on (same_cell e c) (times (c ∷ cs) e)))
 
--- before the first cell of the list
+-- before the first cell of the list is read, none is kept
 pub none_kept : (rule : Numbers) (S near : List Cell) (end : ℕ) → InOrder S → IsPermutation (flat_map neighbourhood S) near → IsSorted cell_cmp near
     → length near ≡ end → IsKept (lives_in rule S) 0 0 0 end near (next rule S)
 none_kept rule S near end o moved sorted whole = record {

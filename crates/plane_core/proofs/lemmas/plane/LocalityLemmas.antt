@@ -10,7 +10,7 @@ use Rattle.plane_core.proofs.lemmas.plane.PartLemmas.{lives-local, triangle}
 use Rattle.plane_core.proofs.lemmas.plane.RunLemmas.{in_order-after}
 use Rattle.plane_core.proofs.lemmas.plane.SpeedLemmas.{after-suc}
 
--- by generations: what is seen from a cell agrees in each but the last of the k generations
+-- by induction on the generations: the patterns agree in ever smaller neighbourhoods of the cell
 pub sees_no_further : SeesNoFurther
 sees_no_further rule S T zero c o u same =
     ap (λ (V : List Cell). has V c) (after-none rule S) ∙ same c (omega (arith, distance_itself c.x, distance_itself c.y))

@@ -1,4 +1,4 @@
--- Cells in order that are merged with others, from the last one on.
+-- Merging ordered cells with others, from the last cell on.
 use Rattle.std.proofs.Common.{◌≡◌, ◌∙◌, ◌+◌, ◌<◌, ◌||◌, ℕ, Bool, true, false, List, [], ◌∷◌, ◌++◌, ap, arith, drop, get_or, length, refl, set, sym, take}
 use Rattle.std.proofs.Math.Seq.{take-append_seam}
 use Rattle.std.proofs.lemmas.List.{drop-set, drop_all, take-append-drop, take-set-le, take_all, take_more}
@@ -6,7 +6,7 @@ use Rattle.plane_core.specs.declared.plane.cell.Cell.{Cell}
 use Rattle.plane_core.specs.plane.Cells.{has, same_cell, set_of}
 use Rattle.plane_core.proofs.lemmas.plane.SetLemmas.{has-append, has-set_of, in_order-set_of, is_set_of}
 
--- the first i cells, those from place i + j on and the first j of the others are together the cells of both lists
+-- the first i cells, the cells from place i + j on and the first j of the others are together the cells of both lists
 abbrev pub AreTogether : List Cell → List Cell → List Cell → ℕ → ℕ → Type 0
 AreTogether before others cells i j =
     (c : Cell) → (has (take i cells) c || (has (drop (i + j) cells) c || has (take j others) c)) ≡ (has before c || has others c)
@@ -29,7 +29,7 @@ or_none : (a : Bool) → (a || false) ≡ a
 or_none true = refl
 or_none false = refl
 
--- at first nothing is merged
+-- before the loop, nothing is merged
 pub none_merged : (cells others : List Cell) (count : ℕ) → length cells ≡ count + length others
     → AreTogether (take count cells) others cells count (length others)
 none_merged cells others count long c =
@@ -52,7 +52,7 @@ merged_first before others cells i j d low is all c =
     ∙ (λ t. sym taken t || (has (drop (next t) cells) c || has (take j others) c))
     ∙ all c
 
--- the last of the first j others gets its place
+-- the last of the first j others is put at its place
 pub merged_second : (before others cells : List Cell) (i j : ℕ) (d : Cell) → i + j < length cells → j < length others → d ≡ get_or others j d
     → AreTogether before others cells i (j + 1) → AreTogether before others (set cells (i + j) d) i j
 merged_second before others cells i j d low there is all c =
@@ -67,7 +67,7 @@ merged_second before others cells i j d low there is all c =
     ∙ (λ t. has (take i cells) c || (has (drop (next t) cells) c || sym taken t))
     ∙ all c
 
--- at last all are
+-- when no others are left, the list has the cells of both lists
 pub all_merged : (before others cells : List Cell) (i : ℕ) → AreTogether before others cells i 0 → (c : Cell) → has cells c ≡ has (before ++ others) c
 all_merged before others cells i all c =
     let here : i ≡ i + 0 = omega arith in
@@ -76,11 +76,11 @@ all_merged before others cells i all c =
     ∙ ap (λ (b : Bool). has (take i cells) c || b) (sym (or_none (has (drop i cells) c)) ∙ ap (λ (n : ℕ). has (drop n cells) c || false) here)
     ∙ all c ∙ sym (has-append before others c)
 
--- lists with the same cells are one set
+-- lists with the same cells have the same set
 same_set : (cells others : List Cell) → ((c : Cell) → has cells c ≡ has others c) → set_of cells ≡ set_of others
 same_set cells others same = is_set_of (set_of cells) others (in_order-set_of cells) (λ c. has-set_of cells c ∙ same c)
 
--- so the merged cells are those of both lists
+-- the set of the merged cells is the set of both lists
 pub merged_all : (one other others old new : List Cell) (count : ℕ) → count ≡ length one → old ≡ one ++ other → others ≡ other
     → ((c : Cell) → has new c ≡ has (take count old ++ others) c) → set_of new ≡ set_of (one ++ other)
 merged_all one other others old new count is both same merged =

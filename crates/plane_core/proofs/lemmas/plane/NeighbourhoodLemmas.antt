@@ -17,7 +17,7 @@ use Rattle.plane_core.proofs.lemmas.plane.CellLemmas.{cell_cmp_total, same_cell-
 
 -- ---- one coordinate
 
--- How one number lies by another: a step to its left, at it, a step to its right, or further off. The tests say which.
+-- Where one number is relative to another: one to the left, equal, one to the right, or further off, as the tests say.
 abbrev pub IsNear : Bool → Bool → Bool → ℕ → Type 0
 IsNear left middle right far =
     ((left ≡ true) × (middle ≡ false) × (right ≡ false) × (far ≡ 1))
@@ -39,7 +39,7 @@ int_eq-false a b e = go (int_cmp a b) refl e
     go Equal is e = absurd (false≢true (sym e))
     go Greater is e = inr (int_ranked a b Greater is)
 
--- none of three numbers in a row is b
+-- if b is none of the three numbers around a, it is at least 2 from a
 far_away : (a b : ℤ) → ((a +ℤ negsuc 0) <ℤ b) ⊎ (b <ℤ (a +ℤ negsuc 0)) → (a <ℤ b) ⊎ (b <ℤ a) → ((a +ℤ pos 1) <ℤ b) ⊎ (b <ℤ (a +ℤ pos 1)) → 2 ≤ distance a b
 far_away a b (inl u) (inl v) (inl w) = omega (arith, ints)
 far_away a b (inl u) (inl v) (inr w) = omega (arith, ints)
@@ -73,7 +73,7 @@ hits row left middle right = cond (row && right) 1 0 + (cond (row && middle) 1 0
 far_off : (m n : ℕ) → 2 ≤ max m n → (max m n == 1) ≡ false
 far_off m n h = ne_eqb _ _ (λ e. absurd (omega arith))
 
--- a cell is a neighbour or the cell itself just where one of the nine is it
+-- a cell is a neighbour or the cell itself exactly if it is one of the nine cells
 one_cell : (x0 x1 x2 y0 y1 y2 : Bool) (dx dy : ℕ) → IsNear x0 x1 x2 dx → IsNear y0 y1 y2 dy
     → cond (max dx dy == 1) 1 0 + cond (y1 && x1) 1 0 ≡ hits y2 x0 x1 x2 + (hits y1 x0 x1 x2 + hits y0 x0 x1 x2)
 one_cell x0 x1 x2 y0 y1 y2 dx dy (inr (inr (inr (a, b, c, e)))) v = rw (a, b, c, far_off dx dy (omega arith)) (no_hits y0 y1 y2)
@@ -97,7 +97,7 @@ one_cell x0 x1 x2 y0 y1 y2 dx dy (inr (inr (inl (a, b, c, e)))) (inr (inr (inl (
 
 -- ---- the pattern
 
--- how often a list has a cell
+-- how often a cell occurs in a list
 abbrev pub times : List Cell → Cell → ℕ
 times [] c = 0
 times (d ∷ ds) c = cond (same_cell c d) 1 0 + times ds c
@@ -162,7 +162,7 @@ neighbourhood_total-cons d ds c = regroup _ _ _ _ _ _ _ _ _ _ _ _ _ _ _ _ _ _
 pub around-cons : (d : Cell) (ds : List Cell) (c : Cell) → around (d ∷ ds) c ≡ cond (king_distance c d == 1) 1 0 + around ds c
 around-cons d ds c = sum_by-cons (λ d. cond (king_distance c d == 1) 1 0) d ds
 
--- the live cells of the block are the neighbours and, where it is alive, the cell itself
+-- the live cells of the block are the live neighbours and, if it is alive, the cell itself
 pub neighbourhood_total-around : (S : List Cell) (c : Cell) → neighbourhood_total S c ≡ around S c + times S c
 neighbourhood_total-around [] c = refl
 neighbourhood_total-around (d ∷ ds) c =
@@ -196,7 +196,7 @@ times-neighbourhood d c =
     turned a1 a2 a3 a4 a5 a6 a7 a8 a9 b1 b2 b3 b4 b5 b6 b7 b8 b9 p1 p2 p3 p4 p5 p6 p7 p8 p9 =
         omega (arith, p1, p2, p3, p4, p5, p6, p7, p8, p9)
 
--- so a cell is listed by its live neighbours and, where it is alive, by itself
+-- a cell is listed once for each live neighbour, and once more if it is alive
 pub times-neighbourhoods : (S : List Cell) (c : Cell) → times (flat_map neighbourhood S) c ≡ around S c + times S c
 times-neighbourhoods [] c = refl
 times-neighbourhoods (d ∷ ds) c =
@@ -204,7 +204,7 @@ times-neighbourhoods (d ∷ ds) c =
     times-append (neighbourhood d) (flat_map neighbourhood ds) c in
     omega (arith, both, times-neighbourhood d c, times-neighbourhoods ds c, around-cons d ds c)
 
--- the neighbourhood, its nine cells each by one move
+-- the neighbourhood as nine cells, each given by a displacement
 pub nine_cells : (c : Cell) → neighbourhood c
     ≡ moved_by (negsuc 0) (negsuc 0) c ∷ moved_by (pos 0) (negsuc 0) c ∷ moved_by (pos 1) (negsuc 0) c ∷ moved_by (negsuc 0) (pos 0) c ∷ c
     ∷ moved_by (pos 1) (pos 0) c ∷ moved_by (negsuc 0) (pos 1) c ∷ moved_by (pos 0) (pos 1) c ∷ moved_by (pos 1) (pos 1) c ∷ []

@@ -1,4 +1,4 @@
--- Simple facts about the order of numbers, each with a name, so that a proof needs no search for them.
+-- Simple facts about the order of numbers, which have names so that a proof needn't search for them.
 use Rattle.std.proofs.Common.{◌≡◌, ◌≢◌, ◌+◌, ◌-◌, ◌*◌, ◌<◌, ◌≤◌, Fits, ℕ, arith, w64}
 
 pub below_too : (a b m : ℕ) → a < b → b ≤ m → a < m

@@ -47,11 +47,11 @@ has-map_alike f cs ds same c = both_true (has (map f cs) c) (has (map f ds) c) (
     over : (xs bs : List Cell) → ((e : Cell) → has xs e ≡ has bs e) → has (map f xs) c ≡ true → has (map f bs) c ≡ true
     over xs bs alike h = let d = has-map_from f xs c h in subst (λ (x : Cell). has (map f bs) x ≡ true) (sym d.2) (has-map f bs d.0 (sym (alike d.0) ∙ d.1))
 
--- sets of lists with the same members are one
+-- sets of lists with the same members are equal
 pub set_of-alike : (cs ds : List Cell) → ((c : Cell) → has cs c ≡ has ds c) → set_of cs ≡ set_of ds
 set_of-alike cs ds same = same_lists (set_of cs) (set_of ds) (in_order-set_of cs) (in_order-set_of ds) (λ c. has-set_of cs c ∙ same c ∙ sym (has-set_of ds c))
 
--- the image of a set is the set of the images
+-- the set of a set's image is the set of the list's image
 pub set_of-map : (f : Cell → Cell) (cs : List Cell) → set_of (map f (set_of cs)) ≡ set_of (map f cs)
 set_of-map f cs = set_of-alike (map f (set_of cs)) (map f cs) (has-map_alike f (set_of cs) cs (has-set_of cs))
 
@@ -84,7 +84,7 @@ mirror-cell Flip c = refl
 mirror-cell Diagonal c = refl
 mirror-cell AntiDiagonal c = λ i. cell_at (back c.y i) (neg_ℤ c.x)
 
--- two quarter turns more, and three
+-- two or three more quarter turns
 twice : (a : Orientation) (c : Cell) → turned_cell Quarter (turned_cell Quarter (turned_cell a c)) ≡ turned_cell (quarter_after (quarter_after a)) c
 twice a c = ap (turned_cell Quarter) (quarter-cell a c) ∙ quarter-cell (quarter_after a) c
 
@@ -92,7 +92,7 @@ thrice : (a : Orientation) (c : Cell)
     → turned_cell Quarter (turned_cell Quarter (turned_cell Quarter (turned_cell a c))) ≡ turned_cell (quarter_after (quarter_after (quarter_after a))) c
 thrice a c = ap (turned_cell Quarter) (twice a c) ∙ quarter-cell (quarter_after (quarter_after a)) c
 
--- where a cell goes that is turned twice
+-- turning a cell by a and then by b is turning it by their product
 pub product-cell : (a b : Orientation) (c : Cell) → turned_cell b (turned_cell a c) ≡ turned_cell (product a b) c
 product-cell a Same c = refl
 product-cell a Quarter c = quarter-cell a c
@@ -185,7 +185,7 @@ box_of-shifted dx dy (c ∷ cs) = ap (λ (b : Option Bounds). Some (grown (moved
 undone : (a v l : ℤ) → (a +ℤ v) +ℤ neg_ℤ (l +ℤ v) ≡ a +ℤ neg_ℤ l
 undone a v l = omega (arith, ints)
 
--- a moved pattern has the same corner
+-- a pattern and its translate are equal once they are moved to the corner
 pub at_corner-shifted : (dx dy : ℤ) (cs : List Cell) → at_corner (shifted dx dy cs) ≡ at_corner cs
 at_corner-shifted dx dy cs = ap (λ (b : Option Bounds). cornered b (shifted dx dy cs)) (box_of-shifted dx dy cs) ∙ go (box_of cs)
   where
@@ -197,7 +197,7 @@ at_corner-shifted dx dy cs = ap (λ (b : Option Bounds). cornered b (shifted dx 
 neg-sum : (a b : ℤ) → neg_ℤ (a +ℤ b) ≡ neg_ℤ a +ℤ neg_ℤ b
 neg-sum a b = omega (arith, ints)
 
--- turning a moved cell moves the turned one
+-- turning a moved cell gives the turned cell, moved by the turned displacement
 turned-moved : (o : Orientation) (dx dy : ℤ) (c : Cell)
     → turned_cell o (moved_by dx dy c) ≡ moved_by (turned_cell o (cell_at dx dy)).x (turned_cell o (cell_at dx dy)).y (turned_cell o c)
 turned-moved Same dx dy c = refl
@@ -213,7 +213,7 @@ maps-agree : (f g h k : Cell → Cell) → ((c : Cell) → f (g c) ≡ h (k c)) 
 maps-agree f g h k e [] = refl
 maps-agree f g h k e (c ∷ cs) = λ i. e c i ∷ maps-agree f g h k e cs i
 
--- the image of a moved pattern is the image, moved
+-- the image of a moved pattern is the image, moved by the turned displacement
 pub image-shifted : (o : Orientation) (dx dy : ℤ) (cs : List Cell)
     → image o (shifted dx dy cs) ≡ shifted (turned_cell o (cell_at dx dy)).x (turned_cell o (cell_at dx dy)).y (image o cs)
 unfolding image
@@ -222,7 +222,7 @@ image-shifted o dx dy cs =
     (turned_cell o) (turned-moved o dx dy) cs)
     ∙ set_of-moved (turned_cell o (cell_at dx dy)).x (turned_cell o (cell_at dx dy)).y (map (turned_cell o) cs)
 
--- the image of a pattern at the corner has the corner of the image
+-- a pattern has the same turned image if it is first moved to the corner
 turned-at_corner : (o : Orientation) (cs : List Cell) → turned o (at_corner cs) ≡ turned o cs
 unfolding turned
 turned-at_corner o [] = refl
@@ -238,7 +238,7 @@ turned-turned a b cs = turned-at_corner b (image a cs) ∙ ap at_corner (image-i
 pub turning_twice : TurningTwice
 turning_twice = turned-turned
 
--- the orientation that turns another back
+-- the inverse of each orientation
 pub turning_back : TurningBack
 turning_back Same = (Same, refl, refl)
 turning_back Quarter = (ThreeQuarter, refl, refl)

@@ -35,7 +35,7 @@ around-beside (d ∷ ds) c = go (king_distance c d == 1) refl (around-beside ds 
         let none : cond {A = ℕ} (king_distance c d == 1) 1 0 ≡ 0 = ap (λ (b : Bool). cond {A = ℕ} b 1 0) e in
         omega (arith, none, around-cons d ds c, ih)
 
--- two patterns are one as far as c sees
+-- two patterns agree in the neighbourhood of c
 abbrev pub Agree : Cell → List Cell → List Cell → Type 0
 Agree c S T = (d : Cell) → king_distance c d ≤ 1 → has S d ≡ has T d
 
@@ -64,7 +64,7 @@ lives-local rule S T c o u same =
 
 -- ---- near and far
 
--- no cell of the pattern is seen from c
+-- no cell of the pattern is in the neighbourhood of c
 abbrev pub IsFar : Cell → List Cell → Type 0
 IsFar c S = (d : Cell) → has S d ≡ true → 1 < king_distance c d
 
@@ -81,7 +81,7 @@ far_or_near c (d ∷ ds) = go (nat_lt 1 (king_distance c d)) refl (far_or_near c
       | inr more ↦ far e more
     ])
 
--- what isn't true is false
+-- a Boolean that isn't true is false
 pub false_unless : (b : Bool) → ¬ (b ≡ true) → b ≡ false
 false_unless true h = absurd (h refl)
 false_unless false h = refl
@@ -89,7 +89,7 @@ false_unless false h = refl
 pub far-has : (c : Cell) (S : List Cell) → IsFar c S → (d : Cell) → king_distance c d ≤ 1 → has S d ≡ false
 far-has c S far d near = false_unless (has S d) (λ h. let out = far d h in absurd (omega arith))
 
--- nothing is alive where nothing is seen
+-- a cell with no live cell in its neighbourhood is dead in the next generation
 pub far-lives : (rule : Numbers) (c : Cell) (S : List Cell) → IsFar c S → lives rule S c ≡ false
 far-lives rule c S far = false_unless (lives rule S c) (λ h. elim (lives_cases rule S c h) [
   | inl alive ↦ let out = far c alive in absurd (omega (arith, out, distance_itself c.x, distance_itself c.y))
@@ -113,7 +113,7 @@ turned c d = λ i. max (one c.x d.x i) (one c.y d.y i)
     one : (a b : ℤ) → distance a b ≡ distance b a
     one a b = omega (arith, ints)
 
--- a cell that lives after g generations is at most g from one that lived
+-- a cell that is alive after g generations is within king distance g of a cell that was alive at the start
 pub near-after : (rule : Numbers) (S : List Cell) (g : ℕ) (c : Cell) → has (after rule S g) c ≡ true
     → (d : Cell) × (has S d ≡ true) × (king_distance c d ≤ g)
 near-after rule S zero c e = (c, subst (λ (T : List Cell). has T c ≡ true) (after-none rule S) e, omega (arith, distance_itself c.x, distance_itself c.y))
@@ -131,11 +131,11 @@ near-after rule S (suc g) c e =
 
 -- ---- two parts
 
--- the cells of the one part and of the other
+-- the cells that don't pass the test
 abbrev pub others : (Cell → Bool) → Cell → Bool
 others test c = not (test c)
 
--- each cell is in one of them
+-- each cell of the pattern is in one of the two parts
 has-parts : (test : Cell → Bool) (S : List Cell) (c : Cell) → has S c ≡ (has (filter test S) c || has (filter (others test) S) c)
 has-parts test S c = both (has S c) (test c) ∙ sym (λ i. has-filter test S c i || has-filter (others test) S c i)
   where
@@ -144,7 +144,7 @@ has-parts test S c = both (has S c) (test c) ∙ sym (λ i. has-filter test S c 
     both true false = refl
     both false b = refl
 
--- Cells of two parts that are further apart than 2n don't see each other before generation n.
+-- Two parts that are further than 2n apart don't affect each other up to generation n.
 pub parts-after : (rule : Numbers) (S : List Cell) (test : Cell → Bool) (n g : ℕ) → InOrder S → AreApart (2 * n) test S → g ≤ n → (c : Cell)
     → has (after rule S g) c ≡ (has (after rule (filter test S) g) c || has (after rule (filter (others test) S) g) c)
 parts-after rule S test n zero o apart low c =
@@ -212,7 +212,7 @@ is_pattern-union S T p q = record {
 
 -- ---- two patterns that lie far apart
 
--- each is the part of both that passes the test of being one of the first's cells, or not
+-- the two patterns are parts of their union: the cells in the first pattern, and the other cells
 pub far_patterns : FarPatternsRunAlone
 far_patterns rule one other g o u far =
     same_lists (after rule both g) (set_of (after rule one g ++ after rule other g)) (in_order-after rule both g (in_order-set_of (one ++ other)))
@@ -257,7 +257,7 @@ far_patterns rule one other g o u far =
 
 -- ---- a run on a board
 
--- what a board showed, as a run of the pattern that was laid on it
+-- the pattern that a board shows after a run is the pattern that was laid on it, n generations later
 pub ran_on_board : {E : Type 0} (ran : Result (Option (List Cell)) E) (laid rule : Numbers) (T S : List Cell) (n : ℕ) → laid ≡ rule → T ≡ S
     → lies_within (plane_bound - n) S ≡ true → IfOk ran (λ shown. IfSome shown (λ later. later ≡ after laid T n))
     → IfOk ran (λ shown. IfSome shown (HasRun rule S n))
@@ -267,7 +267,7 @@ ran_on_board (Err e) laid rule T S n p q inside h = tt
 
 -- ---- a stretch of generations
 
--- the pattern some generations later, at most so many, of which none but the last may have a cell at the edge
+-- `later` is the pattern `count` generations later, at most `most`, and no earlier generation touches the edge
 pub record IsStretch (rule : Numbers) (cells : List Cell) (most count : ℕ) (later : List Cell) : Type 0 where
   pub some : 0 < count
   pub within : count ≤ most

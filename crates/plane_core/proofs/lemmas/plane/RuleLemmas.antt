@@ -1,10 +1,10 @@
--- Rules, their texts and what texts mean.
+-- Rules and their texts.
 use Rattle.std.proofs.Common.{◌≡◌, ◌<◌, ◌≤◌, ◌+◌, ℕ, suc, Bool, true, false, List, [], ◌∷◌, ◌++◌, length, drop, take}
 use Rattle.std.proofs.Common.{◌-◌, ◌⊎◌, inl, inr, zero, refl, slice_get, unwrap_or, get_or, sym, ◌∙◌, ap, arith, drop-cons, add-one, set, append_assoc, append-nil}
 use Rattle.std.proofs.lemmas.List.{take_more_set, drop_all}
 use Rattle.plane_core.specs.plane.Rules.{Numbers, digits, is_birth, is_survival}
 
--- the digits from place i on begin with that of the number there, if it is one
+-- the digits from place i on begin with the digit of place i, if its answer is true
 pub digits-drop-true : (n i : ℕ) (logic : List Bool) → i < length logic → get_or logic i false ≡ true
     → digits (n + i) (drop i logic) ≡ (48 + n + i) ∷ digits (n + (i + 1)) (drop (i + 1) logic)
 unfolding digits
@@ -19,7 +19,7 @@ unfolding digits
 digits-drop-false n i logic h e =
     rw (add-one i, drop-cons logic i false, e) (ap (λ (k : ℕ). digits k (drop (suc i) logic)) (omega arith))
 
--- one more digit joins those in front of the place
+-- one more digit is moved to the prefix
 pub digits-prefix-true : (n i : ℕ) (logic : List Bool) (prefix text : List ℕ) → i < length logic → get_or logic i false ≡ true
     → text ≡ prefix ++ digits (n + i) (drop i logic)
     → text ≡ (prefix ++ (48 + n + i) ∷ []) ++ digits (n + (i + 1)) (drop (i + 1) logic)
@@ -31,17 +31,17 @@ pub digits-prefix-false : (n i : ℕ) (logic : List Bool) (prefix text : List �
     → text ≡ prefix ++ digits (n + i) (drop i logic) → text ≡ prefix ++ digits (n + (i + 1)) (drop (i + 1) logic)
 digits-prefix-false n i logic prefix text h e p = p ∙ ap (λ (xs : List ℕ). prefix ++ xs) (digits-drop-false n i logic h e)
 
--- before the first place there is the letter
+-- before the first place, the prefix is the letter
 pub digits-prefix-start : (n letter : ℕ) (logic : List Bool) → letter ∷ digits n logic ≡ (letter ∷ []) ++ digits (n + 0) (drop 0 logic)
 digits-prefix-start n letter logic = ap (λ (k : ℕ). letter ∷ digits k logic) (omega arith)
 
--- past the last place nothing is left
+-- past the last place, no digits are left
 pub digits-prefix-end : (n i : ℕ) (logic : List Bool) (prefix text : List ℕ) → length logic ≤ i
     → text ≡ prefix ++ digits (n + i) (drop i logic) → text ≡ prefix
 unfolding digits
 digits-prefix-end n i logic prefix text h p = p ∙ ap (λ (xs : List Bool). prefix ++ digits (n + i) xs) (drop_all i logic h) ∙ append-nil prefix
 
--- one digit more at the end of what was put
+-- one more digit is put at the end of the text
 pub digits-put : (n i end : ℕ) (logic : List Bool) (text whole : List ℕ) → i < length logic → get_or logic i false ≡ true
     → end < length text → whole ≡ take end text ++ digits (n + i) (drop i logic)
     → whole ≡ take (end + 1) (set text end (48 + n + i)) ++ digits (n + (i + 1)) (drop (i + 1) logic)
@@ -49,7 +49,7 @@ digits-put n i end logic text whole h e low p =
     digits-prefix-true n i logic (take end text) whole h e p
     ∙ ap (λ (prefix : List ℕ). prefix ++ digits (n + (i + 1)) (drop (i + 1) logic)) (sym (take_more_set text end (48 + n + i) low))
 
--- before the first digit there is the letter
+-- before the first digit, the letter is put
 pub digits-begun : (n place letter : ℕ) (logic : List Bool) (text : List ℕ) → place < length text
     → take place text ++ letter ∷ digits n logic ≡ take (place + 1) (set text place letter) ++ digits (n + 0) (drop 0 logic)
 digits-begun n place letter logic text low =

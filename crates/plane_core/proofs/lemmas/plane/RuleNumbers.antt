@@ -6,17 +6,17 @@ use Rattle.std.proofs.lemmas.Grind.{take_at_read}
 use Rattle.std.proofs.Math.Seq.{take-length}
 use Rattle.plane_core.specs.plane.Rules.{Reading, with_answer, numbers_at, begins}
 
--- answers in front of those read
+-- the reading with more answers in front
 abbrev pub in_prefix : List Bool → Reading → Reading
 in_prefix prefix read = record { logic = prefix ++ read.logic; remainder = read.remainder }
 
--- the next digit stands there
+-- the digit comes next in the text
 pub numbers_at-hit : (more n : ℕ) (text : List ℕ) → begins text ((48 + n) ∷ []) ≡ true
     → numbers_at (suc more) n text ≡ with_answer true (numbers_at more (n + 1) (drop 1 text))
 unfolding numbers_at
 numbers_at-hit more n text h = rw h refl
 
--- it doesn't
+-- the digit doesn't come next in the text
 pub numbers_at-miss : (more n : ℕ) (text : List ℕ) → begins text ((48 + n) ∷ []) ≡ false
     → numbers_at (suc more) n text ≡ with_answer false (numbers_at more (n + 1) text)
 unfolding numbers_at
@@ -31,7 +31,7 @@ pub in_prefix-with_answer : (prefix : List Bool) (next_cells : Bool) (read : Rea
 in_prefix-with_answer prefix next_cells read =
     ap (λ (xs : List Bool). let r : Reading = record { logic = xs; remainder = read.remainder } in r) (sym (append_assoc prefix (next_cells ∷ []) read.logic))
 
--- the loop has come to place i: the answers before it are read, those from it on are still false
+-- the loop is at place i: the answers before it are read, and all others are still false
 pub record ReadUpTo (count n : ℕ) (text : List ℕ) (i : ℕ) (logic : List Bool) (remainder : List ℕ) : Type 0 where
   pub whole : in_prefix (take i logic) (numbers_at (count - i) (n + i) remainder) ≡ numbers_at count n text
   pub clear : (k : ℕ) → i ≤ k → k < count → get_or logic k false ≡ false
@@ -77,7 +77,7 @@ ReadUpTo_miss count n text i logic remainder h e up =
       sized = len;
     }
 
--- past the last place all is read
+-- after the last place, all answers are read
 pub ReadUpTo_done : (count n : ℕ) (text : List ℕ) (i : ℕ) (logic : List Bool) (remainder : List ℕ) → count ≤ i → i ≤ count → ReadUpTo count n text i logic remainder
     → numbers_at count n text ≡ record { logic = logic; remainder = remainder }
 ReadUpTo_done count n text i logic remainder h k up =

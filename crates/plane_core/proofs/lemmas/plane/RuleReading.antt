@@ -1,4 +1,4 @@
--- Reading a rule: a text that is read is the text of the rule, the text of each rule is read, and a fault is the first.
+-- Reading a rule: each text that is read is its rule's text, each rule's text is read, and a fault is the leftmost.
 use Rattle.std.proofs.Common.{◌≡◌, ◌≢◌, ◌<◌, ◌≤◌, ◌+◌, ◌-◌, ◌==◌, ℕ, zero, suc, Bool, true, false, List, [], ◌∷◌, ◌++◌, length, take, drop, refl}
 use Rattle.std.proofs.Common.{sym, ◌∙◌, ap, subst, arith, append_assoc, append-nil, length-append, length-drop, codes, Result, Ok, Err, IfOk, IsTrue, ◌↔◌}
 use Rattle.std.proofs.lemmas.List.{take_at}
@@ -12,7 +12,7 @@ use Rattle.plane_core.specs.plane.Rules.{Numbers, IsRule, BeginsRule, IsFirstFau
 use Rattle.plane_core.proofs.lemmas.OutputLemmas.{take-drop-remainder}
 use Rattle.plane_core.proofs.lemmas.plane.RuleNumbers.{numbers_at-hit, numbers_at-miss}
 
--- a text that begins with a byte is that byte and what is after it
+-- a text that begins with a byte is that byte followed by the rest
 pub begins-true : (text : List ℕ) (d : ℕ) → begins text (d ∷ []) ≡ true → text ≡ d ∷ drop 1 text
 begins-true text d h = (starts_is Decides-eqb text (d ∷ []) (begins text (d ∷ [])) refl).0 h
 
@@ -27,7 +27,7 @@ pub begins-same_prefix : (prefix : List ℕ) (c d : ℕ) (x y : List ℕ) → be
 begins-same_prefix [] c d x y = refl
 begins-same_prefix (b ∷ prefix) c d x y = refl
 
--- the next digit stands there or it doesn't
+-- the next digit is at the front of the text, or it isn't
 pub numbers_at-cases : (P : Reading → Type 0) (k n : ℕ) (text : List ℕ)
     → (begins text ((48 + n) ∷ []) ≡ true → P (with_answer true (numbers_at k (n + 1) (drop 1 text))))
     → (begins text ((48 + n) ∷ []) ≡ false → P (with_answer false (numbers_at k (n + 1) text)))
@@ -37,7 +37,7 @@ numbers_at-cases P k n text hit miss = go (begins text ((48 + n) ∷ [])) refl w
   go true h = subst P (sym (numbers_at-hit k n text h)) (hit h)
   go false h = subst P (sym (numbers_at-miss k n text h)) (miss h)
 
--- what is read is spelled so
+-- the digits of the numbers that are read, followed by the remainder, are the text
 pub digits-numbers_at : (k n : ℕ) (text : List ℕ) → digits n (numbers_at k n text).logic ++ (numbers_at k n text).remainder ≡ text
 unfolding digits numbers_at
 digits-numbers_at zero n text = refl
@@ -53,7 +53,7 @@ length-numbers_at (suc k) n text =
     numbers_at-cases (λ read. length read.logic ≡ suc k) k n text
     (λ h. ap (λ (m : ℕ). suc m) (length-numbers_at k (n + 1) (drop 1 text))) (λ h. ap (λ (m : ℕ). suc m) (length-numbers_at k (n + 1) text))
 
--- How far numbers are read depends on nothing past the first byte after them.
+-- How far numbers are read doesn't depend on the text after the first byte of the remainder.
 pub numbers_at-other_remainder : (k n : ℕ) (text : List ℕ) (c : ℕ) (cs more : List ℕ) → (numbers_at k n text).remainder ≡ c ∷ cs
     → numbers_at k n (digits n (numbers_at k n text).logic ++ c ∷ more) ≡ record { logic = (numbers_at k n text).logic; remainder = c ∷ more }
 unfolding digits numbers_at
@@ -73,7 +73,7 @@ numbers_at-other_remainder (suc k) n text c cs more =
     begins-same_prefix prefix c (48 + n) more cs ∙ ap (λ (xs : List ℕ). begins xs ((48 + n) ∷ [])) whole ∙ h in
     numbers_at-miss k n (prefix ++ c ∷ more) miss ∙ ap (λ (r : Reading). with_answer false r) (numbers_at-other_remainder k (n + 1) text c cs more remainder))
 
--- no digit stands at the prefix of the text
+-- the text doesn't begin with a digit
 pub record IsPastDigits (remainder : List ℕ) : Type 0 where
   pub past : (n : ℕ) → n < 10 → begins remainder ((48 + n) ∷ []) ≡ false
 
@@ -83,7 +83,7 @@ IsPastDigits-nil = record { past = λ n h. refl }
 pub IsPastDigits-s : (more : List ℕ) → IsPastDigits (115 ∷ more)
 IsPastDigits-s more = record { past = λ n h. let ne : 115 ≢ 48 + n = omega arith in begins-other 115 (48 + n) more ne }
 
--- where digits of greater numbers follow, a number's own doesn't
+-- if only digits of greater numbers follow, the number's own digit doesn't come next
 pub begins-digits : (n m : ℕ) (logic : List Bool) (remainder : List ℕ) → n < m → n < 10 → IsPastDigits remainder
     → begins (digits m logic ++ remainder) ((48 + n) ∷ []) ≡ false
 unfolding digits
@@ -92,7 +92,7 @@ begins-digits n m (true ∷ logic) remainder h small past = let ne : 48 + m ≢ 
     omega arith in begins-other (48 + m) (48 + n) (digits (m + 1) logic ++ remainder) ne
 begins-digits n m (false ∷ logic) remainder h small past = begins-digits n (m + 1) logic remainder (omega arith) small past
 
--- what is spelled so is read, whatever follows that is no digit
+-- the digits of a table are read as that table, if no digit follows them
 pub numbers_at-digits : (k n : ℕ) (logic : List Bool) (remainder : List ℕ) → length logic ≡ k → k + n ≤ 10 → IsPastDigits remainder
     → numbers_at k n (digits n logic ++ remainder) ≡ record { logic = logic; remainder = remainder }
 unfolding digits numbers_at
@@ -143,11 +143,11 @@ pub rule_read-all : (text : List ℕ) → begins text (codes "b") ≡ true → b
 unfolding rule_read
 rule_read-all text b no_zero s end = rw (b, no_zero, s, end) refl
 
--- a reading of a slice from place 1 on
+-- numbers are read from a slice as from the text without its first byte
 pub sliced : (k n : ℕ) (text : List ℕ) → numbers_at k n (take (length text - 1) (drop 1 text)) ≡ numbers_at k n (drop 1 text)
 sliced k n text = ap (numbers_at k n) (take-drop-remainder 1 text)
 
--- the same as the code comes to them, by slices
+-- the births and survivals, read from slices as the code reads them
 pub births_sliced : (text remainder : List ℕ) → remainder ≡ (numbers_at 8 1 (take (length text - 1) (drop 1 text))).remainder → remainder ≡ (births_in text).remainder
 births_sliced text remainder e = e ∙ ap (λ (r : Reading). r.remainder) (sliced 8 1 text)
 
@@ -160,7 +160,7 @@ length-births text = omega (arith, length-remainder 8 1 (drop 1 text), length-dr
 pub length-survivals : (text : List ℕ) → length (survivals_in text).remainder ≤ length text
 length-survivals text = omega (arith, length-births text, length-remainder 9 0 (drop 1 (births_in text).remainder), length-drop 1 (births_in text).remainder)
 
--- what an outcome of a reading says of the text
+-- what the outcome of a reading implies for the text
 abbrev pub Says : List ℕ → Result Numbers RuleFault → Type 0
 Says text (Ok rule) = IsRule rule × (rule_text rule ≡ text)
 Says text (Err (BadRule place)) = IsFirstFault text place × (begins text (codes "b0") ≡ false)
@@ -189,7 +189,7 @@ rule_read-rule_text rule whole =
     let end : (length (survivals_in text).remainder == 0) ≡ true = ap (λ (r : Reading). length r.remainder == 0) survivals in
     rule_read-all text (begins-same 98 (digits 1 rule.births ++ 115 ∷ after_s)) no_zero s end ∙ rw (survivals, births) refl
 
--- Where the front begins a rule's text and no longer front does, the first fault is after it.
+-- If a prefix begins a rule's text and the prefix with one more byte doesn't, the first fault is after the prefix.
 pub IsFirstFault-after : (prefix remainder : List ℕ) → BeginsRule prefix → ((c : ℕ) (cs : List ℕ) → remainder ≡ c ∷ cs → BeginsRule (prefix ++ c ∷ []) → ⊥)
     → IsFirstFault (prefix ++ remainder) (length (prefix ++ remainder) - length remainder)
 IsFirstFault-after prefix [] begun stops =
@@ -213,7 +213,7 @@ IsFirstFault-after prefix (c ∷ cs) begun stops =
       there = λ less further. stops c cs refl (subst P longer further);
     }
 
--- no more numbers than none
+-- the table of a rule without survivals
 abbrev pub no_survivals : List Bool
 no_survivals = false ∷ false ∷ false ∷ false ∷ false ∷ false ∷ false ∷ false ∷ false ∷ []
 
@@ -235,7 +235,7 @@ BeginsRule-births births len =
 pub BeginsRule-rule_text : (rule : Numbers) → IsRule rule → BeginsRule (rule_text rule)
 BeginsRule-rule_text rule whole = record { rule = rule; remainder = []; is_rule = whole; spelled = sym (append-nil (rule_text rule)) }
 
--- what stands after the births' digits in a rule's text that has a front in common with the text
+-- what follows the births' digits in a rule's text that shares a prefix with the text
 pub births-shared : (text : List ℕ) (c : ℕ) (cs more : List ℕ) (rule : Numbers) → IsRule rule → (births_in text).remainder ≡ c ∷ cs
     → rule_text rule ≡ 98 ∷ (digits 1 (births_in text).logic ++ c ∷ more) → 115 ∷ digits 0 rule.survivals ≡ c ∷ more
 unfolding rule_text
@@ -246,7 +246,7 @@ births-shared text c cs more rule whole remainder spelled =
     (sym (numbers_at-digits 8 1 rule.births after_s whole.births (omega arith) (IsPastDigits-s (digits 0 rule.survivals)))
     ∙ ap (numbers_at 8 1) same ∙ numbers_at-other_remainder 8 1 (drop 1 text) c cs more remainder)
 
--- the same after the survivals' digits, where a rule's text has nothing
+-- nothing follows the survivals' digits in a rule's text
 pub survivals-shared : (text : List ℕ) (c : ℕ) (cs more : List ℕ) (rule : Numbers) → IsRule rule → (survivals_in text).remainder ≡ c ∷ cs
     → digits 0 rule.survivals ≡ digits 0 (survivals_in text).logic ++ c ∷ more → [] ≡ c ∷ more
 survivals-shared text c cs more rule whole remainder same =
@@ -301,7 +301,7 @@ Says_no_s text b no_zero no_s =
       no_zero,
     )
 
--- the text up to the end of the survivals' digits is a rule's
+-- the rule whose text is the text up to the end of the survivals' digits
 abbrev pub rule_in : List ℕ → Numbers
 rule_in text = record { births = (births_in text).logic; survivals = (survivals_in text).logic }
 
@@ -358,7 +358,7 @@ Says_all text b s end =
     empty [] h = refl
     empty (x ∷ xs) h = grind (arith, nat_tests)
 
--- every outcome says what it should
+-- every outcome implies what it should
 pub Says_rule_read : (text : List ℕ) → Says text (rule_read text)
 Says_rule_read text =
     go (begins text (codes "b")) (begins text (codes "b0")) (begins (births_in text).remainder (codes "s")) (length (survivals_in text).remainder == 0) refl

@@ -17,7 +17,7 @@ use Rattle.plane_core.specs.plane.Cells.{cell_cmp, same_cell, has, InOrder, IsPa
 use Rattle.plane_core.proofs.lemmas.plane.CellLemmas.{cell_cmp_total, cell_cmp-same, same_cell-same}
 use Rattle.plane_core.proofs.lemmas.plane.SetLemmas.{Contains-has, has-Contains, has-head, has-cases, in_order-set_of, has-set_of, is_set_of, same_members}
 
--- a list in order is in order by the test that a search makes
+-- an ordered list is sorted by the comparison that a search uses
 in_order-sorted : (S : List Cell) → InOrder S → IsSortedBy (λ a b. is_lt (cell_cmp a b)) S
 in_order-sorted S o k d low high =
     go (cell_cmp (get_or S (k + 1) d) (get_or S k d)) (sym (Less-from_sorted cell_cmp S k (k + 1) d o (omega arith) high)
@@ -28,7 +28,7 @@ in_order-sorted S o k d low high =
     go Equal e = refl
     go Greater e = refl
 
--- what a search in a list in order finds is whether the cell is a member
+-- a search in an ordered list succeeds exactly if the cell is a member
 pub searched-has : (S : List Cell) (c : Cell) (r : Result ℕ ℕ) → InOrder S → IsSearchInRange r (length S)
     → IsBinarySearchResult (λ d. cell_cmp d c) S r → is_ok r ≡ has S c
 searched-has S c (Ok i) o low found = sym (Contains-has S c (i, low, cell_cmp-same (get_or S i c) c (found c)))
@@ -48,7 +48,7 @@ searched-has S c (Err i) o low found = elim (cases_Bool (has S c)) [ inl found_i
           | inr later ↦ not_greater (ap (λ d. cell_cmp d c) (sym h.2) ∙ apart.1 h.0 c later h.1)
         ]
 
--- where no cell fails a test, all pass it
+-- if no cell fails a test, all cells pass it
 pub position-none : (p : Cell → Bool) (cs : List Cell) → position (λ c. not (p c)) cs ≡ None → list_all p cs ≡ true
 position-none p cs e = reached p cs (whole (nat_lt (prefix_len (λ c. not (not (p c))) cs) (length cs)) refl e)
   where
@@ -66,7 +66,7 @@ position-none p cs e = reached p cs (whole (nat_lt (prefix_len (λ c. not (not (
         head true h ih = ih (omega arith)
         head false h ih = absurd (omega arith)
 
--- a test that all cells pass, as a fact of the members
+-- each member of a list passes a test that all its cells pass
 pub list_all-has : (p : Cell → Bool) (cs : List Cell) → list_all p cs ≡ true → (c : Cell) → has cs c ≡ true → p c ≡ true
 list_all-has p [] all c e = absurd (false≢true e)
 list_all-has p (d ∷ ds) all c e =
@@ -91,7 +91,7 @@ is_pattern-set_of cs none = record {
   on_plane = has-list_all on_plane (set_of cs) (λ c e. list_all-has on_plane cs (position-none on_plane cs none) c (sym (has-set_of cs c) ∙ e));
 }
 
--- sorted and freed of doubles, a list is the set of its cells
+-- a list that is sorted and without duplicates is the set of its cells
 pub deduped-set_of : (same : Cell → Cell → Bool) (cs ds : List Cell) → ((a b : Cell) → same a b ≡ same_cell a b) → IsPermutation cs ds
     → IsSorted cell_cmp ds → dedup same ds ≡ set_of cs
 deduped-set_of same cs ds is moved sorted =
@@ -107,7 +107,7 @@ deduped-set_of same cs ds is moved sorted =
     equal_cells : IsEquivalence same_cell
     equal_cells = eq_by_cmp_equiv cell_cmp_total
 
--- the first cell that passes a test, of those from a place on
+-- the search from place i ends at i if the cell there passes the test, and otherwise goes on
 pub position-here : (p : Cell → Bool) (cs : List Cell) (i : ℕ) (d : Cell) → i < length cs → p (get_or cs i d) ≡ true
     → position_from p i (drop i cs) ≡ Some i
 position-here p cs i d low passes =

@@ -34,19 +34,19 @@ pub in_order-nil : InOrder []
 unfolding IsStrictlySortedBy
 in_order-nil = tt
 
--- what comes before c comes before the cells after c
+-- a cell that comes before c comes before the cells after c
 pub before-trans : (b c : Cell) (ds : List Cell) → cell_cmp b c ≡ Less → IsBefore c ds → IsBefore b ds
 before-trans b c [] e h = tt
 before-trans b c (d ∷ ds) e h = (cell_cmp_total.trans b c d e h.0, before-trans b c ds e h.1)
 
--- a cell of a longer list is its head or stands after it
+-- a cell of a nonempty list is its head or in its tail
 pub has-cases : (d : Cell) (ds : List Cell) (c : Cell) → has (d ∷ ds) c ≡ true → (c ≡ d) ⊎ (has ds c ≡ true)
 has-cases d ds c e = elim (or_cases (same_cell c d) (has ds c) e) [ inl s ↦ inl (same_cell-same c d s) | inr s ↦ inr s ]
 
 pub has-head : (d : Cell) (ds : List Cell) → has (d ∷ ds) d ≡ true
 has-head d ds = rw (same_cell-itself d) refl
 
--- what holds of each cell of a list holds of a cell that the list has
+-- a property of all cells of a list holds for each member
 pub has-all : (P : Cell → Type 0) (cs : List Cell) (c : Cell) → AllByRecursion P cs → has cs c ≡ true → P c
 has-all P [] c all e = absurd (false≢true e)
 has-all P (d ∷ ds) c all e =
@@ -56,18 +56,18 @@ pub or_right : (a b : Bool) → b ≡ true → (a || b) ≡ true
 or_right true b e = refl
 or_right false b e = e
 
--- and of each cell where it holds of all that the list has
+-- a property of each member of a list holds for all its cells
 pub all-has : (P : Cell → Type 0) (cs : List Cell) → ((c : Cell) → has cs c ≡ true → P c) → AllByRecursion P cs
 all-has P [] h = tt
 all-has P (d ∷ ds) h =
     (h d (has-head d ds), all-has P ds (λ c e. h c (or_right (same_cell c d) (has ds c) e)))
 
--- a cell before a list is none of it
+-- a cell before all cells of a list isn't a member
 pub has-before : (c : Cell) (ds : List Cell) → IsBefore c ds → has ds c ≡ false
 has-before c [] h = refl
 has-before c (d ∷ ds) h = rw (h.0, has-before c ds h.1) refl
 
--- two lists in order with the same members are one
+-- two ordered lists with the same members are equal
 pub same_lists : (S T : List Cell) → InOrder S → InOrder T → ((c : Cell) → has S c ≡ has T c) → S ≡ T
 same_lists [] [] o p h = refl
 same_lists [] (t ∷ ts) o p h = absurd (false≢true (h t ∙ has-head t ts))
@@ -110,7 +110,7 @@ or_assoc : (a b c : Bool) → ((a || b) || c) ≡ (a || (b || c))
 or_assoc true b c = refl
 or_assoc false b c = refl
 
--- which cells a list with c put into it has
+-- the members of a list after c is inserted
 pub has-put : (c : Cell) (ds : List Cell) (x : Cell) → has (put c ds) x ≡ (same_cell x c || has ds x)
 has-put c [] x = refl
 has-put c (d ∷ ds) x = go (cell_cmp c d) refl (has-put c ds x)
@@ -166,7 +166,7 @@ has-append (c ∷ cs) ds x = ap (λ b. same_cell x c || b) (has-append cs ds x) 
 pub in_order-filter : (p : Cell → Bool) (cs : List Cell) → InOrder cs → InOrder (filter p cs)
 in_order-filter p cs o = IsStrictlySortedBy-filter cell_cmp p cs o
 
--- which cells a filter keeps
+-- the members of a filtered list
 pub has-filter : (p : Cell → Bool) (cs : List Cell) (x : Cell) → has (filter p cs) x ≡ (has cs x && p x)
 has-filter p [] x = refl
 has-filter p (c ∷ cs) x = go (p c) refl (has-filter p cs x)

@@ -14,7 +14,7 @@ use Rattle.plane_core.proofs.lemmas.plane.GenerationLemmas.{a_neighbour, after-n
 use Rattle.plane_core.proofs.lemmas.plane.SearchLemmas.{list_all-has, has-list_all}
 use Rattle.plane_core.proofs.lemmas.plane.SetLemmas.{all-has, has-all}
 
--- a neighbour lies at most one further out
+-- a neighbour of a cell is at most one further from the origin
 within-beside : (n : ℕ) (c d : Cell) → king_distance c d ≤ 1 → is_within n d ≡ true → is_within (n + 1) c ≡ true
 within-beside n c d near h =
     let parts = and_parts (leb (unsigned_abs d.x) n) (leb (unsigned_abs d.y) n) h in
@@ -47,7 +47,7 @@ within-after rule S n (suc g) h =
 pub speed_from_origin : SpeedFromOrigin
 speed_from_origin = within-after
 
--- a neighbour of a cell in a box lies in the box with one column and row more on each side
+-- a neighbour of a cell in a box is in the box with one more column and row on each side
 boxed-beside : (b : Bounds) (g : ℕ) (c d : Cell) → king_distance c d ≤ 1 → IsWithin (enlarged g b) d → IsWithin (enlarged (suc g) b) c
 boxed-beside b g c d near h = record {
   left = low b.left d.x c.x (omega arith) h.left;
@@ -96,14 +96,14 @@ off_edge c n low h =
     let y : unsigned_abs c.y ≤ n = leb-true (unsigned_abs c.y) n parts.1 in
     rw (ne_eqb (unsigned_abs c.x) plane_bound (λ e. absurd (omega arith)), ne_eqb (unsigned_abs c.y) plane_bound (λ e. absurd (omega arith))) refl
 
--- a pattern that lies inside the edge doesn't touch it
+-- a pattern that is inside the edge doesn't touch it
 pub inside_edge : (S : List Cell) (n : ℕ) → n < plane_bound → lies_within n S ≡ true → touches_edge S ≡ false
 inside_edge [] n low h = refl
 inside_edge (c ∷ cs) n low h =
     let parts = and_parts (is_within n c) (lies_within n cs) h in
     rw (off_edge c n low parts.0, inside_edge cs n low parts.1) refl
 
--- a run stays off the edge as long as a pattern that far in must
+-- a run stays off the edge if the pattern starts far enough from it
 pub run_inside : (rule : Numbers) (S : List Cell) (reach g n : ℕ) → lies_within reach S ≡ true → reach + n ≤ plane_bound → g < n
     → touches_edge (after rule S g) ≡ false
 run_inside rule S reach g n h far low = inside_edge (after rule S g) (reach + g) (omega arith) (within-after rule S reach g h)

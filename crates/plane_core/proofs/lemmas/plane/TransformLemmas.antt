@@ -17,20 +17,20 @@ use Rattle.plane_core.proofs.lemmas.plane.NeighbourhoodLemmas.{int_eq-same, int_
 use Rattle.plane_core.proofs.lemmas.plane.CellLemmas.{cell_cmp-moved}
 use Rattle.plane_core.proofs.lemmas.plane.SetLemmas.{IsBefore, in_order-head, in_order-tail, in_order-cons, in_order-nil}
 
--- a test that all cells pass, at one of them
+-- the cell at a place passes a test that all cells pass
 pub all_at : (p : Cell → Bool) (cs : List Cell) (i : ℕ) (d : Cell) → i < length cs → list_all p cs ≡ true → p (get_or cs i d) ≡ true
 all_at p [] i d low h = absurd (omega arith)
 all_at p (c ∷ cs) zero d low h = (and_parts (p c) (list_all p cs) h).0
 all_at p (c ∷ cs) (suc i) d low h = all_at p cs i d (omega arith) (and_parts (p c) (list_all p cs) h).1
 
--- a test that all images pass, at one of them
+-- the image of the cell at a place passes a test that all images pass
 pub all_images_at : (p : Cell → Bool) (f : Cell → Cell) (cs : List Cell) (i : ℕ) (d : Cell) → i < length cs → list_all p (map f cs) ≡ true
     → p (f (get_or cs i d)) ≡ true
 all_images_at p f [] i d low h = absurd (omega arith)
 all_images_at p f (c ∷ cs) zero d low h = (and_parts (p (f c)) (list_all p (map f cs)) h).0
 all_images_at p f (c ∷ cs) (suc i) d low h = all_images_at p f cs i d (omega arith) (and_parts (p (f c)) (list_all p (map f cs)) h).1
 
--- where one image fails, not all pass
+-- if one image fails a test, not all images pass
 pub one_image_fails : (p : Cell → Bool) (f : Cell → Cell) (cs : List Cell) (i : ℕ) (d : Cell) → i < length cs → p (f (get_or cs i d)) ≡ false
     → false ≡ list_all p (map f cs)
 one_image_fails p f cs i d low h = go (list_all p (map f cs)) refl
@@ -61,7 +61,7 @@ step_on a b d e = omega (arith, ints)
 step_of : (a b d : ℤ) → a +ℤ d ≡ b → (b -ℤ a) ≡ d
 step_of a b d e = omega (arith, ints)
 
--- a loop's step: the next cell is as far from the next other
+-- a loop's step: the next two cells are also (dx, dy) apart
 pub stepped_more : (dx dy : ℤ) (cs ds : List Cell) (i : ℕ) (z : Cell) (s : ℤ × ℤ) → i < length cs → length cs ≡ length ds
     → shifted dx dy (take i cs) ≡ take i ds
     → s ≡ ((get_or ds i z).x -ℤ (get_or cs i z).x, (get_or ds i z).y -ℤ (get_or cs i z).y) → not (int_eq s.0 dx && int_eq s.1 dy) ≡ false
@@ -76,7 +76,7 @@ stepped_more dx dy cs ds i z s low same so_far is ne =
     ap (shifted dx dy) (take_more cs i z low) ∙ map-append (moved_by dx dy) (take i cs) (get_or cs i z ∷ [])
     ∙ (λ k. so_far k ++ there k ∷ []) ∙ sym (take_more ds i z low_too)
 
--- where a cell isn't as far from the other, the lists aren't that far apart
+-- if two cells aren't (dx, dy) apart, the lists aren't shifted by (dx, dy)
 pub stepped_not : (dx dy : ℤ) (cs ds : List Cell) (i : ℕ) (z : Cell) (s : ℤ × ℤ) → i < length cs → shifted dx dy cs ≡ ds
     → s ≡ ((get_or ds i z).x -ℤ (get_or cs i z).x, (get_or ds i z).y -ℤ (get_or cs i z).y) → not (int_eq s.0 dx && int_eq s.1 dy) ≡ true → ⊥
 stepped_not dx dy cs ds i z s low same is ne =
@@ -93,7 +93,7 @@ shift_is_step dx dy c cs d ds e =
     let first : moved_by dx dy c ≡ d = cc in
     λ k. (step_of c.x d.x dx (ap (λ (a : Cell). a.x) first) k, step_of c.y d.y dy (ap (λ (a : Cell). a.y) first) k)
 
--- the step between the first cells is the answer if it is that between all
+-- the step between the first cells is the answer if it shifts the whole list
 pub finds_shift : (S T : List Cell) (z : Cell) (s : ℤ × ℤ) (b : Bool) → 1 ≤ length S → length S ≡ length T
     → s ≡ ((get_or T 0 z).x -ℤ (get_or S 0 z).x, (get_or T 0 z).y -ℤ (get_or S 0 z).y)
     → (IsTrue b ↔ (shifted s.0 s.1 S ≡ T)) → FindsShift S T (then_some b s)
@@ -118,7 +118,7 @@ finds_shift (c ∷ cs) (d ∷ ds) z s false some same is iff = record {
         let whole : shifted s.0 s.1 (c ∷ cs) ≡ d ∷ ds = subst (λ (t : ℤ × ℤ). shifted t.0 t.1 (c ∷ cs) ≡ d ∷ ds) (sym step) e in
         false≢true (iff.1 whole)
 
--- one image more that passes a test
+-- one more image passes a test
 pub one_image_passes : (p : Cell → Bool) (f : Cell → Cell) (cs : List Cell) (i : ℕ) (d : Cell) → i < length cs
     → list_all p (map f (take i cs)) ≡ true → p (f (get_or cs i d)) ≡ true → list_all p (map f (take (i + 1) cs)) ≡ true
 one_image_passes p f cs i d low so_far passes =
@@ -139,7 +139,7 @@ clamped_same : (z : ℤ) → leb (unsigned_abs (saturate_to_bits 31 z)) plane_bo
 clamped_same (pos n) h = let low = leb-true (min n 2147483647) plane_bound h in ap pos (omega arith)
 clamped_same (negsuc n) h = let low = leb-true (suc (min n 2147483647)) plane_bound h in ap negsuc (omega arith)
 
--- a cell so moved is off the plane exactly if it lands there, and else it is where it lands
+-- if the sums are clamped to 32 bits, a moved cell is still on the plane exactly if the exact one is
 pub lands_plane : (dx dy : ℤ) (c d : Cell) → d.x ≡ saturate_to_bits 31 (c.x +ℤ dx) → d.y ≡ saturate_to_bits 31 (c.y +ℤ dy)
     → on_plane d ≡ on_plane (moved_by dx dy c)
 unfolding on_plane
@@ -158,14 +158,14 @@ lands_there dx dy c d across down on =
 
 -- ---- a list whose cells are changed one after another
 
--- the next cell is as it was
+-- the next cell is still unchanged
 pub as_it_was : (f : Cell → Cell) (cs now : List Cell) (i : ℕ) (d : Cell) → i < length cs → now ≡ map f (take i cs) ++ drop i cs
     → get_or now i d ≡ get_or cs i d
 as_it_was f cs now i d low is =
     ap (λ (all : List Cell). get_or all i d) (is ∙ ap (λ (more : List Cell). map f (take i cs) ++ more) (drop_more cs i d low))
     ∙ get_or_at (map f (take i cs)) (get_or cs i d) (drop (i + 1) cs) d i (length-map _ _ ∙ length-take-le i cs (omega arith))
 
--- and then it is changed
+-- the next cell is changed
 pub change_more : (f : Cell → Cell) (cs now : List Cell) (i : ℕ) (d new : Cell) → i < length cs → now ≡ map f (take i cs) ++ drop i cs
     → new ≡ f (get_or cs i d) → set now i new ≡ map f (take (i + 1) cs) ++ drop (i + 1) cs
 change_more f cs now i d new low is one =
@@ -175,6 +175,6 @@ change_more f cs now i d new low is one =
     ∙ sym (append_assoc (map f (take i cs)) (f (get_or cs i d) ∷ []) (drop (i + 1) cs))
     ∙ ap (λ (all : List Cell). all ++ drop (i + 1) cs) (sym (map_more f cs i d low))
 
--- at the end all are
+-- at the end, all cells are changed
 pub all_changed : (f : Cell → Cell) (cs now : List Cell) (i : ℕ) → length cs ≤ i → now ≡ map f (take i cs) ++ drop i cs → now ≡ map f cs
 all_changed f cs now i end is = is ∙ (λ j. map f (take_all i cs end j) ++ drop_all i cs end j) ∙ append-nil (map f cs)

@@ -36,7 +36,7 @@ grown-swap : (c d : Cell) (b : Option Bounds) → grown c (Some (grown d b)) ≡
 grown-swap c d None = widened-pair c d
 grown-swap c d (Some b) = widened-swap c d b
 
--- a cell put into a list widens its box by the cell
+-- putting a cell into a list widens its box by the cell
 box_of-put : (c : Cell) (ds : List Cell) → box_of (put c ds) ≡ Some (grown c (box_of ds))
 box_of-put c [] = refl
 box_of-put c (d ∷ ds) = go (cell_cmp c d) refl (box_of-put c ds)
@@ -74,7 +74,7 @@ pub set_of-moved : (dx dy : ℤ) (cs : List Cell) → set_of (shifted dx dy cs) 
 set_of-moved dx dy [] = refl
 set_of-moved dx dy (c ∷ cs) = ap (put (moved_by dx dy c)) (set_of-moved dx dy cs) ∙ put-moved dx dy c (set_of cs)
 
--- a test that all cells of a list pass, on its set
+-- all cells of a list's set pass a test exactly if all cells of the list do
 pub list_all-set_of : (p : Cell → Bool) (cs : List Cell) → list_all p (set_of cs) ≡ list_all p cs
 list_all-set_of p cs = both_true (list_all p (set_of cs)) (list_all p cs)
     (λ h. has-list_all p cs (λ c e. list_all-has p (set_of cs) h c (has-set_of cs c ∙ e)))
@@ -116,7 +116,7 @@ is_pattern-turned o cs on = record { in_order = ordered (box_of (image o cs)); o
 neg_size : (a : ℤ) → unsigned_abs (neg_ℤ a) ≡ unsigned_abs a
 neg_size a = omega (arith, ints)
 
--- an image of a cell of the plane lies on the plane
+-- the image of a cell of the plane is on the plane
 on_plane-turned : (o : Orientation) (c : Cell) → on_plane c ≡ true → on_plane (turned_cell o c) ≡ true
 unfolding on_plane
 on_plane-turned o c h = go o (and_parts (leb (unsigned_abs c.x) plane_bound) (leb (unsigned_abs c.y) plane_bound) h)
@@ -167,7 +167,7 @@ no_cells : (o : Orientation) (cs : List Cell) → box_of (map (turned_cell o) cs
 no_cells o [] e = refl
 no_cells o (c ∷ cs) e = absurd cc
 
--- the set of the cells so placed is the image at the corner
+-- the set of the cells placed by the corner transform is the image at the corner
 pub placed-turned : (o : Orientation) (cs : List Cell) → set_of (map (landed (corner_transform o (box_of (map (turned_cell o) cs)))) cs) ≡ turned o cs
 placed-turned o cs = go (box_of (map (turned_cell o) cs)) refl
   where
@@ -198,7 +198,7 @@ moved_to a left right n low high h = omega (arith, ints)
 moved_from : (right left : ℤ) (n : ℕ) → unsigned_abs (right +ℤ neg_ℤ left) ≤ n → unsigned_abs (right -ℤ left) ≤ n
 moved_from right left n h = omega (arith, ints)
 
--- cells are on the plane, moved to the corner, exactly if their box is no larger than the bound
+-- cells moved to the corner are on the plane exactly if their box isn't larger than the bound
 box_on_plane : (cs : List Cell) (b : Bounds) → IsLeastBox cs b
     → leb (max (unsigned_abs (b.right -ℤ b.left)) (unsigned_abs (b.bottom -ℤ b.top))) plane_bound
     ≡ list_all on_plane (shifted (neg_ℤ b.left) (neg_ℤ b.top) cs)

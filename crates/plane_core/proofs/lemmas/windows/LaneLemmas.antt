@@ -11,7 +11,7 @@ use lib.Lanes.{zip2, Each1}
 
 -- ---- one operation
 
--- lane j of an operation is the operation on the lanes j
+-- lane j of the result of an operation is the operation on lane j of each operand
 pub lane_of : (f : ℕ → ℕ → ℕ) (a b : List ℕ) (j : ℕ) → length a ≡ 4 → length b ≡ 4 → j < 4
     → slice_index (zip2 f a b) j ≡ f (slice_index a j) (slice_index b j)
 lane_of f a b j la lb low = get_or-zip2 f a b j 0 0 0 (omega arith) (omega arith)
@@ -56,7 +56,7 @@ lane_adder a b c j i la lb lc low = (λ t. bit_at (ones t) i + 2 * bit_at (twos 
         (four_lanes bit_and (zip2 bit_xor a b) c (four_lanes bit_xor a b la lb) lc) low
         ∙ (λ t. bit_or (lane_of bit_and a b j la lb low t) (carry t))
 
--- a pair of digits and another that counts twice
+-- the digits of a sum of two pairs of digits, of which the second pair counts twice, in each lane
 pub lane_joined : (a b c d : List ℕ) (j i : ℕ) → length b ≡ 4 → length c ≡ 4 → length d ≡ 4 → j < 4
     → bit_of a j i + 2 * bit_of (zip2 bit_xor b c) j i + 4 * bit_of (zip2 bit_xor d (zip2 bit_and b c)) j i
     + 8 * bit_of (zip2 bit_and d (zip2 bit_and b c)) j i
@@ -152,7 +152,7 @@ shifted_right words j i long small low inside =
     ∙ ap (λ (b : ℕ). slice_index words j / 2 ^ b) (get_or-replicate 4 j 1 0 low))
     ∙ bit_east (slice_index words j) i small inside
 
--- a bit with the bits to its left and right
+-- the sum of a bit and the bits to its left and right
 pub lane_across : (words : List ℕ) (j i : ℕ) → length words ≡ 4 → Each1 (Fits w64) words → j < 4 → i < 64
     → bit_of (zip2 (λ (a b : ℕ). a * 2 ^ b % 2 ^ 64) words (replicate 4 1)) j i + bit_of words j i
     + bit_of (zip2 (λ (a b : ℕ). a / 2 ^ b) words (replicate 4 1)) j i

@@ -22,7 +22,7 @@ lane_of_four a b c d la lb lc ld i (suc (suc (suc zero))) low lane =
     get_or-append_right c d 4 (4 + i) 0 lc (omega arith) ∙ ap (λ (m : ℕ). get_or d m 0) (omega arith)
 lane_of_four a b c d la lb lc ld i (suc (suc (suc (suc j)))) low lane = absurd (omega (arith, lane))
 
--- four vectors, turned
+-- four vectors, transposed
 pub turned_lanes : (a b c d : List ℕ) → length a ≡ 4 → length b ≡ 4 → length c ≡ 4 → length d ≡ 4 → (i j : ℕ) → i < 4 → j < 4
     → lane_at (lanes_of a b c d 0 ∷ lanes_of a b c d 1 ∷ lanes_of a b c d 2 ∷ lanes_of a b c d 3 ∷ []) i j ≡ lane_at (a ∷ b ∷ c ∷ d ∷ []) j i
 turned_lanes a b c d la lb lc ld zero j low lane = lane_of_four a b c d la lb lc ld 0 j low lane
@@ -46,7 +46,7 @@ four_of x k (suc (suc (suc (suc i)))) j low = absurd (omega (arith, low))
 abbrev pub ArePacked : ℕ → List ℕ → List (List ℕ) → ℕ → Type 0
 ArePacked n rows x k = (m j : ℕ) → m < k → j < 4 → lane_at x m j ≡ slice_index rows (j * n + m)
 
--- four vectors more
+-- four more vectors are packed
 pub packed_four : (n k : ℕ) (rows : List ℕ) (x y : List (List ℕ)) → ArePacked n rows x k
     → ((i j : ℕ) → i < 4 → j < 4 → lane_at y (k + i) j ≡ slice_index rows (j * n + (k + i)))
     → ((m j : ℕ) → m < k → lane_at y m j ≡ lane_at x m j) → ArePacked n rows y (k + 4)
@@ -60,7 +60,7 @@ packed_four n k rows x y before made others m j less lane = split (cases_lt m k)
 
 -- ---- unpacking
 
--- the rows of the first vectors stand in their places
+-- the rows of the first `count` vectors are at their places
 abbrev pub AreUnpacked : ℕ → List (List ℕ) → List ℕ → ℕ → Type 0
 AreUnpacked n window rows count = (j m : ℕ) → j < 4 → m < count → slice_index rows (j * n + m) ≡ lane_at window m j
 
@@ -74,7 +74,7 @@ unpacked_more n window rows more vector k small is same at others j m low less =
         ap (λ (q : ℕ). slice_index more (j * n + q)) e ∙ at j low ∙ ap (λ (v : List ℕ). slice_index v j) same ∙ ap (λ (q : ℕ). lane_at window q j) (sym e)
     split (inr apart) = others j m low (omega arith) apart ∙ is j m low (omega arith)
 
--- four vectors more
+-- four more vectors are unpacked
 pub unpacked_four : (n k : ℕ) (window : List (List ℕ)) (rows more : List ℕ) → AreUnpacked n window rows k
     → ((i j : ℕ) → i < 4 → j < 4 → slice_index more (j * n + (k + i)) ≡ lane_at window (k + i) j)
     → ((m j : ℕ) → m < k → j < 4 → slice_index more (j * n + m) ≡ slice_index rows (j * n + m)) → AreUnpacked n window more (k + 4)
@@ -120,7 +120,7 @@ module _ (n k : ℕ) (r0 r1 r2 r3 r4 : List ℕ) (four : List (List ℕ)) (fit :
       ∙ others1 (3 * n + m) (inr (omega arith))
   words_kept m (suc (suc (suc (suc j)))) low lane = absurd (omega (arith, lane))
 
--- the rows of other vectors are what they were
+-- the rows of other vectors are unchanged
 pub other_rows : (n k j m : ℕ) (rows : List ℕ) (a b c d : ℕ) → k < n → m < n → m ≢ k
     → slice_index (set (set (set (set rows k a) (n + k) b) (2 * n + k) c) (3 * n + k) d) (j * n + m) ≡ slice_index rows (j * n + m)
 other_rows n k j m rows a b c d small low apart =

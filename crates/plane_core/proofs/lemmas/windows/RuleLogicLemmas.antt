@@ -41,7 +41,7 @@ lives_by-cond : (rule : Numbers) (n : ℕ) (alive : Bool) → cond alive (is_sur
 lives_by-cond rule n true = refl
 lives_by-cond rule n false = refl
 
--- one answer in each lane
+-- the rule's answer for one total, in each lane
 pub lane_answer : (rule : Numbers) (n dead change : ℕ) (now : List ℕ) (j i : ℕ) → length now ≡ 4 → j < 4 → bit_at dead i ≡ one_if (is_birth rule n)
     → bit_at change i ≡ (one_if (is_birth rule n) + one_if (is_survival rule (n - 1))) % 2
     → bit_of (zip2 bit_xor (replicate 4 dead) (zip2 bit_and (replicate 4 change) now)) j i ≡ one_if (lives_by rule n (bit_of now j i == 1))
@@ -59,7 +59,7 @@ lane_answer rule n dead change now j i long low d e =
         ∙ (λ t. bit_xor (get_or-replicate 4 j dead 0 low t)
         ((lane_of bit_and (replicate 4 change) now j refl long low ∙ ap (λ (w : ℕ). bit_and w (slice_index now j)) (get_or-replicate 4 j change 0 low)) t))
 
--- exactly one of four bits, in each lane
+-- the test for exactly one of four bits, in each lane
 pub lane_only_one : (a b c d : List ℕ) (j i : ℕ) → length a ≡ 4 → length b ≡ 4 → length c ≡ 4 → length d ≡ 4 → j < 4
     → bit_of (zip2 bit_xor (zip2 bit_xor (zip2 bit_xor a b) (zip2 bit_xor c d))
     (zip2 bit_and (zip2 bit_xor (zip2 bit_xor a b) (zip2 bit_xor c d)) (zip2 bit_or (zip2 bit_and a b) (zip2 bit_and c d)))) j i
@@ -138,14 +138,14 @@ lane_life up beside down low one now j i lo ll ln lane sum is =
     total : bit_of low.ones j i + 2 * twice + bit_of now j i ≡ sum_of up j i + (sum_of beside j i + bit_of now j i) + sum_of down j i
     total = omega (arith, sum)
 
--- what answers the neighbours answers the rows
+-- an answer that uses the sums of the neighbours is an answer that uses the sums of the rows
 pub answers_neighbours : (up : Sum) (here : RowSums) (down : Sum) (now next : List ℕ) → AreBeside here now
     → AnswersNeighbours life up here.beside down now next → AnswersRows life up here.all down now next
 answers_neighbours up here down now next beside is j i low inside =
     is j i low inside
     ∙ ap (λ (n : ℕ). one_if (lives_by life (sum_of up j i + n + sum_of down j i) (bit_of now j i == 1))) (sym (beside j i low))
 
--- what answers the total of three rows answers the rows
+-- an answer that uses the total is an answer that uses the sums of the three rows
 pub answers_rows : (rule : Numbers) (total : Total) (up here down : Sum) (now next : List ℕ)
     → ((j i : ℕ) → j < 4 → total_of total j i ≡ sum_of up j i + sum_of here j i + sum_of down j i) → AnswersTotal rule total now next
     → AnswersRows rule up here down now next
@@ -155,7 +155,7 @@ answers_rows rule total up here down now next sum is j i low inside =
 
 -- ---- the words for each total
 
--- a word more
+-- one more word
 pub words_more : (f : ℕ → ℕ) (words : List ℕ) (n word : ℕ) → n < length words
     → ((m i : ℕ) → m < n → i < 64 → bit_at (get_or words m 0) i ≡ f m) → ((i : ℕ) → i < 64 → bit_at word i ≡ f n)
     → (m i : ℕ) → m < n + 1 → i < 64 → bit_at (get_or (set words n word) m 0) i ≡ f m

@@ -15,7 +15,7 @@ bit_right w s i =
     let sum : 2 ^ s * 2 ^ i ≡ 2 ^ (i + s) = sym (pow-add 2 s i) ∙ ap (λ (n : ℕ). 2 ^ n) turned in
     ap (λ (n : ℕ). n % 2) (div-div-eq-div-mul w (2 ^ s) (2 ^ i) ∙ ap (λ (n : ℕ). w / n) sum)
 
--- the low 64 bits
+-- taking the low 64 bits keeps these bits
 bit_kept : (n i : ℕ) → i < 64 → bit_at (n % 2 ^ 64) i ≡ bit_at n i
 bit_kept n i low =
     let whole : n / 2 ^ 64 * 2 ^ 64 + n % 2 ^ 64 ≡ n = omega arith in
@@ -31,13 +31,13 @@ bit_left_high w s i least low =
     let more : w * 2 ^ s ≡ w * 2 ^ s + 0 = omega arith in
     bit_kept (w * 2 ^ s) i low ∙ ap (λ (n : ℕ). bit_at n i) more ∙ bit_at_cat_high w s 0 i (pow_pos s) least
 
--- a word that goes on in the next lane, there
+-- the bits of a word that are shifted into the next word
 pub bit_second : (w s i : ℕ) → s < 64 → bit_at (w / 2 / 2 ^ (63 - s)) i ≡ bit_at w (i + 64 - s)
 bit_second w s i low =
     let at : i + (63 - s) + 1 ≡ i + 64 - s = omega arith in
     bit_right (w / 2) (63 - s) i ∙ bit_right w 1 (i + (63 - s)) ∙ ap (bit_at w) at
 
--- its beginning, brought to the end of a word
+-- a word shifted left by 64 - s is 0 in its low 64 - s bits
 bit_end_low : (w s i : ℕ) → s < 64 → i + s < 64 → bit_at (w * 2 % 2 ^ 64 * 2 ^ (63 - s) % 2 ^ 64) i ≡ 0
 bit_end_low w s i small low = split (cases_lt i (63 - s))
   where

@@ -35,7 +35,7 @@ lane_end n (suc (suc zero)) low = omega arith
 lane_end n (suc (suc (suc zero))) low = omega arith
 lane_end n (suc (suc (suc (suc j)))) low = absurd (omega arith)
 
--- the row above is that of the vector before, and the row below that of the next
+-- the row above is in the previous vector, and the row below is in the next vector, in the same lane
 above_more : (n : ℕ) (x : List (List ℕ)) (j k : ℕ) → row_above n x (j * n + (k + 1)) ≡ row_at n x (j * n + k)
 above_more n x j k = let at : j * n + (k + 1) ≡ suc (j * n + k) = omega arith in ap (row_above n x) at
 
@@ -47,7 +47,7 @@ below_more n x j k low more =
     let at : j * n + k + 1 ≡ j * n + (k + 1) = omega arith in
     below_inner n x (j * n + k) (omega (arith, lane_end n j low)) ∙ ap (row_at n x) at ∙ row_is_lane n x j (k + 1) more
 
--- at the last vector it is a lane further, in the first one
+-- the row below a row of the last vector is in the next lane of the first vector
 below_end : (n : ℕ) (x : List (List ℕ)) (j : ℕ) → 0 < n → j < 3 → row_below n x (j * n + (n - 1)) ≡ lane_at x 0 (j + 1)
 below_end n x j some low =
     let at : j * n + (n - 1) + 1 ≡ (j + 1) * n + 0 = omega arith in
@@ -82,7 +82,7 @@ row_sum-empty (suc i) = omega (arith, bit_at-zero i, bit_at-zero (suc i), east (
     east true = refl
     east false = bit_at-zero (suc i + 1)
 
--- above the first vector lies the last one, a lane on
+-- the row above a row of the first vector is in the previous lane of the last vector
 pub above_start : (n : ℕ) (x : List (List ℕ)) (last up : Sum) → 0 < n → ((i : ℕ) → sum_of up 0 i ≡ 0)
     → ((j i : ℕ) → j < 3 → sum_of up (j + 1) i ≡ sum_of last j i) → AreOfVector x last (n - 1) → AreAbove n x up 0
 above_start n x last up some first others is zero i low inside =
@@ -106,7 +106,7 @@ above_step n x s k is j i lane inside = is j i lane inside ∙ ap (λ (w : ℕ).
 pub below_step : (n : ℕ) (x : List (List ℕ)) (s : Sum) (k : ℕ) → k + 1 < n → AreOfVector x s (k + 1) → AreBelow n x s k
 below_step n x s k low is j i lane inside = is j i lane inside ∙ ap (λ (w : ℕ). row_sum w i) (sym (below_more n x j k lane low))
 
--- below the last vector lies the first one, a lane back
+-- the row below a row of the last vector is in the next lane of the first vector
 pub below_stop : (n : ℕ) (x : List (List ℕ)) (first down : Sum) → 0 < n → ((j i : ℕ) → j < 3 → sum_of down j i ≡ sum_of first (j + 1) i)
     → ((i : ℕ) → sum_of down 3 i ≡ 0) → AreOfVector x first 0 → AreBelow n x down (n - 1)
 below_stop n x first down some others last is (suc (suc (suc zero))) i low inside =
@@ -116,12 +116,12 @@ below_stop n x first down some others last is j i low inside =
 
 -- ---- vectors made one after another
 
--- each of the first vectors has its next rows
+-- each of the first `count` vectors consists of rows of the next generation
 abbrev pub AreMade : Numbers → ℕ → List (List ℕ) → List (List ℕ) → ℕ → Type 0
 AreMade rule n x y count = (k : ℕ) → k < count → (j : ℕ) → j < 4
     → IsNextRow rule (row_above n x (j * n + k)) (row_at n x (j * n + k)) (row_below n x (j * n + k)) (lane_at y k j)
 
--- an answer to the sums of the rows is the next vector
+-- a vector that answers the sums of the rows consists of rows of the next generation
 pub made_next : (rule : Numbers) (n : ℕ) (x : List (List ℕ)) (up here down : Sum) (now next : List ℕ) (k : ℕ) → k < n → AreAbove n x up k → AreHere n x here k
     → AreBelow n x down k → now ≡ get_or x k [] → AnswersRows rule up here down now next → (j : ℕ) → j < 4
     → IsNextRow rule (row_above n x (j * n + k)) (row_at n x (j * n + k)) (row_below n x (j * n + k)) (slice_index next j)
@@ -130,7 +130,7 @@ made_next rule n x up here down now next k low p q r same is j lane i inside =
     is j i lane inside
     ∙ (λ t. one_if (lives_by rule (p j i lane inside t + q j i lane inside t + r j i lane inside t) (bit_at (word t) i == 1)))
 
--- what is said of each word of the first vectors is said of those of one vector more
+-- a property of each word of the first vectors is extended to one more vector
 pub vectors_more : (P : ℕ → ℕ → ℕ → Type 0) (y : List (List ℕ)) (next : List ℕ) (k : ℕ) → k < length y
     → ((m : ℕ) → m < k → (j : ℕ) → j < 4 → P m j (lane_at y m j)) → ((j : ℕ) → j < 4 → P k j (slice_index next j))
     → (m : ℕ) → m < k + 1 → (j : ℕ) → j < 4 → P m j (lane_at (set y k next) m j)
@@ -152,7 +152,7 @@ pub made_more : (rule : Numbers) (n : ℕ) (x y : List (List ℕ)) (next : List 
 made_more rule n x y next k =
     vectors_more (λ m j w. IsNextRow rule (row_above n x (j * n + m)) (row_at n x (j * n + m)) (row_below n x (j * n + m)) w) y next k
 
--- the vectors before vector k are made, and the sums above it and its own are known
+-- the vectors before vector k are computed, and the sums above it and its own sums are known
 pub record AreMadeTo (rule : Numbers) (n : ℕ) (x y : List (List ℕ)) (up : Sum) (here : RowSums) (k : ℕ) : Type 0 where
   pub low : k < n
   pub long : length y ≡ n
@@ -162,7 +162,7 @@ pub record AreMadeTo (rule : Numbers) (n : ℕ) (x y : List (List ℕ)) (up : Su
   pub made : AreMade rule n x y k
   pub rest : (m : ℕ) → k ≤ m → get_or y m [] ≡ get_or x m []
 
--- a vector more
+-- one more vector is computed
 pub made_to_next : (rule : Numbers) (n : ℕ) (x y z : List (List ℕ)) (up : Sum) (here below : RowSums) (k later : ℕ) → later ≡ k + 1
     → k + 1 < n → AreMadeTo rule n x y up here k → IsVectorMade rule k up here below y z → AreMadeTo rule n x z here.all below later
 made_to_next rule n x y z up here below k later next low before one =
@@ -182,7 +182,7 @@ made_to_next rule n x y z up here below k later next low before one =
     sums : AreOfVector x below.all (k + 1)
     sums j i lane inside = one.sums j i lane inside ∙ ap (λ (v : List ℕ). row_sum (slice_index v j) i) (before.rest (k + 1) (omega arith))
 
--- all vectors are all rows
+-- if all vectors are computed, all rows are
 pub all_made : (rule : Numbers) (n : ℕ) (x y : List (List ℕ)) → 0 < n → AreMade rule n x y n → IsNextWindow rule n x y
 all_made rule n x y some made r low =
     let k : r % n < n = mod_below r n some in
@@ -215,7 +215,7 @@ bit_if S word i e c same shown =
     one (suc zero) low = refl
     one (suc (suc n)) low = absurd (omega arith)
 
--- the live cells of three in a row
+-- the row sum of a window is the number of live cells among a cell and its left and right neighbours
 row_shown : (S : List Cell) (n : ℕ) (left top : ℤ) (depth : ℕ) (x : List (List ℕ)) → InOrder S → IsShownInside n left top depth x S → (e : Cell) (r i : ℕ)
     → depth ≤ r → r + depth < 4 * n → depth + 1 ≤ i → i + depth + 1 < 64 → e ≡ in_window left top i r
     → row_total S e ≡ row_sum (row_at n x r) i
@@ -250,7 +250,7 @@ row_shown S n left top depth x o shown e r (suc i) h1 h2 h3 h4 is =
         (ap (moved_by (pos 1) (pos 0)) is ∙ same_cell_at _ _ _ _ (omega (arith, ints)) (omega (arith, ints)))
         (shown r (suc i + 1) h1 h2 (omega arith) (omega arith))
 
--- the neighbourhood of a cell one further inside
+-- three row sums count the live cells in the neighbourhood of a cell one further inside
 block_shown : (S : List Cell) (n : ℕ) (left top : ℤ) (depth : ℕ) (x : List (List ℕ)) → InOrder S → IsShownInside n left top depth x S → (r i : ℕ)
     → depth + 1 ≤ r → r + depth + 1 < 4 * n → depth + 1 ≤ i → i + depth + 1 < 64
     → row_sum (row_above n x r) i + row_sum (row_at n x r) i + row_sum (row_below n x r) i

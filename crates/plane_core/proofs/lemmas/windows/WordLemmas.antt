@@ -11,7 +11,7 @@ use Rattle.plane_core.specs.windows.Words.{west_of, east_of, one_if, life}
 
 -- ---- moved by a place
 
--- a word moved a place up, its first bit the last one of the word before
+-- a word shifted up by one, whose first bit is the last bit of the previous word
 pub bit_from_west : (before here i : ℕ) → before < 2 ^ 64 → here < 2 ^ 64 → i < 64
     → bit_at (bit_or (here * 2 % 2 ^ 64) (before / 2 ^ 63)) i ≡ west_of before here i
 bit_from_west before here zero b h low =
@@ -25,7 +25,7 @@ bit_from_west before here (suc i) b h low =
     bit_at-suc (here * 2 % 2 ^ 64) i ∙ ap (λ (n : ℕ). bit_at n i) half ∙ sym kept in
     omega (arith, bit_at_or (here * 2 % 2 ^ 64) (before / 2 ^ 63) (suc i), moved, bit_at_above (before / 2 ^ 63) 1 (suc i) (omega arith) (omega arith))
 
--- a word moved a place down, its last bit the first one of the word after
+-- a word shifted down by one, whose last bit is the first bit of the next word
 pub bit_from_east : (here after i : ℕ) → here < 2 ^ 64 → i < 64 → bit_at (bit_or (here / 2) (after * 2 ^ 63 % 2 ^ 64)) i ≡ east_of here after i
 bit_from_east here after i h low = split (i == 63) refl
   where
@@ -68,7 +68,7 @@ full_adder a b c i = omega (
   bit_at-lt c i,
 )
 
--- a pair of digits and another that counts twice
+-- the digits of a sum of two pairs of digits, of which the second pair counts twice
 pub joined_digits : (a b c d i : ℕ)
     → bit_at a i + 2 * bit_at (bit_xor b c) i + 4 * bit_at (bit_xor d (bit_and b c)) i + 8 * bit_at (bit_and d (bit_and b c)) i
     ≡ bit_at a i + 2 * bit_at b i + 2 * (bit_at c i + 2 * bit_at d i)
@@ -102,7 +102,7 @@ by_digit g n k zero low = ap g (omega arith)
 by_digit g n k (suc zero) low = ap g (omega arith)
 by_digit g n k (suc (suc d)) low = absurd (omega arith)
 
--- the sums from 8 to 9 are those with an eight, and no four or two
+-- a sum of 8 or 9 has digit eight, and no digit four or two
 pub by_eights : (g : ℕ → ℕ) (a b c d : ℕ) → a < 2 → b < 2 → c < 2 → d < 2 → a + 2 * b + 4 * c + 8 * d ≤ 9
     → cond (d == 1) (g (8 + a)) (g (a + 2 * b + 4 * c)) ≡ g (a + 2 * b + 4 * c + 8 * d)
 by_eights g a b c zero p q r s t = ap g (omega arith)
@@ -133,7 +133,7 @@ by_nine g a b c d high x y low r ha hb hc hd small p q s e f =
 
 -- ---- Life
 
--- exactly one of four bits
+-- the test for exactly one of four bits
 pub one_of_four : (a b c d : ℕ) → a < 2 → b < 2 → c < 2 → d < 2
     → (((a + b) % 2 + (c + d) % 2) % 2 + min (((a + b) % 2 + (c + d) % 2) % 2) (max (min a b) (min c d))) % 2 ≡ one_if (a + b + c + d == 1)
 one_of_four (suc (suc a)) b c d p q r s = absurd (omega arith)
@@ -157,7 +157,7 @@ one_of_four (suc zero) (suc zero) zero (suc zero) p q r s = refl
 one_of_four (suc zero) (suc zero) (suc zero) zero p q r s = refl
 one_of_four (suc zero) (suc zero) (suc zero) (suc zero) p q r s = refl
 
--- the answers of Life by the sum of the eight neighbours: three, or two round a live cell
+-- Life by the sum of the eight neighbours: a cell is alive next if the sum is 3, or 2 and the cell is alive
 pub life_digits : (a s t : ℕ) → a < 2 → s < 5 → t < 2 → min (one_if (s == 1)) (max a t) ≡ one_if (lives_by life (a + 2 * s + t) (t == 1))
 life_digits (suc (suc a)) s t p q r = absurd (omega arith)
 life_digits a (suc (suc (suc (suc (suc s))))) t p q r = absurd (omega arith)

@@ -6,7 +6,7 @@ use Rattle.plane_core.proofs.lemmas.plaintext.PlaintextWalks.{IsRowAhead}
 use Rattle.plane_core.proofs.lemmas.plaintext.PlaintextWriting.{row_remainder}
 use Rattle.plane_core.proofs.plaintext.write_row.Given as goal
 
--- a prefix of the row has been written, and what is left begins at column x
+-- a prefix of the row has been written, and the remaining text begins at column x
 abbrev pub invariant-loop-cell : goal.invariant-loop-cell
 invariant-loop-cell g l =
     let left = drop l.cell-index l.cell-items in

@@ -21,7 +21,7 @@ run_on-requires-clause-few c = c.requires.few
 pub returns-in_default-clause-kept : goal.returns-in_default-clause-kept
 returns-in_default-clause-kept c = ap (lies_within survey_reach) c.in_ok-later.ensures ∙ c.requires.near c.args.generations (omega arith)
 
--- it is on a board, which no spaceship has left
+-- a board from which no spaceship was removed is a split pattern
 is_split : (rule : Numbers) (split : SplitPattern) (pattern : List Cell) → split.board.rule ≡ rule → split.board.cells ≡ pattern
     → split.spaceships.items ≡ [] → split.time ≡ 0 → InOrder pattern → IsSplit rule split
 is_split rule split pattern goes shows none early order = (

@@ -8,7 +8,7 @@ use Rattle.survey_core.specs.UnderWay.{survey_reach}
 use Rattle.survey_core.proofs.lemmas.evolution.EvolutionLemmas.{in_parts}
 use Rattle.survey_core.proofs.evolution.on_board.Goals as goal
 
--- the even part, and what is ahead of it
+-- n is the sum of its even part and its remainder
 both_parts : (n : ℕ) → (n - n % 2) + n % 2 ≡ n
 both_parts n = omega arith
 
@@ -27,7 +27,7 @@ rest_few n made few = omega arith
 at_most_one : (n : ℕ) → n % 2 ≤ 1
 at_most_one n = omega arith
 
--- all of the even part was made
+-- the board was advanced by the whole even part
 pub returns-then-time-le-LATEST_TIME-clause-kept : goal.returns-then-time-le-LATEST_TIME-clause-kept
 returns-then-time-le-LATEST_TIME-clause-kept c =
     let n = c.args.generations in
@@ -54,7 +54,7 @@ returns-then-time-le-LATEST_TIME-clause-cells c =
     ∙ ap (after rule (whole_of rule h)) c.if-made-most.true)
     ∙ in_parts rule (whole_of rule h) (n - n % 2) (n % 2) n (both_parts n)
 
--- or the pattern goes on as a list
+-- otherwise the pattern goes on as a list
 pub overflow_add-time : goal.overflow_add-time
 overflow_add-time c = omega (arith, c.requires.is_split.1.early, c.in_ok-made.ensures.most, c.requires.few)
 

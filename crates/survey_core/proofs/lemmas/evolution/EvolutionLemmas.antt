@@ -13,11 +13,11 @@ use Rattle.survey_core.proofs.lemmas.PlaneLemmas.{within_later}
 pub in_parts : (rule : Numbers) (cells : List Cell) (a b n : ℕ) → a + b ≡ n → after rule (after rule cells a) b ≡ after rule cells n
 in_parts rule cells a b n is = after-then rule cells a b ∙ ap (after rule cells) is
 
--- the pattern is near itself
+-- a pattern that stays near the origin is near it now
 pub near_now : (rule : Numbers) (cells : List Cell) (n : ℕ) → StaysNear rule cells n → lies_within survey_reach cells ≡ true
 near_now rule cells n near = ap (lies_within survey_reach) (sym (after-none rule cells)) ∙ near 0 (omega arith)
 
--- what stays near from one generation before does so from now on
+-- if a pattern is near the origin and stays near from at most one generation later, it stays near from now on
 pub near_ahead : (rule : Numbers) (cells : List Cell) (ahead n : ℕ) → ahead ≤ 1 → lies_within survey_reach cells ≡ true
     → StaysNear rule (after rule cells ahead) n → StaysNear rule cells (ahead + n)
 near_ahead rule cells ahead n few here near g low = go (less_or_not g ahead)
@@ -36,7 +36,7 @@ stays_near rule cells latest t n is near most g few =
     (λ i. lies_within survey_reach (after rule (is i) g)) ∙ ap (lies_within survey_reach) (after-then rule cells t g)
     ∙ within_later 1000 survey_reach rule cells (t + g) (omega arith) near
 
--- what n generations don't change, they don't change later
+-- if n generations leave a pattern unchanged, they leave its later generations unchanged, too
 pub still_ahead : (rule : Numbers) (cells : List Cell) (ahead n : ℕ) → after rule cells n ≡ cells
     → after rule (after rule cells ahead) n ≡ after rule cells ahead
 still_ahead rule cells ahead n still =

@@ -1,4 +1,4 @@
--- Spaceships that are off a board: how they and the board go on, and what the board says of the whole.
+-- Spaceships that were removed from a board: how they and the board evolve, and what the board says about the whole.
 use Rattle.std.proofs.Common.{◌≡◌, ◌∙◌, ◌+◌, ◌-◌, ◌*◌, ◌≤◌, ◌⊎◌, ℕ, ℤ, pos, ◌+ℤ◌, ◌*ℤ◌, ◌≤ℤ◌, Bool, true, false, ◌||◌, not, add-zero}
 use Rattle.std.proofs.Common.{List, [], ◌∷◌, ◌++◌, Any, arith, ap, refl, sym, subst, inl, inr, get_or, map}
 use Rattle.std.specs.List.{list_any}
@@ -47,7 +47,7 @@ whole-none rule t board order =
     same_lists (whole_at rule t board []) board (in_order-whole rule t board []) order
     (λ c. has-whole rule t board [] c ∙ or_nothing (has board c))
 
--- a spaceship more
+-- the whole doesn't change if one more spaceship is counted separately from the board
 pub whole-more : (rule : Numbers) (t : ℕ) (all board : List Cell) (spaceships : List Spaceship) (spaceship : Spaceship)
     → ((c : Cell) → has all c ≡ (has board c || has (spaceship_at rule t spaceship) c)) → whole_at rule t all spaceships ≡ whole_at rule t board (spaceships ++ spaceship ∷ [])
 whole-more rule t all board spaceships spaceship is =
@@ -71,7 +71,7 @@ whole-more rule t all board spaceships spaceship is =
 
 -- ---- off the board
 
--- no spaceship has left yet
+-- a board from which no spaceship was removed
 pub none_off : (rule : Numbers) (t : ℕ) (board : List Cell) → InOrder board → AreOff rule t board []
 none_off rule t board order = record {
   in_order = order;
@@ -80,7 +80,7 @@ none_off rule t board order = record {
       ∙ sym (whole-none rule (t + g) (after rule board g) (in_order-after rule board g order));
 }
 
--- an even number of generations later
+-- a removed spaceship is still off the board an even number of generations later
 off_later : (rule : Numbers) (t k : ℕ) (board : List Cell) (spaceship : Spaceship) → InOrder board → IsOff rule t board spaceship
     → IsOff rule (t + 2 * k) (after rule board (2 * k)) spaceship
 off_later rule t k board spaceship order off = record {
@@ -115,7 +115,7 @@ all_off_later rule t k board spaceships off = record {
 
 -- ---- one spaceship more
 
--- so the whole is the same when it has left
+-- so removing a spaceship doesn't change the whole in any later generation
 pub same_whole : (rule : Numbers) (t g : ℕ) (board : List Cell) (spaceships : List Spaceship) (spaceship : Spaceship) → InOrder board → is_slow rule ≡ true
     → spaceship.since ≡ t
     → IsForemost rule board spaceship.recurrence spaceship.cells
@@ -128,7 +128,7 @@ same_whole rule t g board spaceships spaceship order slow now is =
     age : (t since : ℕ) → since ≡ t → g ≡ (t + g) - since
     age t since e = omega arith
 
--- at once
+-- removing a spaceship doesn't change the whole now
 pub same_whole_now : (rule : Numbers) (t : ℕ) (board : List Cell) (spaceships : List Spaceship) (spaceship : Spaceship) → InOrder board → is_slow rule ≡ true
     → spaceship.since ≡ t → IsForemost rule board spaceship.recurrence spaceship.cells
     → whole_at rule t board spaceships ≡ whole_at rule t (without board spaceship.cells) (spaceships ++ spaceship ∷ [])
@@ -136,7 +136,7 @@ same_whole_now rule t board spaceships spaceship order slow now is =
     (λ i. whole_at rule (sym (add-zero t) i) (sym (after-none rule board) i) spaceships) ∙ same_whole rule t 0 board spaceships spaceship order slow now is
     ∙ (λ i. whole_at rule (add-zero t i) (after-none rule (without board spaceship.cells) i) (spaceships ++ spaceship ∷ []))
 
--- and the spaceship is off
+-- the spaceship is off the board, like those removed before
 pub all_off_more : (rule : Numbers) (t : ℕ) (board : List Cell) (spaceships : List Spaceship) (spaceship : Spaceship) → is_slow rule ≡ true → spaceship.since ≡ t
     → IsForemost rule board spaceship.recurrence spaceship.cells → AreOff rule t board spaceships → AreOff rule t (without board spaceship.cells) (spaceships ++ spaceship ∷ [])
 all_off_more rule t board spaceships spaceship slow now is off = record {
@@ -176,7 +176,7 @@ all_off_more rule t board spaceships spaceship slow now is off = record {
 
 -- ---- what the board says of the whole
 
--- a part of the board, at most a generation later, stays away from each spaceship
+-- a part of the board, at most one generation later, stays apart from each removed spaceship
 part_apart : (rule : Numbers) (t : ℕ) (board cells : List Cell) (spaceship : Spaceship) (ahead g : ℕ) → IsOff rule t board spaceship → InOrder board → InOrder cells
     → ahead ≤ 1 → ((c : Cell) → has cells c ≡ true → has (after rule board ahead) c ≡ true)
     → LieApart (after rule cells g) (spaceship_at rule (t + (ahead + g)) spaceship)
@@ -192,7 +192,7 @@ part_apart rule t board cells spaceship ahead g off order in_order few part =
     further : (m d : ℤ) (half : ℕ) → (pos 2 *ℤ d) ≤ℤ ((pos 2 *ℤ (m +ℤ pos half)) +ℤ pos (ahead + 1)) → d ≤ℤ (m +ℤ pos (half + ahead))
     further m d half low = omega (arith, ints, few)
 
--- no spaceship has a cell within two of such a part
+-- no spaceship has a cell at king distance 2 or less from such a part
 no_spaceship_near : (rule : Numbers) (t : ℕ) (board cells : List Cell) (spaceships : List Spaceship) (ahead g : ℕ) → AreOff rule t board spaceships → InOrder cells
     → ahead ≤ 1 → ((c : Cell) → has cells c ≡ true → has (after rule board ahead) c ≡ true) → (c d : Cell) → has (after rule cells g) c ≡ true
     → king_distance c d ≤ 2 → list_any (λ (spaceship : Spaceship). has (spaceship_at rule (t + (ahead + g)) spaceship) d) spaceships ≡ true → ⊥
@@ -205,14 +205,14 @@ no_spaceship_near rule t board cells spaceships ahead g off in_order few part c 
         let far : 3 ≤ king_distance c d = part_apart rule t board cells spaceship ahead g is off.in_order in_order few part c d here there in
         omega (arith, near, far)
 
--- the cells of the whole at a later time that are none of the board's are a spaceship's
+-- a cell of the whole at a later time is a cell of the board or of a spaceship
 whole_later : (rule : Numbers) (t : ℕ) (board : List Cell) (spaceships : List Spaceship) (g : ℕ) (c : Cell) → AreOff rule t board spaceships
     → has (after rule (whole_at rule t board spaceships) g) c
     ≡ (has (after rule board g) c || list_any (λ (spaceship : Spaceship). has (spaceship_at rule (t + g) spaceship) c) spaceships)
 whole_later rule t board spaceships g c off =
     ap (λ (S : List Cell). has S c) (off.alone g) ∙ has-whole rule (t + g) (after rule board g) spaceships c
 
--- what is linked in a pattern is so in one that has no more cells near
+-- cells that are linked in a pattern are linked in each pattern that contains it
 linked-more : (cells all : List Cell) (c d : Cell) → ((x : Cell) → has cells x ≡ true → has all x ≡ true) → Linked cells c d → Linked all c d
 linked-more cells all c d part way = record { start = part c way.start; path = way.path; leads = leads c way.path way.leads }
   where
@@ -230,7 +230,7 @@ linked-fewer cells all c d near start way = record { start = start; path = way.p
     leads e (x ∷ xs) here way =
         let there : has cells x ≡ true = near e x here way.0 way.1 in (there, way.1, leads x xs there way.2)
 
--- a cluster of the board that moves is one of the whole
+-- a restless cluster of the board is a restless cluster of the whole
 pub whole_restless : (rule : Numbers) (t : ℕ) (board : List Cell) (spaceships : List Spaceship) (ahead horizon period : ℕ) → AreOff rule t board spaceships
     → ahead ≤ 1
     → HasRestlessCluster rule (after rule board ahead) horizon period

@@ -1,4 +1,4 @@
--- Spaceships that are ahead of a pattern: nothing comes near them, and they and the rest go on alone.
+-- Spaceships that are ahead of a pattern: nothing comes near them, so they and the rest evolve independently.
 use Rattle.std.proofs.Common.{◌≡◌, ◌∙◌, ◌+◌, ◌*◌, ◌/◌, ◌%◌, ◌<◌, ◌≤◌, ◌⊎◌, ℕ, ℤ, pos, ◌+ℤ◌, ◌*ℤ◌, ◌≤ℤ◌, zero, suc, Bool, true, false, ◌||◌, ◌&&◌, not}
 use Rattle.std.proofs.Common.{zero-add}
 use Rattle.std.proofs.Common.{FitsSigned, IsTrue, ◌^◌, int_le, of_z, to_z, w64, unsigned_abs, ◌-ℤ◌, IfSome, IsNone, Option, None, Some}
@@ -63,7 +63,7 @@ depth-origin Flip = refl
 depth-origin Diagonal = refl
 depth-origin AntiDiagonal = refl
 
--- n moves, each of which takes a pattern at least half of p deeper
+-- n displacements, each at least p / 2 deep, are together at least n * p / 2 deep
 cycles_deep : (o : Orientation) (dx dy : ℤ) (p n : ℕ) → pos p ≤ℤ (pos 2 *ℤ depth (turned_cell o (cell_at dx dy)))
     → pos (n * p) ≤ℤ (pos 2 *ℤ depth (turned_cell o (cell_at (times n dx) (times n dy))))
 cycles_deep o dx dy p zero fast = none (0 * p) (depth (turned_cell o (cell_at (pos 0) (pos 0)))) (zero-mul p) (depth-origin o)
@@ -78,7 +78,7 @@ cycles_deep o dx dy p (suc n) fast =
     more : (k j : ℕ) (d e f : ℤ) → k ≡ j + p → d ≡ e +ℤ f → pos j ≤ℤ (pos 2 *ℤ e) → pos p ≤ℤ (pos 2 *ℤ f) → pos k ≤ℤ (pos 2 *ℤ d)
     more k j d e f same sum low fast = omega (arith, ints)
 
--- so after n generations a spaceship lies at least half of n deeper than at first, but for a part of its period
+-- so after n generations each cell of a spaceship is at least (n + 1 - period) / 2 deeper than `from`
 spaceship_deep : (rule : Numbers) (o : Orientation) (m : ℤ) (r : Recurrence) (spaceship : List Cell) (n : ℕ) (c : Cell) → (ahead : IsAheadOf rule o m r spaceship)
     → has (after rule spaceship n) c ≡ true → ((pos 2 *ℤ ahead.from) +ℤ pos (n + 1)) ≤ℤ ((pos 2 *ℤ depth (turned_cell o c)) +ℤ pos r.period)
 spaceship_deep rule o m r spaceship n c ahead e =
@@ -115,11 +115,11 @@ spaceship_deep rule o m r spaceship n c ahead e =
         → ((pos 2 *ℤ f) +ℤ pos (n + 1)) ≤ℤ ((pos 2 *ℤ w) +ℤ pos p)
     numbers f e v w n k b p is low sum deep part = omega (arith, ints)
 
--- cells of which one lies five deeper are more than two apart
+-- two cells, one at least five deeper than the other, are at king distance 3 or more
 deeper_apart : (c d : Cell) → (depth c +ℤ pos 5) ≤ℤ depth d → 3 ≤ king_distance c d
 deeper_apart c d low = omega (arith, ints)
 
--- nothing comes near a spaceship that is ahead of it
+-- no pattern behind a spaceship ever comes near it
 pub spaceships_stay_ahead : SpaceshipsStayAhead
 spaceships_stay_ahead rule o m r spaceship cells n k g slow ahead order behind few c d in_cells in_spaceship =
     subst (λ (w : ℕ). 3 ≤ w) (turned-keeps o c d)
@@ -137,7 +137,7 @@ pub or_nothing : (a : Bool) → (a || false) ≡ a
 or_nothing true = refl
 or_nothing false = refl
 
--- a pattern of two that never come near each other goes on as the two do alone
+-- if two parts of a pattern never come near each other, the pattern evolves as the parts do, each run alone
 two_run_alone : (rule : Numbers) (cells one other : List Cell) → InOrder cells → InOrder one → InOrder other
     → ((c : Cell) → has cells c ≡ (has one c || has other c)) → ((g : ℕ) → LieApart (after rule one g) (after rule other g))
     → (g : ℕ) (c : Cell) → has (after rule cells g) c ≡ (has (after rule one g) c || has (after rule other g) c)
@@ -197,7 +197,7 @@ two_run_alone rule cells one other order first second is far g c =
 
 -- ---- a pattern without a spaceship
 
--- what is left without some cells
+-- a cell that is left after a removal is on the board and isn't one of those removed
 pub left_has : (board spaceship : List Cell) (c : Cell) → has (without board spaceship) c ≡ true → (has board c ≡ true) × (has spaceship c ≡ false)
 left_has board spaceship c e =
     let parts = and_parts (has board c) (not (has spaceship c)) (sym (has-filter (λ d. not (has spaceship d)) board c) ∙ e) in
@@ -207,7 +207,7 @@ left_has board spaceship c e =
     dead true h = absurd (false≢true h)
     dead false h = refl
 
--- cells of the board, and what is left without them, are the board
+-- a part of the board, and what is left without it, make up the board
 both_parts : (board spaceship : List Cell) → IsPartOf board spaceship → (c : Cell)
     → has board c ≡ (has (without board spaceship) c || has spaceship c)
 both_parts board spaceship part c =
@@ -222,7 +222,7 @@ both_parts board spaceship part c =
 pub cluster_part : (board cluster : List Cell) → IsCluster board cluster → IsPartOf board cluster
 cluster_part board cluster is c e = linked-has board is.start c ((is.members c).0 e)
 
--- a part that is ahead of the rest, and the rest, go on alone
+-- a part that is ahead of all the rest and the rest evolve independently
 pub spaceships_run_alone : SpaceshipsRunAlone
 spaceships_run_alone rule whole r spaceship slow order is =
     two_run_alone rule whole (without whole spaceship) spaceship order left is.ahead.comes.in_order (both_parts whole spaceship is.part) far
@@ -240,7 +240,7 @@ spaceships_run_alone rule whole r spaceship slow order is =
 
 -- ---- how a spaceship is found
 
--- the least depth of a box, where both of its sides are turned
+-- a lower bound of the depths in a box, if the orientation reverses both axes
 pub both_turned : (o : Orientation) (b : Bounds) (s : ℤ) (c : Cell) → (o ≡ Half) ⊎ (o ≡ AntiDiagonal) → s ≡ b.right +ℤ b.bottom → IsWithin b c
     → (pos 0 -ℤ s) ≤ℤ depth (turned_cell o c)
 both_turned o b s c (inl is) e w =
@@ -248,7 +248,7 @@ both_turned o b s c (inl is) e w =
 both_turned o b s c (inr is) e w =
     subst (λ (p : Orientation). (pos 0 -ℤ s) ≤ℤ depth (turned_cell p c)) (sym is) (omega (arith, ints, e, w.right, w.bottom))
 
--- or none, or one of them
+-- the same if it reverses neither axis, or one of them
 pub none_turned : (o : Orientation) (b : Bounds) (s : ℤ) (c : Cell) → (o ≡ Same) ⊎ (o ≡ Diagonal) → s ≡ b.left +ℤ b.top → IsWithin b c
     → s ≤ℤ depth (turned_cell o c)
 none_turned o b s c (inl is) e w = subst (λ (p : Orientation). s ≤ℤ depth (turned_cell p c)) (sym is) (omega (arith, ints, e, w.left, w.top))
@@ -264,7 +264,7 @@ pub right_turned : (o : Orientation) (b : Bounds) (s : ℤ) (c : Cell) → (o �
 right_turned o b s c (inl is) e w = subst (λ (p : Orientation). s ≤ℤ depth (turned_cell p c)) (sym is) (omega (arith, ints, e, w.right, w.top))
 right_turned o b s c (inr is) e w = subst (λ (p : Orientation). s ≤ℤ depth (turned_cell p c)) (sym is) (omega (arith, ints, e, w.right, w.top))
 
--- a sum that is small is what a word of 64 bits says
+-- a small sum is unchanged by the conversion to a 64-bit word and back
 pub is_told : (s : ℤ) → unsigned_abs s ≤ 2 ^ 33 → to_z w64 (of_z w64 s) ≡ s
 is_told s small = to_z-of_z w64 s (fits_signed_from_abs w64 s (omega (arith, small)))
 
@@ -282,7 +282,7 @@ pub minus_told : (s : ℤ) → unsigned_abs s ≤ 2 ^ 33 → to_z w64 (of_z w64 
 minus_told s small =
     ap (λ (v : ℤ). to_z w64 (of_z w64 (pos 0 -ℤ v))) (is_told s small) ∙ is_told (pos 0 -ℤ s) (minus_small s small)
 
--- an envelope that begins far enough past m
+-- a fast enough pattern whose envelope begins far enough past m is a spaceship ahead of m
 pub ahead_by_envelope : (rule : Numbers) (limit : ℕ) (cells : List Cell) (envelope : EnvelopeBounds) (way : Orientation) (m : ℤ) → IsEnvelope rule limit cells envelope
     → pos envelope.recurrence.period ≤ℤ (pos 2 *ℤ depth (turned_cell way (cell_at envelope.recurrence.dx envelope.recurrence.dy))) → BeginsPast way m envelope
     → IsAheadOf rule way m envelope.recurrence cells
@@ -337,7 +337,7 @@ no_faster rule cells p dx dy some back = go (box_of cells) refl
         down : (b.top -ℤ pos p) ≤ℤ (b.top +ℤ dy) → (b.bottom +ℤ dy) ≤ℤ (b.bottom +ℤ pos p) → unsigned_abs dy ≤ p
         down low high = omega (arith, ints)
 
--- at least half, by a test in numbers of 64 bits
+-- p is at most twice v if a test in 64-bit numbers says so for a lower bound of v
 pub half_by_test : (p d v : ℤ) → FitsSigned w64 p → FitsSigned w64 d → FitsSigned w64 (pos 2 *ℤ d)
     → IsTrue (int_le (to_z w64 (of_z w64 p)) (to_z w64 (of_z w64 (pos 2 *ℤ to_z w64 (of_z w64 d))))) → d ≤ℤ v → p ≤ℤ (pos 2 *ℤ v)
 half_by_test p d v p_fits d_fits twice_fits test low =
@@ -353,19 +353,19 @@ half_by_test p d v p_fits d_fits twice_fits test low =
 
 -- ---- where a spaceship is
 
--- n steps are a product
+-- n steps by d make the product n * d
 pub times-product : (n : ℕ) (d : ℤ) → times n d ≡ pos n *ℤ d
 times-product zero d = sym (zero-*ℤ d)
 times-product (suc n) d = ap (λ (t : ℤ). t +ℤ d) (times-product n d) ∙ sym (suc_ℤ-*ℤ (pos n) d)
 
--- whole periods and a part of one
+-- the pattern at an age is one of its phases, displaced by whole periods
 pub spaceship_by_cycles : (rule : Numbers) (r : Recurrence) (cells : List Cell) (age : ℕ) → IsSpaceship rule r cells
     → after rule cells age ≡ shifted (times (age / r.period) r.dx) (times (age / r.period) r.dy) (after rule cells (age % r.period))
 spaceship_by_cycles rule r cells age is =
     ap (after rule cells) (sym (div-add-mod' age r.period))
     ∙ after_cycles rule cells r.period r.dx r.dy is.in_order is.back (age / r.period) (age % r.period)
 
--- so, some steps further, is the spaceship
+-- this phase, displaced by the program, is the spaceship
 pub spaceship_moved : (rule : Numbers) (r : Recurrence) (cells phase result : List Cell) (age : ℕ) (x y dx dy : ℤ) → IsSpaceship rule r cells
     → phase ≡ after rule cells (age % r.period) → x ≡ times (age / r.period) dx → y ≡ times (age / r.period) dy → dx ≡ r.dx → dy ≡ r.dy
     → result ≡ shifted x y phase → result ≡ after rule cells age

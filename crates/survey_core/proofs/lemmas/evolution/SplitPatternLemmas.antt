@@ -1,4 +1,4 @@
--- A board and the spaceships that have left it, as the code keeps them.
+-- A board and the spaceships that were removed from it, as the code keeps them.
 use Rattle.std.proofs.Common.{◌≡◌, ◌∙◌, ◌+◌, ◌*◌, ◌/◌, ◌%◌, ◌<◌, ◌≤◌, ℕ, ◌==◌, Bool, true, false, ◌||◌, not}
 use Rattle.std.proofs.Common.{unsigned_abs}
 use Rattle.std.proofs.Common.{List, [], ◌∷◌, ◌++◌, All, arith, ap, refl, sym, subst, flat_map, get_or, length, map, take}
@@ -34,7 +34,7 @@ use Rattle.survey_core.proofs.lemmas.evolution.RemovedLemmas.{all_off_later, all
 
 -- ---- the numbers of a spaceship
 
--- for long it lies on the plane
+-- a spaceship lies on the plane up to an age past the latest time
 pub spaceship_on_plane : (rule : Numbers) (cells : List Cell) (age : ℕ) → lies_within survey_reach cells ≡ true → age ≤ latest_time + 10001
     → list_all on_plane (after rule cells age) ≡ true
 unfolding on_plane
@@ -62,7 +62,7 @@ small_by_envelope rule limit spaceship cells envelope few some near same back is
 
 -- ---- a split pattern
 
--- where each spaceship is can be computed at any later time
+-- the position of each spaceship can be computed at any later time
 pub traced_later : (rule : Numbers) (t g : ℕ) (board : List Cell) (spaceships : List Spaceship) → IsSplitAt rule t board spaceships
     → All (IsTraced rule (t + g)) spaceships
 traced_later rule t g board spaceships is k d low = record {
@@ -77,7 +77,7 @@ traced_later rule t g board spaceships is k d low = record {
     early : (t half since : ℕ) → t ≡ since + 2 * half → since ≤ t + g
     early t half since e = omega arith
 
--- a board that no spaceship has left
+-- a board from which no spaceship was removed
 pub new_split : (rule : Numbers) (board : List Cell) (spaceships : List Spaceship) → InOrder board → spaceships ≡ [] → IsSplitAt rule 0 board spaceships
 new_split rule board spaceships order none = subst (IsSplitAt rule 0 board) (sym none) (record {
   off = none_off rule 0 board order;
@@ -85,7 +85,7 @@ new_split rule board spaceships order none = subst (IsSplitAt rule 0 board) (sym
   early = omega arith;
 })
 
--- a pattern that lies within a reach has all its parts there
+-- a part of a pattern that lies within a reach lies within it, too
 pub part_near : (reach : ℕ) (board cells : List Cell) → lies_within reach board ≡ true → IsPartOf board cells → lies_within reach cells ≡ true
 part_near reach board cells near part = has-list_all (is_within reach) cells (λ c e. list_all-has (is_within reach) board near c (part c e))
 
@@ -95,13 +95,13 @@ board_near reach rule t board spaceships near =
     has-list_all (is_within reach) board (λ c e. list_all-has (is_within reach) (whole_at rule t board spaceships) near c
     (has-whole rule t board spaceships c ∙ ap (λ (b : Bool). b || list_any (λ (spaceship : Spaceship). has (spaceship_at rule t spaceship) c) spaceships) e))
 
--- a set of cells, with others
+-- sorting cells before others are added doesn't change the set
 set_of-more : (cells others : List Cell) → set_of (set_of cells ++ others) ≡ set_of (cells ++ others)
 set_of-more cells others = is_set_of (set_of (set_of cells ++ others)) (cells ++ others) (in_order-set_of (set_of cells ++ others))
     (λ c. has-set_of (set_of cells ++ others) c ∙ has-append (set_of cells) others c ∙ ap (λ (b : Bool). b || has others c) (has-set_of cells c)
     ∙ sym (has-append cells others c))
 
--- a spaceship more is added
+-- one more spaceship is added to the whole
 pub whole_more : (rule : Numbers) (t : ℕ) (board : List Cell) (spaceships : List Spaceship) (n : ℕ) (spaceship : Spaceship) (whole there : List Cell)
     → n < length spaceships → spaceship ≡ get_or spaceships n spaceship → whole ≡ whole_at rule t board (take n spaceships)
     → there ≡ spaceship_at rule t spaceship → set_of (whole ++ there) ≡ whole_at rule t board (take (n + 1) spaceships)
@@ -112,21 +112,21 @@ whole_more rule t board spaceships n spaceship whole there low is before at =
     ∙ ap set_of (flat_map_more (λ (part : List Cell). part) [] (board ∷ earlier) (place (get_or spaceships n spaceship))
     ∙ ap (λ (parts : List (List Cell)). flat_map (λ (part : List Cell). part) (board ∷ parts)) (sym (map_more place spaceships n spaceship low)))
 
--- where no spaceship is, the board is all
+-- if there are no spaceships, the board is the whole
 pub whole-empty : (rule : Numbers) (t : ℕ) (board : List Cell) (spaceships : List Spaceship) (is_empty : Bool) → is_empty ≡ (length spaceships == 0)
     → is_empty ≡ true → InOrder board → whole_at rule t board spaceships ≡ board
 whole-empty rule t board [] is_empty is empty order = whole-none rule t board order
 whole-empty rule t board (spaceship ∷ spaceships) is_empty is empty order =
     let none : length (spaceship ∷ spaceships) ≡ 0 = eqb-true (length (spaceship ∷ spaceships)) 0 (sym is ∙ empty) in absurd (omega (arith, none))
 
--- and then it is still where the board is
+-- if there are no spaceships and the board is still, the whole is still
 pub still_whole : (rule : Numbers) (t n : ℕ) (board : List Cell) (spaceships : List Spaceship) (is_empty : Bool) → is_empty ≡ (length spaceships == 0)
     → is_empty ≡ true → InOrder board → after rule board n ≡ board → after rule (whole_at rule t board spaceships) n ≡ whole_at rule t board spaceships
 still_whole rule t n board spaceships is_empty is empty order still =
     let all = whole-empty rule t board spaceships is_empty is empty order in
     ap (λ (S : List Cell). after rule S n) all ∙ still ∙ sym all
 
--- an even number of generations later
+-- a split pattern is still one an even number of generations later
 pub split_later : (rule r : Numbers) (t n most : ℕ) (board b : List Cell) (spaceships : List Spaceship) → IsSplitAt rule t board spaceships → most % 2 ≡ 0
     → n ≡ most
     → r ≡ rule → b ≡ after rule board n → t + n ≤ latest_time → IsSplitAt r (t + n) b spaceships
@@ -140,7 +140,7 @@ split_later rule r t n most board b spaceships is even all same at early =
     off : AreOff rule (t + n) (after rule board n) spaceships
     off = subst (λ (k : ℕ). AreOff rule (t + k) (after rule board k) spaceships) twice (all_off_later rule t (n / 2) board spaceships is.off)
 
--- a spaceship more
+-- one more spaceship is removed from the board
 pub split_more : (rule : Numbers) (t : ℕ) (board b : List Cell) (spaceships s : List Spaceship) (spaceship : Spaceship) → IsSplitAt rule t board spaceships
     → is_slow rule ≡ true
     → spaceship.since ≡ t → IsForemost rule board spaceship.recurrence spaceship.cells → HasSmallNumbers spaceship → b ≡ without board spaceship.cells → s ≡ spaceships ++ spaceship ∷ []
@@ -153,7 +153,7 @@ split_more rule t board b spaceships s spaceship is slow now foremost small left
       early = is.early;
     }))
 
--- the whole so many generations later
+-- the whole n generations later
 pub whole_gone_on : (rule : Numbers) (t n : ℕ) (board b whole : List Cell) (spaceships : List Spaceship) → IsSplitAt rule t board spaceships
     → whole_at rule t board spaceships ≡ whole
     → b ≡ after rule board n → whole_at rule (t + n) b spaceships ≡ after rule whole n
@@ -162,18 +162,18 @@ whole_gone_on rule t n board b whole spaceships is all at =
 
 -- ---- a split pattern that goes on
 
--- the board goes on by the rule
+-- the board evolves under the rule
 pub board_later : (rule : Numbers) (split : SplitPattern) (n : ℕ) (b : List Cell) → IsSplit rule split → b ≡ after split.board.rule split.board.cells n
     → b ≡ after rule split.board.cells n
 board_later rule split n b is at = at ∙ ap (λ (r : Numbers). after r split.board.cells n) is.0
 
--- and so does the whole
+-- if the board is n generations later, so is the whole
 pub whole_later : (rule : Numbers) (split : SplitPattern) (n : ℕ) (b : List Cell) → IsSplit rule split → b ≡ after split.board.rule split.board.cells n
     → whole_at rule (split.time + n) b split.spaceships.items ≡ after rule (whole_of rule split) n
 whole_later rule split n b is at =
     whole_gone_on rule split.time n split.board.cells b (whole_of rule split) split.spaceships.items is.1 refl (board_later rule split n b is at)
 
--- a generation later
+-- if the board is one generation later, so is the whole
 pub next_whole : (rule : Numbers) (split : SplitPattern) (b : List Cell) → IsSplit rule split → b ≡ next split.board.rule split.board.cells
     → whole_at rule (split.time + 1) b split.spaceships.items ≡ next rule (whole_of rule split)
 next_whole rule split b is at =
@@ -184,7 +184,7 @@ next_whole rule split b is at =
 
 -- ---- candidates
 
--- clusters that share a cell are one
+-- clusters of a pattern that share a cell are equal
 same_cluster : (cells one other : List Cell) (c : Cell) → IsCluster cells one → IsCluster cells other → has one c ≡ true → has other c ≡ true
     → one ≡ other
 same_cluster cells one other c is also in_one in_other =
@@ -201,13 +201,13 @@ pub candidates_start : (board : List Cell) (spaceships : List Spaceship) (cluste
     → AreCandidates board spaceships clusters
 candidates_start board spaceships clusters each = record { before = board; each = each; still = λ cluster is new. cluster_part board cluster is }
 
--- each of them is one
+-- each candidate is a cluster of the board as it was before
 pub candidate : (board : List Cell) (spaceships : List Spaceship) (clusters : List (List Cell)) (i : ℕ) (cluster : List Cell)
     → (are : AreCandidates board spaceships clusters)
     → i < length clusters → cluster ≡ get_or clusters i cluster → IsCluster are.before cluster
 candidate board spaceships clusters i cluster are low at = subst (IsCluster are.before) (sym at) (are.each i cluster low)
 
--- and when one of them has left it, all but this one
+-- the clusters are still candidates after one of them was removed
 pub candidates_more : (board b : List Cell) (spaceships s : List Spaceship) (clusters : List (List Cell)) (spaceship : Spaceship) (i : ℕ) (cluster : List Cell)
     → AreCandidates board spaceships clusters → i < length clusters → cluster ≡ get_or clusters i cluster → spaceship.cells ≡ cluster
     → b ≡ without board spaceship.cells

@@ -9,7 +9,7 @@ use Rattle.survey_core.specs.rest.Groups.{members}
 use Rattle.survey_core.specs.rest.RestLaws.{GroupsRunAlone, PartsRunAlone}
 use Rattle.survey_core.proofs.lemmas.rest.GroupLemmas.{alone_keeps, group_keeps, members-cons, members-none, members_all, whole_keeps}
 
--- if parts have numbers from s on, each its own, then there is at most one of number k, and none where k is below s
+-- if the parts are numbered from s on, at most one of them has the number k, and none if k is below s
 abbrev IsOne : ℕ → ℕ → List (List Cell) → Type 0
 IsOne k s parts =
     (k < s → length (members k (range_with_len s (length parts)) parts) ≡ 0) × (length (members k (range_with_len s (length parts)) parts) ≤ 1)

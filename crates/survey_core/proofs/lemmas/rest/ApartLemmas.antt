@@ -32,7 +32,7 @@ apart_by_boxes one other a b in_one in_other far c d h k =
     far c d (has-all (IsWithin a) one c (recursion_from_All (IsWithin a) one in_one) h)
     (has-all (IsWithin b) other d (recursion_from_All (IsWithin b) other in_other) k)
 
--- patterns whose first n cells are far from all others, one after another
+-- the first n cells are at king distance 3 or more from each of the others
 abbrev pub AreFar : ℕ → List Cell → List Cell → Type 0
 AreFar n cells others = (i : ℕ) (c d : Cell) → i < n → has others d ≡ true → 3 ≤ king_distance (get_or cells i c) d
 
@@ -58,7 +58,7 @@ all_far n cells others long far c d h k =
     has-all (λ cell. 3 ≤ king_distance cell d) cells c
     (recursion_from_All (λ cell. 3 ≤ king_distance cell d) cells (λ i e low. far i e d (omega (arith, long, low)) k)) h
 
--- of the first n clusters each two lie apart
+-- any two of the first n clusters lie apart
 abbrev pub LieApartUpTo : ℕ → List Alone → Type 0
 LieApartUpTo n list = (i j : ℕ) (d : Alone) → i < j → j < n → LieApart (get_or list i d).latest (get_or list j d).latest
 
@@ -94,7 +94,7 @@ or_false : (a : Bool) → (a || false) ≡ a
 or_false true = refl
 or_false false = refl
 
--- a test that one part alone may pass
+-- if only the part at place k can pass a test, some part passes if and only if this one does
 list_any-only : (p : List Cell → Bool) (parts : List (List Cell)) (k : ℕ) → k < length parts
     → ((j : ℕ) (d : List Cell) → j < length parts → j ≢ k → p (get_or parts j d) ≡ false) → list_any p parts ≡ p (get_or parts k [])
 list_any-only p [] k low none = absurd (omega arith)
@@ -170,7 +170,7 @@ module _ (rule : Numbers) (parts : List (List Cell)) (order : All InOrder parts)
 
 -- ---- and one generation later than others
 
--- clusters that keep apart are in the next generation what they are if they are begun anew
+-- if clusters keep apart, the union of their generations g is generation g of the whole
 pub union_is : (rule : Numbers) (cells : List Cell) (clusters latest : List (List Cell)) (g : ℕ) → InOrder cells → latest ≡ map (λ part. after rule part g) clusters
     → KeepApart rule cells clusters g → union_of latest ≡ after rule cells g
 union_is rule cells clusters latest g order is kept =
@@ -184,7 +184,7 @@ later_parts rule g clusters latest is = ap (map (λ part. after rule part 1)) is
     each [] = refl
     each (part ∷ parts) = λ i. after-plus rule part g 1 i ∷ each parts i
 
--- so they keep apart in the generation after if they do so in the next one, begun anew
+-- clusters keep apart in generation g + 1 if and only if their generations g, run anew, keep apart in generation 1
 pub record AreOneLater (rule : Numbers) (cells : List Cell) (clusters latest : List (List Cell)) (g : ℕ) : Type 0 where
   pub there : KeepApart rule (union_of latest) latest 1 → KeepApart rule cells clusters (g + 1)
   pub back : KeepApart rule cells clusters (g + 1) → KeepApart rule (union_of latest) latest 1
@@ -214,7 +214,7 @@ stepped_latest rule list new is = ap latest_of is ∙ each list
     each [] = refl
     each (alone ∷ more) = λ i. sym (after-one rule alone.latest) i ∷ each more i
 
--- the clusters keep apart if they are parts of what the whole becomes
+-- the clusters keep apart if and only if their next generations partition the next generation of the whole
 pub record ArePartsLater (rule : Numbers) (list new : List Alone) (later : List Cell) : Type 0 where
   pub in_order : InOrder later
   pub there : Partition later (latest_of new) → KeepApart rule (union_of (latest_of list)) (latest_of list) 1

@@ -28,14 +28,14 @@ after-empty rule (suc g) = ap (after rule []) (sym (add-one g)) ∙ after-more r
 
 -- ---- a pattern that recurs in its place
 
--- after any number of periods it is itself
+-- after any number of periods the pattern is itself again
 after_periods : (rule : Numbers) (cells : List Cell) (p k : ℕ) → after rule cells p ≡ cells → after rule cells (k * p) ≡ cells
 after_periods rule cells p zero back = ap (after rule cells) (zero-mul p) ∙ after-none rule cells
 after_periods rule cells p (suc k) back =
     ap (after rule cells) (suc-mul k p) ∙ sym (after-then rule cells (k * p) p)
     ∙ ap (λ (state : List Cell). after rule state p) (after_periods rule cells p k back) ∙ back
 
--- so only the rest of the division by the period matters
+-- so a generation depends only on its remainder modulo the period
 pub after_remainder : (rule : Numbers) (cells : List Cell) (p g : ℕ) → after rule cells p ≡ cells → after rule cells g ≡ after rule cells (g % p)
 after_remainder rule cells p g back =
     ap (after rule cells) (sym (div-add-mod g p) ∙ ap (λ (n : ℕ). n + g % p) (mul_comm p (g / p)))
@@ -59,7 +59,7 @@ map_itself : (parts : List (List Cell)) → map (λ part. part) parts ≡ parts
 map_itself [] = refl
 map_itself (part ∷ parts) = λ i. part ∷ map_itself parts i
 
--- clusters that all are themselves again in a generation up to which they keep apart
+-- clusters that keep apart up to a generation L, in which each of them is itself again
 module _ (rule : Numbers) (cells : List Cell) (clusters : List (List Cell)) (L : ℕ) (some : 1 ≤ L) (order : InOrder cells)
     (are : Partition cells clusters) (each : All (λ part. after rule part L ≡ part) clusters) (apart : (g : ℕ) → g ≤ L → KeepApart rule cells clusters g)
   where
@@ -72,7 +72,7 @@ module _ (rule : Numbers) (cells : List Cell) (clusters : List (List Cell)) (L :
         same_lists (after rule cells L) cells (in_order-after rule cells L order) order
         (λ c. sym (later.union c) ∙ ap (λ (parts : List (List Cell)). list_any (λ part. has part c) parts) same ∙ are.union c)
 
-    -- so they keep apart forever
+    -- so the clusters keep apart forever
     pub apart_forever : (g : ℕ) → KeepApart rule cells clusters g
     apart_forever g =
         let inside : g % L ≤ L = omega arith in
@@ -87,7 +87,7 @@ map_fixed f [] same k d low = absurd (omega arith)
 map_fixed f (part ∷ parts) same zero d low = ap (λ (list : List (List Cell)). get_or list 0 part) same
 map_fixed f (part ∷ parts) same (suc k) d low = map_fixed f parts (ap (λ (list : List (List Cell)). drop 1 list) same) k d (omega arith)
 
--- clusters that were run for some generations and are themselves again
+-- clusters that keep apart until each of them is itself again keep apart forever
 pub apart_once_back : (rule : Numbers) (cells : List Cell) (clusters alone : List (List Cell)) (L : ℕ) → 1 ≤ L → InOrder cells → Partition cells clusters
     → alone ≡ map (λ part. after rule part L) clusters → alone ≡ clusters → ((g : ℕ) → g ≤ L → KeepApart rule cells clusters g)
     → (g : ℕ) → KeepApart rule cells clusters g

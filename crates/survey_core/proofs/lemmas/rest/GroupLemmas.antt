@@ -1,4 +1,4 @@
--- Groups of parts that stay apart: the whole runs as the groups do, each alone, and a group as its parts do in the whole.
+-- Groups of parts that stay apart: all parts keep apart in the whole if and only if they do in each group.
 use Rattle.std.proofs.Common.{◌≡◌, ◌≢◌, ◌==◌, ◌∙◌, ◌+◌, ◌<◌, ◌≤◌, ◌||◌, ap, sym, refl, subst, ℕ, zero, suc, Bool, true, false, cond, List, [], ◌∷◌}
 use Rattle.std.proofs.Common.{All, AllPairs, arith, filter, flat_map, get_or, eq-or-lt_of_le, inl, inr, ◌⊎◌, length, map, nat_lt, take, ◌++◌}
 use Rattle.std.specs.List.{list_any}
@@ -40,7 +40,7 @@ members-none k parts = refl
 itself : (k : ℕ) → (k == k) ≡ true
 itself k = (Decides-eqb k k).1 refl
 
--- what holds of all parts holds of those of a group
+-- what holds for all parts holds for those of a group
 pub members_all : (P : List Cell → Type 0) (k : ℕ) (gs : List ℕ) (parts : List (List Cell)) → All P parts → All P (members k gs parts)
 members_all P k [] parts all = subst (All P) (sym (members-none k parts)) (λ i d low. absurd (omega arith))
 members_all P k (g ∷ gs) [] all = subst (All P) (sym (members-nil k (g ∷ gs))) all
@@ -51,7 +51,7 @@ members_all P k (g ∷ gs) (part ∷ parts) all =
     go false more = more
     go true more = All-cons P part (members k gs parts) (all 0 part (omega arith)) more
 
--- no more than the group has numbers
+-- a group has at most as many parts as its number has occurrences
 pub members_few : (k : ℕ) (gs : List ℕ) (parts : List (List Cell)) → length (members k gs parts) ≤ length (filter (λ (g : ℕ). g == k) gs)
 members_few k [] parts = let none = ap length (members-none k parts) in omega (arith, none)
 members_few k (g ∷ gs) [] = let none = ap length (members-nil k (g ∷ gs)) in omega (arith, none)
@@ -69,7 +69,7 @@ members_few k (g ∷ gs) (part ∷ parts) =
 pub counted_more : (count n : ℕ) → count ≤ n → (count ≤ n + 1) × (count + 1 ≤ n + 1)
 counted_more count n few = (omega arith, omega arith)
 
--- and the other way round
+-- what holds for all parts of a group holds for each part that has the group's number
 pub member_has : (P : List Cell → Type 0) (k : ℕ) (gs : List ℕ) (parts : List (List Cell)) (i : ℕ) (d : List Cell) → All P (members k gs parts)
     → i < length parts → i < length gs → get_or gs i 0 ≡ k → P (get_or parts i d)
 member_has P k [] parts i d all low there is = absurd (omega arith)
@@ -84,7 +84,7 @@ member_has P k (g ∷ gs) (part ∷ parts) (suc i) d all low there is =
     go false more = more
     go true more = λ j e below. more (suc j) e (omega arith)
 
--- pairs of parts, and pairs of a group
+-- what holds for all pairs of parts holds for the pairs in a group
 pub members_pairs : (R : List Cell → List Cell → Type 0) (k : ℕ) (gs : List ℕ) (parts : List (List Cell)) → AllPairs R parts
     → AllPairs R (members k gs parts)
 members_pairs R k [] parts pairs = subst (AllPairs R) (sym (members-none k parts)) (λ i j d lt low. absurd (omega arith))
@@ -130,7 +130,7 @@ pairs_of_groups R (g ∷ gs) (part ∷ parts) same each far =
         split false e = far 0 (suc j) d (omega arith) (omega arith)
             (λ is. false≢true (sym e ∙ ap (λ (n : ℕ). n == g) (sym is) ∙ itself g))
 
--- a test that no other group's part passes has the same answer on all parts as on the members
+-- if only parts of this group can pass a test, it has the same answer on all parts as on the group's parts
 pub any_members : (p : List Cell → Bool) (k : ℕ) (gs : List ℕ) (parts : List (List Cell)) → length gs ≡ length parts
     → ((j : ℕ) (d : List Cell) → j < length parts → get_or gs j 0 ≢ k → p (get_or parts j d) ≡ false)
     → list_any p parts ≡ list_any p (members k gs parts)
@@ -149,11 +149,11 @@ any_members p k (g ∷ gs) (part ∷ parts) same none =
 
 -- ---- what a cell sees of some parts
 
--- no part is seen from the cell
+-- no part is near the cell
 abbrev pub NoneNear : Numbers → List (List Cell) → ℕ → Cell → Type 0
 NoneNear rule parts g c = All (λ part. IsFar c (after rule part g)) parts
 
--- some part is
+-- some part is near the cell
 pub record SomeNear (rule : Numbers) (parts : List (List Cell)) (g : ℕ) (c : Cell) : Type 0 where
   pub place : ℕ
   pub within : place < length parts
@@ -172,7 +172,7 @@ none_or_some rule (part ∷ parts) g c = go (far_or_near c (after rule part g)) 
         inr (record { place = suc s.place; within = let low : s.place < length parts = s.within in omega arith; cell = s.cell; alive = s.alive; near = s.near })
     go (inl far) (inl none) = inl (All-cons (λ (p : List Cell). IsFar c (after rule p g)) part parts far none)
 
--- a member that is near is a part of the group
+-- a part of the group that is near the cell is among all parts, with the group's number
 pub member_place : (rule : Numbers) (k : ℕ) (gs : List ℕ) (parts : List (List Cell)) (g : ℕ) (c : Cell) → SomeNear rule (members k gs parts) g c
     → (s : SomeNear rule parts g c) × (get_or gs s.place 0 ≡ k)
 member_place rule k [] parts g c m =
@@ -204,7 +204,7 @@ member_place rule k (h ∷ gs) (part ∷ parts) g c m =
     go false e m more = later (more m)
     go true e m more = first e m.place m.within m.cell m.alive m.near more
 
--- up to generation g the parts, each run alone, are together the whole
+-- in generation g the parts, each run alone, are together the whole
 abbrev pub AddUp : Numbers → List Cell → List (List Cell) → ℕ → Type 0
 AddUp rule whole parts g = (c : Cell) → has (after rule whole g) c ≡ list_any (λ part. has (after rule part g) c) parts
 
@@ -216,7 +216,7 @@ list_any-none p (part ∷ parts) none =
 pub next_at : (rule : Numbers) (S : List Cell) (g : ℕ) (c : Cell) → has (after rule S (suc g)) c ≡ lives rule (after rule S g) c
 next_at rule S g c = ap (λ (T : List Cell). has T c) (after-suc rule S g) ∙ has-next rule (after rule S g) c
 
--- where nothing is near, nothing is alive in the next generation: in no part, and not in the whole
+-- a cell that no part is near is dead in the next generation, in each part and in the whole
 pub none_next : (rule : Numbers) (whole : List Cell) (parts : List (List Cell)) (g : ℕ) (c : Cell) → AddUp rule whole parts g → NoneNear rule parts g c
     → has (after rule whole (suc g)) c ≡ list_any (λ part. has (after rule part (suc g)) c) parts
 none_next rule whole parts g c add none =
@@ -305,7 +305,7 @@ module _ (rule : Numbers) (cells : List Cell) (groups : List ℕ) (parts : List 
         let across : king_distance s.cell e ≤ 1 + king_distance c e = triangle s.cell c e 1 (king_distance c e) (omega arith) (omega arith) in
         omega arith
 
-    -- so it becomes in the whole what it becomes in the group
+    -- so such a cell becomes in the whole what it becomes in the group of the part
     as_in_group : (g : ℕ) (c : Cell) → g ≤ n → (s : SomeNear rule parts g c) → AddUp rule cells parts g
         → AddUp rule (union (get_or groups s.place 0)) (members (get_or groups s.place 0) groups parts) g
         → has (after rule cells (suc g)) c ≡ has (after rule (union (get_or groups s.place 0)) (suc g)) c
@@ -321,7 +321,7 @@ module _ (rule : Numbers) (cells : List Cell) (groups : List ℕ) (parts : List 
         ∙ sym (adds d))
         ∙ sym (next_at rule (union (get_or groups s.place 0)) g c)
 
-    -- and no part of another group is alive there
+    -- in the next generation no part of another group is alive at such a cell
     as_in_members : (g : ℕ) (c : Cell) → g ≤ n → (s : SomeNear rule parts g c)
         → list_any (λ part. has (after rule part (suc g)) c) parts
         ≡ list_any (λ part. has (after rule part (suc g)) c) (members (get_or groups s.place 0) groups parts)
@@ -387,7 +387,7 @@ module _ (rule : Numbers) (cells : List Cell) (groups : List ℕ) (parts : List 
         (λ h below. keeps_adds rule cells parts h (whole h below)) g low)
         (members_pairs (LaterOff rule g) k groups parts (keeps_off rule cells parts g (whole g low)))
 
--- a part alone, or none, keeps apart
+-- fewer than two parts keep apart
 pub alone_keeps : (rule : Numbers) (parts : List (List Cell)) (g : ℕ) → length parts < 2 → All InOrder parts → KeepApart rule (union_of parts) parts g
 alone_keeps rule [] g low order =
     keeps_from rule (union_of []) [] g (λ c. ap (λ (S : List Cell). has S c) (after-empty rule g)) (λ i j d lt there. absurd (omega arith))
@@ -404,7 +404,7 @@ alone_keeps rule (part ∷ []) g low order =
         (λ c. union_has (part ∷ []) c ∙ sym (or_none (has part c)))
 alone_keeps rule (part ∷ other ∷ parts) g low order = absurd (omega arith)
 
--- what holds of each group before one holds with it too
+-- what holds below n and at n holds below n + 1
 pub below_more : (P : ℕ → Type 0) (n : ℕ) → ((k : ℕ) → k < n → P k) → P n → (k : ℕ) → k < n + 1 → P k
 below_more P n before here k low = elim (eq-or-lt_of_le (below k n low)) [
   | inl is ↦ subst P (sym is) here
@@ -453,7 +453,7 @@ members_more k gs parts i d low same =
     length_take : {X : Type 0} (xs : List X) (i : ℕ) → i < length xs → length (take i xs) ≡ i
     length_take xs i h = length-take-le i xs (omega arith)
 
--- the next part is one of another group, or one more of the group
+-- the next part is in another group, or is one more part of the group
 pub members_other : (k : ℕ) (gs : List ℕ) (parts : List (List Cell)) (i : ℕ) → i < length parts → length gs ≡ length parts → get_or gs i 0 ≢ k
     → members k (take (i + 1) gs) (take (i + 1) parts) ≡ members k (take i gs) (take i parts)
 members_other k gs parts i low same ne =

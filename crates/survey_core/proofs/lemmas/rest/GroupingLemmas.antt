@@ -20,7 +20,7 @@ use Rattle.survey_core.specs.rest.Rest.{RestsAs}
 use Rattle.survey_core.specs.shapes.Envelopes.{AreEnvelopes, StayApart}
 use Rattle.survey_core.proofs.lemmas.rest.GroupLemmas.{group_keeps, whole_keeps}
 
--- whatever stands for a place that isn't there
+-- the default of `get_or` doesn't matter at places of the list
 pub stay_default : (horizon : ℕ) (envelopes : List EnvelopeBounds) (i j : ℕ) (d e f : EnvelopeBounds) → i < length envelopes → j < length envelopes
     → StayApart horizon (get_or envelopes i e) (get_or envelopes j f) → StayApart horizon (get_or envelopes i d) (get_or envelopes j d)
 stay_default horizon envelopes i j d e f one other apart =
@@ -60,7 +60,7 @@ renamed_other from to k differs = go (k == from) refl
     go true e = absurd (differs (eqb-true _ _ e))
     go false e = refl
 
--- one group of the list more has its number
+-- one more entry of the list is renamed
 pub renamed_more : (from to i : ℕ) (old now : List ℕ) (number : ℕ) → i < length now → number ≡ renamed from to (get_or now i 0)
     → ((k : ℕ) → k < i → get_or now k 0 ≡ renamed from to (get_or old k 0)) → ((k : ℕ) → i ≤ k → get_or now k 0 ≡ get_or old k 0)
     → (k : ℕ) → k < i + 1 → get_or (set now i number) k 0 ≡ renamed from to (get_or old k 0)
@@ -88,13 +88,13 @@ pub renamed_coarser : (groups later : List ℕ) (from to : ℕ) → AreRenamed f
 renamed_coarser groups later from to made a b low there ne = λ same.
     ne (made a low ∙ ap (renamed from to) same ∙ sym (made b there))
 
--- the two are in one group then
+-- after the renaming, the two are in the same group
 pub renamed_pair : (groups later : List ℕ) (from to i j : ℕ) → AreRenamed from to groups later → i < length groups → j < length groups
     → get_or groups i 0 ≡ from → get_or groups j 0 ≡ to → get_or later i 0 ≡ get_or later j 0
 renamed_pair groups later from to i j made low there one other =
     made i low ∙ renamed_from from to (get_or groups i 0) one ∙ sym (made j there ∙ renamed_to from to (get_or groups j 0) other)
 
--- the groups of one cluster more are right
+-- the pairs are right for one more envelope
 pub pairs_more : (horizon : ℕ) (envelopes : List EnvelopeBounds) (old new : List ℕ) (place : ℕ) → place < length envelopes → length old ≡ length envelopes
     → Coarser old new → ((i j : ℕ) → j < i → i < place → PairIsRight horizon envelopes old i j)
     → ((j : ℕ) → j < place → PairIsRight horizon envelopes new place j) → (i j : ℕ) → j < i → i < place + 1 → PairIsRight horizon envelopes new i j
@@ -106,7 +106,7 @@ pairs_more horizon envelopes old new place there count coarser before here i j l
     in_old : (k : ℕ) → k < place → k < length old
     in_old k less = subst (λ (n : ℕ). k < n) (sym count) (omega (arith, less, there))
 
--- a group of its own, numbered by its place
+-- an envelope gets a group of its own, numbered by its place
 pub numbered : (envelopes : List EnvelopeBounds) (groups : List ℕ) (place : ℕ) → place < length envelopes → AreNumbers envelopes groups
     → AreNumbers envelopes (set groups place place)
 numbered envelopes groups place there are = record {
@@ -120,7 +120,7 @@ numbered envelopes groups place there are = record {
   ];
 }
 
--- and the pairs before it are right as they were
+-- the pairs of earlier envelopes are still right
 pub numbered_pairs : (horizon : ℕ) (envelopes : List EnvelopeBounds) (groups : List ℕ) (place : ℕ)
     → ((i j : ℕ) → j < i → i < place → PairIsRight horizon envelopes groups i j)
     → (i j : ℕ) → j < i → i < place → PairIsRight horizon envelopes (set groups place place) i j
@@ -128,7 +128,7 @@ numbered_pairs horizon envelopes groups place before i j lt low d ne =
     before i j lt low d (λ same. ne (get_or-set_other groups place i place 0 (below_differs i place low) ∙ same
     ∙ sym (get_or-set_other groups place j place 0 (below_differs j place (omega (arith, lt, low))))))
 
--- one pair more of a cluster and one before it is right
+-- one more pair of this envelope and an earlier one is right
 pub places_more : (horizon : ℕ) (envelopes : List EnvelopeBounds) (old new : List ℕ) (place other : ℕ) → place < length envelopes → length old ≡ length envelopes
     → other < place → Coarser old new → ((j : ℕ) → j < other → PairIsRight horizon envelopes old place j) → PairIsRight horizon envelopes new place other
     → (j : ℕ) → j < other + 1 → PairIsRight horizon envelopes new place j
@@ -138,12 +138,12 @@ places_more horizon envelopes old new place other there count before coarser eac
       (subst (λ (n : ℕ). j < n) (sym count) (omega (arith, less, before, there))) ne)
 ]
 
--- an element of a list that has one
+-- an element of a nonempty list
 pub first_of : (envelopes : List EnvelopeBounds) (i : ℕ) → i < length envelopes → EnvelopeBounds
 first_of [] i low = absurd (omega arith)
 first_of (s ∷ ss) i low = s
 
--- envelopes of different groups stay apart, whichever stands first
+-- parts whose envelopes are in different groups stay apart, in either order
 pub groups_stay_apart : (rule : Numbers) (limit horizon : ℕ) (parts : List (List Cell)) (envelopes : List EnvelopeBounds) (groups : List ℕ)
     → AllPairs LieApart parts → AreEnvelopes rule limit parts envelopes → AreGroups horizon envelopes groups → GroupsStayApart rule groups parts horizon
 groups_stay_apart rule limit horizon parts envelopes groups apart are right i j d g one other ne low = go (nat_lt i j) refl
@@ -200,7 +200,7 @@ groups_of_rest rule profile cells clusters envelopes groups order found right re
     group_keeps rule cells groups clusters profile.horizon order (right.numbers.count ∙ found.count)
     (groups_stay_apart rule profile.period profile.horizon clusters envelopes groups (apart_law cells clusters rest.parts) found right) (partition_law cells clusters rest.parts) rest.apart k
 
--- what is given if a test is passed
+-- the value of `then_some` has a property that follows from the test
 pub some_if : {X : Type 0} (b : Bool) (x : X) (P : X → Type 0) → (b ≡ true → P x) → IfSome (then_some b x) P
 some_if true x P given = given refl
 some_if false x P given = tt

@@ -1,4 +1,4 @@
--- Looks that are known to say no.
+-- Checkpoints that are known not to be at rest.
 use Rattle.std.proofs.Common.{◌≡◌, ◌∙◌, ◌+◌, ◌%◌, ℕ, Bool, true, false, List, ap, arith, get_or-set_other, inl, inr, replicate, set, sym, subst}
 use Rattle.std.proofs.lemmas.List.{get_or-replicate}
 use Rattle.std.proofs.lemmas.Bool.{cases_eq, false≢true}
@@ -11,7 +11,7 @@ use Rattle.survey_core.specs.Profiles.{Settling}
 use Rattle.survey_core.specs.rest.Rest.{IsAtRest}
 use Rattle.survey_core.proofs.lemmas.FindingLemmas.{after-then}
 
--- where nothing is known, nothing is claimed
+-- if nothing is known, nothing is claimed
 pub none_known : (rule : Numbers) (profile : Settling) (cells : List Cell) (t : ℕ) → AreKnownRestless rule profile cells t (replicate 2 false)
 none_known rule profile cells t n known = absurd (false≢true (sym (get_or-replicate 2 ((t + n) % 2) false false (omega arith)) ∙ known))
 
@@ -24,7 +24,7 @@ known_now rule profile cells t known_restless are known rest =
     same : t + 0 ≡ t
     same = omega arith
 
--- and s generations later the same is known
+-- s generations later the same is known
 pub known_later : (rule : Numbers) (profile : Settling) (cells : List Cell) (t s : ℕ) (known_restless : List Bool) → AreKnownRestless rule profile cells t known_restless
     → AreKnownRestless rule profile (after rule cells s) (t + s) known_restless
 known_later rule profile cells t s known_restless are n known rest =
@@ -33,7 +33,7 @@ known_later rule profile cells t s known_restless are n known rest =
     same : t + (s + n) ≡ (t + s) + n
     same = omega arith
 
--- one checkpoint more that is not at rest, where an even number of generations changes nothing
+-- one more checkpoint is known not to be at rest, if an even number of generations changes nothing
 pub known_more : (rule : Numbers) (profile : Settling) (cells : List Cell) (t : ℕ) (known_restless : List Bool) → AreKnownRestless rule profile cells t known_restless
     → ¬ IsAtRest rule profile cells → ((n : ℕ) → n % 2 ≡ 0 → after rule cells n ≡ cells) → AreKnownRestless rule profile cells t (set known_restless (t % 2) true)
 known_more rule profile cells t known_restless are moves still n known = elim (cases_eq ((t + n) % 2) (t % 2)) [

@@ -25,7 +25,7 @@ pub cluster_some : (cells cluster : List Cell) → IsCluster cells cluster → c
 cluster_some cells cluster is none =
     false≢true (ap (λ (c : List Cell). has c is.start) (sym none) ∙ (is.members is.start).1 (linked-itself cells is.start is.has_start))
 
--- and lies where its pattern lies
+-- a cluster lies within each reach within which its pattern lies
 pub cluster_within : (reach : ℕ) (cells cluster : List Cell) → lies_within reach cells ≡ true → IsCluster cells cluster → lies_within reach cluster ≡ true
 cluster_within reach cells cluster within is =
     has-list_all _ cluster (λ c e. list_all-has _ cells within c (linked-has cells is.start c ((is.members c).0 e)))
@@ -42,20 +42,20 @@ apart_at_once rule cells clusters are =
 
 -- ---- the clusters beside the whole
 
--- each cluster later lies in order
+-- each generation of each cluster is in order
 pub alone_in_order : (rule : Numbers) (clusters : List (List Cell)) (g : ℕ) → All InOrder clusters
     → All InOrder (map (λ part. after rule part g) clusters)
 alone_in_order rule clusters g order =
     All-map InOrder (λ part. after rule part g) clusters (λ k d low. in_order-after rule (get_or clusters k d) g (order k d low))
 
--- and near the origin
+-- clusters near the origin don't reach the edge of the plane in up to 4096 generations
 pub alone_near : (rule : Numbers) (clusters : List (List Cell)) (g : ℕ) → All (λ part. lies_within survey_reach part ≡ true) clusters → g ≤ 4096
     → All (λ part. lies_within 999999 part ≡ true) (map (λ part. after rule part g) clusters)
 alone_near rule clusters g near low =
     All-map (λ part. lies_within 999999 part ≡ true) (λ part. after rule part g) clusters
     (λ k d there. within_later survey_reach 999999 rule (get_or clusters k d) g (omega arith) (near k d there))
 
--- one generation more in which they keep apart
+-- the clusters keep apart for one more generation
 pub apart_more : (rule : Numbers) (cells : List Cell) (clusters : List (List Cell)) (g : ℕ) (whole : List Cell) (alone : List (List Cell))
     → whole ≡ after rule cells (g + 1) → alone ≡ map (λ part. after rule part (g + 1)) clusters
     → ((k : ℕ) → k ≤ g → KeepApart rule cells clusters k) → Partition whole alone → (k : ℕ) → k ≤ g + 1 → KeepApart rule cells clusters k
@@ -65,7 +65,7 @@ apart_more rule cells clusters g whole alone is_whole is_alone before now k low 
   | inr less ↦ before k (omega arith)
 ]
 
--- where all clusters recur and keep apart, the pattern is at rest; its clusters are the only ones that may say so
+-- the clusters of a pattern are unique, so a pattern at rest is at rest with them
 pub same_clusters : (rule : Numbers) (profile : Settling) (cells : List Cell) (clusters : List (List Cell)) → AreClusters cells clusters
     → IsAtRest rule profile cells → RestsAs rule profile cells clusters
 same_clusters rule profile cells clusters are (others, rest) =

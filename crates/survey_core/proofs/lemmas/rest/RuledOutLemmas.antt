@@ -17,7 +17,7 @@ use Rattle.survey_core.specs.shapes.RecurringShapes.{RecursWithin}
 use Rattle.survey_core.proofs.lemmas.rest.GroupLemmas.{keeps_adds}
 use Rattle.survey_core.proofs.lemmas.shapes.MemoLemmas.{never_recurs}
 
--- a cluster of a pattern is one of its clusters
+-- each cluster of a pattern is in the list of its clusters
 is_one_of : (cells cluster : List Cell) (clusters : List (List Cell)) → AreClusters cells clusters → IsCluster cells cluster
     → Any (λ one. one ≡ cluster) clusters
 is_one_of cells cluster clusters are is = go (are.every is.start is.has_start)
@@ -46,7 +46,7 @@ rest_recurs rule profile cells cluster (clusters, rest) is = go (is_one_of cells
     go : Any (λ one. one ≡ cluster) clusters → RecursWithin rule profile.period cluster
     go (k, one, low, at, same) = subst (RecursWithin rule profile.period) same (subst (RecursWithin rule profile.period) at (rest.back k one low))
 
--- and none of them diverges
+-- no cluster of a pattern at rest diverges
 rest_holds : (rule : Numbers) (profile : Settling) (cells cluster : List Cell) → IsAtRest rule profile cells → IsCluster cells cluster
     → Diverges rule cells cluster profile.horizon → ⊥
 rest_holds rule profile cells cluster (clusters, rest) is strays = go (is_one_of cells cluster clusters rest.parts is)
@@ -60,7 +60,7 @@ rest_holds rule profile cells cluster (clusters, rest) is strays = go (is_one_of
         let some = list_any-from_Any (λ (part : List Cell). has (after rule part g) strays.cell) clusters (k, one, low, at, there) in
         false≢true (sym strays.missing ∙ keeps_adds rule cells clusters g (rest.apart g strays.early) strays.cell ∙ some)
 
--- so what is refused is not at rest
+-- so a pattern with a restless cluster isn't at rest
 pub ruled_out_moves : (rule : Numbers) (profile : Settling) (cells : List Cell) → HasRestlessCluster rule cells profile.horizon profile.period
     → ¬ IsAtRest rule profile cells
 ruled_out_moves rule profile cells refused rest = go refused.why
@@ -69,7 +69,7 @@ ruled_out_moves rule profile cells refused rest = go refused.why
     go (inl strays) = rest_holds rule profile cells refused.cluster rest refused.is strays
     go (inr never) = never_recurs rule profile.period refused.cluster never (rest_recurs rule profile cells refused.cluster rest refused.is)
 
--- the same, said of the same
+-- a restless cluster carries over to equal rules, patterns and numbers
 pub ruled_out_same : (r q : Numbers) (S T : List Cell) (h k p n : ℕ) → r ≡ q → S ≡ T → h ≡ k → p ≡ n → HasRestlessCluster r S h p → HasRestlessCluster q T k n
 ruled_out_same r q S T h k p n a b d e refused =
     subst (λ (v : ℕ). HasRestlessCluster q T k v) e

@@ -14,7 +14,7 @@ use Rattle.survey_core.specs.UnderWay.{survey_reach}
 use Rattle.survey_core.proofs.lemmas.rest.GroupLemmas.{members_one}
 use Rattle.survey_core.proofs.lemmas.PlaneLemmas.{within_later}
 
--- where all are, each is
+-- if all clusters are themselves again, each of them is
 pub back_at : (list : List Alone) (i : ℕ) (alone : Alone) → i < length list → alone ≡ get_or list i alone → latest_of list ≡ clusters_of list
     → alone.latest ≡ alone.cluster
 back_at list i alone low is same =
@@ -22,7 +22,7 @@ back_at list i alone low is same =
     ∙ ap (λ (all : List (List Cell)). get_or all i []) same
     ∙ get_or-map (λ (a : Alone). a.cluster) list i alone [] low ∙ ap (λ (a : Alone). a.cluster) (sym is)
 
--- one more that is
+-- one more cluster is itself again
 pub back_more : (list : List Alone) (i : ℕ) (alone : Alone) → i < length list → alone ≡ get_or list i alone
     → latest_of (take i list) ≡ clusters_of (take i list) → alone.latest ≡ alone.cluster
     → latest_of (take (i + 1) list) ≡ clusters_of (take (i + 1) list)
@@ -55,7 +55,7 @@ pub clusters_are : (rule : Numbers) (g : ℕ) (clusters : List (List Cell)) (lis
     → clusters_of list ≡ clusters
 clusters_are rule g clusters list is = ap clusters_of is ∙ clusters_alone rule g clusters
 
--- a generation later
+-- the clusters one generation later
 pub later_is : (rule : Numbers) (g : ℕ) (clusters : List (List Cell)) (list later : List Alone) → list ≡ map (alone_at rule g) clusters
     → later ≡ map (stepped rule) list → later ≡ map (alone_at rule (g + 1)) clusters
 later_is rule g clusters list later is stepped_is = stepped_is ∙ ap (map (stepped rule)) is ∙ stepped_alone rule g clusters
@@ -74,7 +74,7 @@ latest_near rule g clusters list is low near =
     (All-map (λ (a : Alone). lies_within 999999 a.latest ≡ true) (alone_at rule g) clusters
     (λ k d there. within_later survey_reach 999999 rule (get_or clusters k d) g (omega arith) (near k d there)))
 
--- a cluster more of the group, which hasn't been run yet
+-- one more cluster of the group, which hasn't been run yet
 pub start_more : (rule : Numbers) (k : ℕ) (gs : List ℕ) (parts : List (List Cell)) (i : ℕ) (d : List Cell) (list : List Alone) (alone : Alone)
     → i < length parts → length gs ≡ length parts → get_or gs i 0 ≡ k → list ≡ map (alone_at rule 0) (members k (take i gs) (take i parts))
     → alone ≡ alone_at rule 0 (get_or parts i d) → list ++ alone ∷ [] ≡ map (alone_at rule 0) (members k (take (i + 1) gs) (take (i + 1) parts))
@@ -86,7 +86,7 @@ start_more rule k gs parts i d list alone low same number are is =
 prefix : (rule : Numbers) (list : List Alone) (i : ℕ) → i < length list → length (map (stepped rule) (take i list)) ≡ i
 prefix rule list i low = length-map _ _ ∙ length-take-le i list (omega arith)
 
--- while each is run for a generation, one after another: the next one is as it was, and then it is stepped
+-- The clusters are stepped one after another: the next one is still as it was, and then it is stepped.
 pub as_it_was : (rule : Numbers) (list now : List Alone) (i : ℕ) (d : Alone) → i < length list → now ≡ map (stepped rule) (take i list) ++ drop i list
     → get_or now i d ≡ get_or list i d
 as_it_was rule list now i d low is =
@@ -107,7 +107,7 @@ step_more rule list now i d latest low is later =
     ∙ sym (append_assoc (map (stepped rule) (take i list)) (stepped rule (get_or list i d) ∷ []) (drop (i + 1) list))
     ∙ ap (λ (all : List Alone). all ++ drop (i + 1) list) (sym (map_more (stepped rule) list i d low))
 
--- at the end all are
+-- at the end all clusters are stepped
 pub all_stepped : (rule : Numbers) (list now : List Alone) (i : ℕ) → length list ≤ i → now ≡ map (stepped rule) (take i list) ++ drop i list
     → now ≡ map (stepped rule) list
 all_stepped rule list now i end is =

@@ -43,7 +43,7 @@ shifted-twice : (sx sy tx ty : ℤ) (cells : List Cell) → shifted tx ty (shift
 shifted-twice sx sy tx ty [] = refl
 shifted-twice sx sy tx ty (c ∷ cs) = λ i. cell_at (one_more c.x sx tx i) (one_more c.y sy ty i) ∷ shifted-twice sx sy tx ty cs i
 
--- what recurs moves by its shift each period
+-- a pattern that recurs moves by its displacement in each period
 pub after_cycles : SpaceshipsMoveByCycles
 after_cycles rule cells p dx dy order back zero r =
     ap (after rule cells) (ap (λ (m : ℕ). m + r) (zero-mul p) ∙ zero-add r) ∙ sym (shifted-none (after rule cells r))
@@ -121,7 +121,7 @@ in_cycle rule limit cells s p n r is (inr still) low =
 
 -- ---- clear boxes
 
--- what begins more than two past an end, and what lies before that end
+-- if a box begins more than two past the end of another, coordinates in the two differ by 3 or more
 far_past : (end begin x t u a b : ℤ) → is_past end (pos 0) begin x ≡ true → x +ℤ t ≡ u → a ≤ℤ (end +ℤ t) → (begin +ℤ u) ≤ℤ b → 3 ≤ distance a b
 far_past end begin x t u a b h e low high =
     let less : ((end +ℤ pos 0) +ℤ pos 2) <ℤ (begin +ℤ x) = strict _ _ h in
@@ -138,7 +138,7 @@ far_ahead end begin x t u a b h e low high =
     strict : (m n : ℤ) → int_lt m n ≡ true → m <ℤ n
     strict m n k = grind (arith, ints)
 
--- cells of boxes that are clear of each other in a cycle
+-- cells of boxes that are clear of each other in cycle n are at king distance 3 or more
 clear_apart : (one other : EnvelopeBounds) (n : ℕ) (c d : Cell)
     → is_clear one.bounds other.bounds (times n (other.recurrence.dx -ℤ one.recurrence.dx)) (times n (other.recurrence.dy -ℤ one.recurrence.dy)) ≡ true
     → IsWithin (carried n one) c → IsWithin (carried n other) d → 3 ≤ king_distance c d
@@ -173,7 +173,7 @@ clear_apart one other n c d clear v w = elim (or_cases _ _ clear) [
 abbrev resting : Bounds → EnvelopeBounds
 resting b = record { recurrence = record { period = 1; dx = pos 0; dy = pos 0 }; bounds = b }
 
--- cells of boxes that are clear of each other
+-- cells of boxes that are clear of each other are at king distance 3 or more
 pub clear_is_far : (one other : Bounds) (c d : Cell) → is_clear one other (pos 0) (pos 0) ≡ true → IsWithin one c → IsWithin other d → 3 ≤ king_distance c d
 clear_is_far one other c d clear v w = clear_apart (resting one) (resting other) 0 c d clear (same one c v) (same other d w)
   where
@@ -185,7 +185,7 @@ clear_is_far one other c d clear v w = clear_apart (resting one) (resting other)
       bottom = omega (arith, ints, h.bottom);
     }
 
--- boxes that are clear in all cycles up to the horizon
+-- patterns stay apart if their boxes are clear of each other in all cycles up to the horizon
 pub apart_by_cycles : (horizon p : ℕ) (one other : EnvelopeBounds) → 1 ≤ p → Serves p one → Serves p other → StayClear (horizon / p + 1) one other
     → StayApart horizon one other
 apart_by_cycles horizon p one other some s t clear rule limit cells others is that apart g low c d in_one in_other =
@@ -201,7 +201,7 @@ apart_by_cycles horizon p one other some s t clear rule limit cells others is th
     (recursion_from_All (IsWithin (carried (g / p) other)) (after rule others g)
     (subst (λ (m : ℕ). All (IsWithin (carried (g / p) other)) (after rule others m)) (sym whole) (in_cycle rule limit others other p (g / p) (g % p) that t inside))) in_other)
 
--- boxes of two patterns that don't move, if they are clear of each other at the start
+-- patterns that don't move stay apart if their boxes are clear of each other
 pub still_apart : (horizon : ℕ) (one other : EnvelopeBounds) → (one.recurrence.dx ≡ pos 0) × (one.recurrence.dy ≡ pos 0)
     → (other.recurrence.dx ≡ pos 0) × (other.recurrence.dy ≡ pos 0) → is_clear one.bounds other.bounds (pos 0) (pos 0) ≡ true → StayApart horizon one other
 still_apart horizon one other s t clear =
@@ -223,7 +223,7 @@ still_life_stays rule limit cells envelope is still g =
     let none : g % 1 ≡ 0 = omega arith in
     after_remainder rule cells 1 g back ∙ ap (after rule cells) none ∙ after-none rule cells
 
--- so two of them stay apart, if they are
+-- so two still lives that are apart stay apart
 pub still_lives_stay_apart : (horizon : ℕ) (one other : EnvelopeBounds) → IsStillLife one → IsStillLife other → StayApart horizon one other
 still_lives_stay_apart horizon one other s t rule limit cells others is that apart g low =
     subst (λ (S : List Cell). LieApart S (after rule others g)) (sym (still_life_stays rule limit cells one is s g))
@@ -261,7 +261,7 @@ clear_more one other n x y is_x is_y before now m low = elim (eq-or-lt_of_le (m_
     m_low : (m : ℕ) → m < n + 1 → m ≤ n
     m_low m h = omega arith
 
--- what holds in a cycle, and in the cycle after each in which it holds, holds in all later cycles
+-- induction from cycle n: a property that carries over from each cycle to the next holds in all later cycles
 in_later_cycles : (P : ℕ → Type 0) (n : ℕ) → ((m : ℕ) → P m → P (suc m)) → P n → (m : ℕ) → n ≤ m → P m
 in_later_cycles P n more now zero low = subst P (omega (arith, low)) now
 in_later_cycles P n more now (suc m) low = elim (eq-or-lt_of_le low) [
@@ -269,7 +269,7 @@ in_later_cycles P n more now (suc m) low = elim (eq-or-lt_of_le low) [
   | inr less ↦ more m (in_later_cycles P n more now m (omega (arith, less)))
 ]
 
--- what begins past an end, and isn't led back, stays past it
+-- a box that begins past an end, and doesn't move back, stays past it
 past_later : (end begin d : ℤ) (n m : ℕ) → n ≤ m → (is_past end (pos 0) begin (times n d) && int_le (pos 0) d) ≡ true
     → is_past end (pos 0) begin (times m d) ≡ true
 past_later end begin d n m low h =
@@ -279,7 +279,7 @@ past_later end begin d n m low h =
     one : (t : ℤ) → is_past end (pos 0) begin t ≡ true → int_le (pos 0) d ≡ true → is_past end (pos 0) begin (t +ℤ d) ≡ true
     one t there on = grind (arith, ints)
 
--- and so does what is left behind
+-- a box that ends before a begin, and doesn't move forward, stays before it
 ahead_later : (end begin d : ℤ) (n m : ℕ) → n ≤ m → (is_past end (times n d) begin (pos 0) && int_le d (pos 0)) ≡ true
     → is_past end (times m d) begin (pos 0) ≡ true
 ahead_later end begin d n m low h =
@@ -303,7 +303,7 @@ parting_clear one other dx dy n m low =
     either (either (either (past_later one.right other.left dx n m low) (ahead_later other.right one.left dx n m low))
     (past_later one.bottom other.top dy n m low)) (ahead_later other.bottom one.top dy n m low)
 
--- so once they part nothing more has to be asked
+-- so once the boxes part, no later cycle has to be tested
 pub clear_from_here : (one other : EnvelopeBounds) (n cycles : ℕ) (x y s t : ℤ) → s ≡ other.recurrence.dx -ℤ one.recurrence.dx
     → t ≡ other.recurrence.dy -ℤ one.recurrence.dy → x ≡ times n s → y ≡ times n t → StayClear n one other
     → is_parting one.bounds other.bounds x y s t ≡ true → StayClear cycles one other
@@ -315,7 +315,7 @@ clear_from_here one other n cycles x y s t is_s is_t is_x is_y before part m low
 
 -- ---- the box of all phases
 
--- a phase more
+-- the joint box contains one more phase
 pub phases_more : (phases : List (List Cell)) (n : ℕ) (bounds both box : Bounds) (phase : List Cell) → n < length phases → phase ≡ get_or phases n phase
     → ((c : Cell) → IsWithin bounds c → IsWithin both c) → ((c : Cell) → IsWithin box c → IsWithin both c) → All (IsWithin box) phase
     → ((g : ℕ) (none : List Cell) → g < n → All (IsWithin bounds) (get_or phases g none))
@@ -374,7 +374,7 @@ envelopes_more rule limit parts i part envelopes envelope items low at are is ma
     (subst (λ (prefix : List (List Cell)). AreEnvelopes rule limit prefix (envelopes ++ envelope ∷ [])) (sym (take_more parts i part low))
     (envelopes_push rule limit (take i parts) envelopes (get_or parts i part) envelope are (subst (λ (p : List Cell). IsEnvelope rule limit p envelope) at is)))
 
--- the envelopes of the first patterns, as many as there are envelopes
+-- the envelopes are those of the first patterns, as many as there are envelopes
 pub first_envelopes : (rule : Numbers) (limit : ℕ) (parts : List (List Cell)) (i : ℕ) (envelopes : List EnvelopeBounds) → i ≤ length parts
     → AreEnvelopes rule limit (take i parts) envelopes → AreEnvelopes rule limit (take (length envelopes) parts) envelopes
 first_envelopes rule limit parts i envelopes low are =
@@ -384,7 +384,7 @@ pub few_envelopes : (rule : Numbers) (limit : ℕ) (parts : List (List Cell)) (i
     → AreEnvelopes rule limit (take i parts) envelopes → length envelopes ≤ length parts
 few_envelopes rule limit parts i envelopes low are = subst (λ (n : ℕ). n ≤ length parts) (sym (are.count ∙ length-take-le i parts low)) low
 
--- one envelope more after those of other patterns
+-- one more envelope, after those of other patterns
 pub envelopes_after : (rule : Numbers) (limit : ℕ) (before parts : List (List Cell)) (i : ℕ) (part : List Cell) (envelopes : List EnvelopeBounds)
     (envelope : EnvelopeBounds) (items : List EnvelopeBounds) → i < length parts → part ≡ get_or parts i part
     → AreEnvelopes rule limit (before ++ take i parts) envelopes → IsEnvelope rule limit part envelope

@@ -75,7 +75,7 @@ stays_in_place r stays = go (int_eq r.dx (pos 0) && int_eq r.dy (pos 0)) refl
         let parts = and_parts (int_eq r.dx (pos 0)) (int_eq r.dy (pos 0)) e in
         ((Decides-int_eq r.dx (pos 0)).0 parts.0, (Decides-int_eq r.dy (pos 0)).0 parts.1)
 
--- and one that recurs in its place is no spaceship
+-- an object that recurs in its place is no spaceship
 no_ship : (period : ℕ) → kind_of (record { period = period; dx = pos 0; dy = pos 0 }) ≢ Ship
 no_ship period is = go (period == 1) is
   where
@@ -85,7 +85,7 @@ no_ship period is = go (period == 1) is
 
 -- ---- codes among objects and among clusters
 
--- what holds of the code of each object holds of each code that is counted
+-- what holds for the code of each object holds for each code that is counted
 pub listed_code : (objects : List (List ℕ × ℕ)) (code : List ℕ) → 1 ≤ count_of objects code → (P : List ℕ → Type 0)
     → All (λ object. P object.0) objects → P code
 listed_code [] code some P all = absurd (omega arith)
@@ -113,7 +113,7 @@ listed_some (object ∷ objects) some (suc k) d low =
 count_by-cons : (p : List ℕ → Bool) (y : List ℕ) (ys : List (List ℕ)) → count_by p (y ∷ ys) ≡ (0 + cond (p y) 1 0) + count_by p ys
 count_by-cons p y ys = sum_by-append (λ x. cond (p x) 1 0) (y ∷ []) ys
 
--- each cluster has one of the codes
+-- if each counted code has a property, each cluster has a code with it
 pub each_listed : (rule : Numbers) (limit : ℕ) (clusters : List (List Cell)) (codes : List (List ℕ))
     → AllZip (λ cluster code. IsCode rule cluster limit code) clusters codes
     → (Q : List ℕ → Type 0) → ((code : List ℕ) → 1 ≤ count_by (is_code code) codes → Q code)
@@ -135,7 +135,7 @@ each_listed rule limit (x ∷ xs) (y ∷ ys) all Q h (suc k) d low =
     more true n some = omega arith
     more false n some = omega arith
 
--- each code that is counted is that of a cluster
+-- each counted code is the code of a cluster
 of_a_cluster : (rule : Numbers) (limit : ℕ) (clusters : List (List Cell)) (codes : List (List ℕ))
     → AllZip (λ cluster code. IsCode rule cluster limit code) clusters codes → (code : List ℕ) → 1 ≤ count_by (is_code code) codes
     → (Q : List ℕ → Type 0) → All (λ cluster. (code : List ℕ) → IsCode rule cluster limit code → Q code) clusters → Q code
@@ -154,13 +154,13 @@ of_a_cluster rule limit (x ∷ xs) (y ∷ ys) all code some Q each =
 
 module _ (rule : Numbers) (limit : ℕ) (clusters : List (List Cell)) (objects : List (List ℕ × ℕ)) (counted : AreObjectsOf rule limit clusters objects)
   where
-    -- what holds of the code of each object holds of some code of each cluster
+    -- what holds for the code of each object holds for some code of each cluster
     pub of_clusters : (Q : List ℕ → Type 0) → All (λ object. Q object.0) objects
         → All (λ cluster. (code : List ℕ) × IsCode rule cluster limit code × Q code) clusters
     of_clusters Q all = each_listed rule limit clusters counted.codes counted.named Q
         (λ code some. listed_code objects code (subst (λ (n : ℕ). 1 ≤ n) (sym (counted.counts code)) some) Q all)
 
-    -- and what holds of the codes of each cluster holds of the code of each object
+    -- what holds for all codes of each cluster holds for the code of each object
     pub of_objects : (Q : List ℕ → Type 0) → All (λ cluster. (code : List ℕ) → IsCode rule cluster limit code → Q code) clusters
         → All (λ object. Q object.0) objects
     of_objects Q all k d low = of_a_cluster rule limit clusters counted.codes counted.named (get_or objects k d).0

@@ -1,4 +1,4 @@
--- What is known of a shape holds of each pattern that it is about.
+-- What is known of a shape holds for each pattern that it is about.
 use Rattle.std.proofs.Common.{◌≡◌, ◌∙◌, ◌+ℤ◌, Err, IfNone, IfOk, None, Ok, Option, Result, Some, refl, sym, subst, ℕ, ℤ, Bool, false, not, true, List, All, arith}
 use Rattle.std.proofs.lemmas.Int.{ints}
 use Rattle.std.proofs.lemmas.List.Elements.{All-map}
@@ -31,7 +31,7 @@ moved_bounds shift b = record {
 abbrev pub moved_envelope : ℤ × ℤ → EnvelopeBounds → EnvelopeBounds
 moved_envelope shift envelope = record { recurrence = envelope.recurrence; bounds = moved_bounds shift envelope.bounds }
 
--- what never recurs doesn't recur
+-- `NeverRecurs` contradicts `RecursWithin`
 pub never_recurs : (rule : Numbers) (limit : ℕ) (cells : List Cell) → NeverRecurs rule cells limit → ¬ RecursWithin rule limit cells
 never_recurs rule limit cells never (r, recurs) = never r.period r.dx r.dy recurs.some recurs.within recurs.back
 
@@ -65,7 +65,7 @@ envelope_known rule limit cells shift fact known about =
     (subst (λ (S : List Cell). IsEnvelope fact.rule fact.limit S (moved_envelope shift fact.envelope)) about.shape_is
     (envelope_moved shift fact.rule fact.limit fact.shape fact.envelope known.enveloped)))
 
--- and its code
+-- the code of a pattern that the fact is about
 pub code_known : (rule : Numbers) (limit : ℕ) (cells : List Cell) (shift : ℤ × ℤ) (fact : Fact) → IsKnown fact → IsAbout rule limit cells shift fact
     → IsCode rule cells limit fact.code
 code_known rule limit cells shift fact known about =
@@ -74,7 +74,7 @@ code_known rule limit cells shift fact known about =
     (subst (λ (S : List Cell). IsCode fact.rule S fact.limit fact.code) about.shape_is
     (codes_moved shift.0 shift.1 fact.rule fact.shape fact.limit fact.code known.enveloped.in_order known.named)))
 
--- two rules that don't differ
+-- two rules that don't differ are equal
 pub same_rules : (one other : Numbers) (differs : Bool) → differs ≡ not (same_rule one other) → differs ≡ false → one ≡ other
 same_rules one other differs told same = (rules_decide one other).0 (not_false (same_rule one other) (sym told ∙ same))
   where
@@ -82,7 +82,7 @@ same_rules one other differs told same = (rules_decide one other).0 (not_false (
     not_false true e = refl
     not_false false e = sym e
 
--- what is said of the others is said of all, of which they are a part
+-- if `None` refutes P, it refutes each Q that implies P
 pub none_of_part : {X E : Type 0} (result : Result (Option X) E) (P Q : Type 0) → (Q → P) → IfOk result (λ found. IfNone found (¬ P))
     → IfOk result (λ found. IfNone found (¬ Q))
 none_of_part (Ok None) P Q part never = λ all. never (part all)

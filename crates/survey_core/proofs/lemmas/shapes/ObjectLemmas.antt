@@ -28,7 +28,7 @@ use Rattle.plane_core.specs.plane.Rules.{Numbers}
 use Rattle.code_core.specs.Names.{IsCode}
 use Rattle.survey_core.specs.shapes.Objects.{AreObjects, CountsAreSome, IsCommonMultiple, IsLeastCommonMultiple, IsMultiple, IsOneMore, count_of, is_code, period_in}
 
--- a multiple of n is what n divides without a rest
+-- m is a multiple of n if and only if it is 0 modulo n
 pub multiple_then : (m n : ℕ) → IsTrue (nat_eq (m % n) 0) ↔ IsMultiple m n
 multiple_then m n = (
   λ e. (m / n, sym (div-add-mod m n) ∙ ap (λ (remainder : ℕ). n * (m / n) + remainder) ((Decides-eqb (m % n) 0).0 e) ∙ add-zero (n * (m / n)) ∙ mul_comm n (m / n)),
@@ -46,7 +46,7 @@ pub multiple_of_least : (objects : List (List ℕ × ℕ)) (l m : ℕ) → IsLea
     → IsMultiple m l
 multiple_of_least objects l m is common = divided m l ((dvd_iff_mod-eq-zero l).1 none)
   where
-    -- otherwise the remainder would be a smaller one
+    -- otherwise the remainder would be a smaller common multiple
     smaller : (m % l ≢ 0) → IsCommonMultiple objects (m % l)
     smaller some = record {
       some = omega (arith, some);
@@ -74,7 +74,7 @@ first_common n p b none m some (k, is) of_period = go k is
       | inr high ↦ subst (λ (x : ℕ). (b + 1) * n ≤ x) (sym is) (mul-le-mul_right n (omega (arith, high)))
     ]
 
--- the same if these are all multiples of n up to a number
+-- the same if the first b multiples of n are all its multiples up to `most`
 pub none_common : (n p b most : ℕ) → 1 ≤ n → most / n ≤ b → ((j : ℕ) → j < b → ¬ IsMultiple ((j + 1) * n) p) → (m : ℕ) → 1 ≤ m
     → IsMultiple m n → IsMultiple m p → most < m
 none_common n p b most positive all none m some of_one of_period = elim (cases_lt most m) [
@@ -113,11 +113,11 @@ least_more objects i one next item low there is some of_one of_item first = reco
 
 -- ---- codes
 
--- two texts that compare as equal are one
+-- two texts that compare as equal are equal
 pub same_code : (a b : List ℕ) → slice_cmp nat_cmp a b ≡ Equal → a ≡ b
 same_code a b e = slice_cmp-IsAntisymmetric nat_cmp-IsAntisymmetric a b e
 
--- the order in which two codes are compared doesn't matter
+-- `is_code` is symmetric
 pub is_code-sym : (a b : List ℕ) → is_code a b ≡ is_code b a
 is_code-sym a b = ap is_eq (nat_list_cmp_total.antisymm a b) ∙ turned (slice_cmp nat_cmp b a)
   where
@@ -126,7 +126,7 @@ is_code-sym a b = ap is_eq (nat_list_cmp_total.antisymm a b) ∙ turned (slice_c
     turned Equal = refl
     turned Greater = refl
 
--- one object more with the code k
+-- one more object with the code k
 pub counted_more : (old new : List (List ℕ × ℕ)) (k : List ℕ) (before : ℕ)
     → ((q : List ℕ) → lookup (is_code q) new ≡ cond (is_code k q) (Some (before + 1)) (lookup (is_code q) old))
     → before ≡ count_of old k → (q : List ℕ) → count_of new q ≡ count_of old q + (if is_code q k then 1 else 0)
@@ -147,7 +147,7 @@ counted_more old new k before updates is q = go (slice_cmp nat_cmp k q) refl
     go Less e = miss (ap is_eq e)
     go Greater e = miss (ap is_eq e)
 
--- and still no count is 0
+-- with one more object there is still no count of 0
 pub some_more : (old new : List (List ℕ × ℕ)) (k : List ℕ) (before : ℕ)
     → ((q : List ℕ) → lookup (is_code q) new ≡ cond (is_code k q) (Some (before + 1)) (lookup (is_code q) old))
     → CountsAreSome old → CountsAreSome new
@@ -158,7 +158,7 @@ some_more old new k before updates some q =
     go true = omega arith
     go false = some q
 
--- and one object more together
+-- one more object adds 1 to the sum of the counts
 pub number_more : (old : BTreeMap (List ℕ) ℕ) (new : List (List ℕ × ℕ)) (k : List ℕ) (before : ℕ) → IsOrdered (slice_cmp nat_cmp) old
     → new ≡ insert_entry (slice_cmp nat_cmp) old.entries k (before + 1) → before ≡ count_of old.entries k → sum (values_of new) ≡ sum (values_of old.entries) + 1
 number_more old new k before ordered is at =
@@ -169,7 +169,7 @@ number_more old new k before ordered is at =
     ap (λ (es : List (List ℕ × ℕ)). sum (values_of es)) is in
     omega (arith, put)
 
--- a first object of a code
+-- the first object of a code
 pub first_counted : (old : BTreeMap (List ℕ) ℕ) (new : List (List ℕ × ℕ)) (k : List ℕ) → IsOrdered (slice_cmp nat_cmp) old
     → lookup (is_code k) old.entries ≡ None
     → ((q : List ℕ) → lookup (is_code q) new ≡ cond (is_code k q) (Some 1) (lookup (is_code q) old.entries))
@@ -199,7 +199,7 @@ once_more old new k before found updates is = record {
     at : before ≡ count_of old k
     at = sym (ap (λ (o : Option ℕ). unwrap_or o 0) found)
 
--- the entries of a map whose counts are not 0
+-- the entries of an ordered map without counts of 0 are a list of objects
 pub entries_are_objects : (counts : BTreeMap (List ℕ) ℕ) → IsOrdered (slice_cmp nat_cmp) counts → CountsAreSome counts.entries → AreObjects counts.entries
 entries_are_objects counts ordered some = record {
   in_order = ordered;

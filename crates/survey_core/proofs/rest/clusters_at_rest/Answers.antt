@@ -44,7 +44,7 @@ groups_keep_apart-requires-clause-off c =
     subst ShareNoCell (sym c.as_slice-parts.ensures.value)
     (clusters_off c.args.pattern.now c.in_ok-clusters.clusters.items c.in_ok-clusters.ensures.clusters)
 
--- the envelopes and the groups, as they are known of the clusters
+-- what is known about the envelopes and the groups of the clusters
 enveloped : (c : goal.After-drop-envelopes-2)
     → AreEnvelopes c.args.rule.now c.args.profile.now.period c.in_ok-clusters.clusters.items c.in-Some.envelopes.items
 enveloped c =
@@ -71,7 +71,7 @@ returns-clause-moves c =
     (groups_of_rest c.args.rule.now c.args.profile.now c.args.pattern.now c.in_ok-clusters.clusters.items c.in-Some.envelopes.items
     c.in_ok-groups.groups.items order (enveloped c) (grouped c) same k)))))))
 
--- or those of each do
+-- the clusters of each group keep apart
 pub returns-clause-rest : goal.returns-clause-rest
 returns-clause-rest c =
     rw c.then_some.ensures (some_if c.in_ok-apart.apart c.in_ok-clusters.clusters

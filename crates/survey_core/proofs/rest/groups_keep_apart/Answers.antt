@@ -11,7 +11,7 @@ use Rattle.survey_core.proofs.lemmas.rest.GroupLemmas.{alone_keeps, below_more, 
 use Rattle.survey_core.proofs.lemmas.rest.RunLemmas.{clusters_are}
 use Rattle.survey_core.proofs.rest.groups_keep_apart.Goals as goal
 
--- a cluster alone has nothing to meet
+-- fewer than two clusters keep apart
 pub loop-number-preserved-then-count_of-lt2 : goal.loop-number-preserved-then-count_of-lt2
 loop-number-preserved-then-count_of-lt2 c =
     let few = members_few c.loop-number.number c.args.groups.now c.args.clusters.now in

@@ -56,7 +56,7 @@ step_apart-requires-clause-off c =
     subst ShareNoCell (sym (latest_is c.args.rule.now c.loop.counter clusters c.loop.clusters c.loop.invariant.alone))
     (c.loop.invariant.apart c.loop.counter (omega arith)).disjoint
 
--- what the next generation says of the clusters as they were
+-- what the next generation says about the clusters as they were at first
 later : (c : After-step_apart) → AreOneLater c.args.rule.now (union_of (clusters_of c.args.clusters.now)) (clusters_of c.args.clusters.now)
     (latest_of c.loop.clusters) c.loop.counter
 later c =
@@ -65,7 +65,7 @@ later c =
     (in_order-set_of (flat_map (λ (part : List Cell). part) clusters))
     (latest_is c.args.rule.now c.loop.counter clusters c.loop.clusters c.loop.invariant.alone) (c.loop.invariant.apart c.loop.counter (omega arith))
 
--- a generation in which they don't keep apart
+-- a generation in which the clusters don't keep apart
 pub returns-then-not-keeps : goal.returns-then-not-keeps
 returns-then-not-keeps c =
     let low : c.loop.counter + 1 ≤ c.args.horizon = omega (arith, c.loop-test.true) in (
@@ -74,7 +74,7 @@ returns-then-not-keeps c =
           ∙ c.in_ok-keeps.ensures.apart.1 ((later (goal.at.returns-then-not-keeps c).After-step_apart).back (apart (c.loop.counter + 1) low)))),
     )
 
--- each cluster is itself again, so what follows has been seen
+-- each cluster is itself again, so all later generations have been tested
 pub returns-then-have_recurred : goal.returns-then-have_recurred
 returns-then-have_recurred c =
     let rule = c.args.rule.now in

@@ -3,7 +3,7 @@ use Rattle.std.specs.Io.KnownBytes.{Consumes, prepend_known}
 use Rattle.commands.specs.Lines.{IsOneLine}
 use Rattle.commands.proofs.lines.Lines.next.Given as goal
 
--- a prefix of the line was read, in which is no line feed
+-- a prefix of the line, without a line feed, was read
 abbrev pub invariant-loop-piece : goal.invariant-loop-piece
 invariant-loop-piece g l = record {
   short : l.size ≤ l.fn.room;

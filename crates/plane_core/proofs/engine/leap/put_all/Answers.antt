@@ -18,7 +18,7 @@ few = omega arith
 abbrev nowhere : LeapWindow
 nowhere = record { left = pos 0; top = pos 0; rows = 0 }
 
--- a window of the list has rows enough, and no more than 64
+-- a window of the list has 8 to 64 rows
 height : (at : Frame) (windows : List LeapWindow) (k : ℕ) → All (IsOnBoard at) windows → k < length windows
     → (8 ≤ (get_or windows k nowhere).rows) × ((get_or windows k nowhere).rows ≤ 64)
 height at windows k on low = let here = on k nowhere low in (here.some, here.few)

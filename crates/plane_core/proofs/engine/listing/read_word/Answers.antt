@@ -8,7 +8,7 @@ use Rattle.plane_core.proofs.engine.listing.read_word.Goals as goal
 use Rattle.plane_core.proofs.engine.listing.read_word.Goals.{Else-remainder-eq0}
 use Rattle.plane_core.proofs.lemmas.Between.{IsNextAlive}
 
--- the next live cell
+-- the column of the next live cell
 next : ℕ → ℕ → ℕ
 next word done = done + trailing_zeros w64 (word / 2 ^ done)
 

@@ -10,11 +10,11 @@ use Rattle.plane_core.proofs.one_sided.flood.flood.Goals as goal
 within_64 : (n : ℕ) → n < 60 → n < 64
 within_64 n low = omega (arith, low)
 
--- a bit that a shifted word shows
+-- bit i of a word is 1 if the word shifted by i ends in 1
 lit : (w i : ℕ) → bit_and (w / 2 ^ i) 1 ≢ 0 → bit_at w i ≡ 1
 lit w i some = omega (arith, bit_at-lt w i, shr_and_one w i, some)
 
--- a flood of one cell
+-- the flood of one cell
 abbrev begun : ℕ → ℕ → List ℕ
 begun row column = slice_set (replicate 64 0) row (1 * 2 ^ column % 2 ^ 64)
 

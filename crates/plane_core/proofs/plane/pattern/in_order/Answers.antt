@@ -6,13 +6,13 @@ use Rattle.plane_core.proofs.lemmas.plane.SearchLemmas.{deduped-set_of}
 use Rattle.plane_core.proofs.lemmas.plane.SetLemmas.{is_set_of}
 use Rattle.plane_core.proofs.plane.pattern.in_order.Goals as goal
 
--- sorting moves cells, and of equal neighbours one is kept
+-- sorting permutes the cells, and one of equal neighbours is kept
 pub returns-then-not-are_in_order : goal.returns-then-not-are_in_order
 returns-then-not-are_in_order c =
     let is = dedup_is _ _ _ c.dedup.ensures.filtered in
     is ∙ deduped-set_of _ c.args.cells.items c.sort_unstable.new.self.items same_cell-eq c.sort_unstable.ensures.permutation c.sort_unstable.ensures.sorted
 
--- cells in order are their own set
+-- ordered cells are their own set
 pub returns-else-not-are_in_order : goal.returns-else-not-are_in_order
 returns-else-not-are_in_order c =
     let ordered : InOrder c.as_slice.result.now = c.are_in_order.ensures c.if-not-are_in_order.false in

@@ -9,14 +9,14 @@ use Rattle.std.proofs.lemmas.Bool.{false≢true}
 use Rattle.plane_core.proofs.lemmas.plane.OrderLemmas.{few_vectors, first_row_low, last_row_low}
 use Rattle.plane_core.proofs.windows.window_queries.is_rim_clear.Goals as goal
 
--- a column that isn't among the live ones
+-- a column that isn't among the live columns has no live cell
 dark : (n : ℕ) (x : List (List ℕ)) (w i r : ℕ) → IsColumns n x w → bit_at w i ≡ 0 → r < 4 * n → bit_at (row_at n x r) i ≡ 0
 dark n x w i r columns none low = elim (same_or_not (bit_at (row_at n x r) i) 1) [
   | inl one ↦ absurd (let k = columns.all r i low one in omega arith)
   | inr apart ↦ omega (arith, apart, bit_at-lt (row_at n x r) i)
 ]
 
--- the first column and the last, by the word
+-- the first and the last column have no live cell if their bits of the word are 0
 first_dark : (w : ℕ) → bit_and w 1 ≡ 0 → bit_at w 0 ≡ 0
 first_dark w none = grind (arith, common_steps)
 

@@ -8,12 +8,12 @@ use Rattle.survey_core.specs.UnderWay.{StaysNear, survey_reach}
 use Rattle.survey_core.proofs.lemmas.evolution.EvolutionLemmas.{in_parts, near_ahead}
 use Rattle.survey_core.proofs.evolution.Evolution.go_on.Goals as goal
 
--- what stays near under the name of the whole does so here
+-- `StaysNear` carries over to an equal pattern and an equal number of generations
 near_here : (rule : Numbers) (cells latest : List Cell) (m n : ℕ) → cells ≡ latest → m ≡ n → StaysNear rule latest n → StaysNear rule cells m
 near_here rule cells latest m n is same near g low =
     (λ i. lies_within survey_reach (after rule (is i) g)) ∙ near g (subst (λ (k : ℕ). g ≤ k) same low)
 
--- it is in a list
+-- the pattern is kept as a list
 pub from_list-requires-clause-near : goal.from_list-requires-clause-near
 from_list-requires-clause-near c =
     near_here c.args.rule.now c.in-Listed.pattern (kept c.args.rule.now c.args.self) c.stride-generations.result c.args.profile.now.stride
@@ -28,7 +28,7 @@ returns-in-Listed-clause-cells c =
     subst (λ (T : List Cell). IfOk c.from_list.result (λ evolution. kept c.args.rule.now evolution ≡ T))
     (λ i. after c.args.rule.now (cells i) (c.stride-generations.ensures.stride i)) c.from_list.ensures.cells
 
--- or on a board
+-- the pattern is kept on a board
 pub remove_escaped-requires-clause-is_split : goal.remove_escaped-requires-clause-is_split
 remove_escaped-requires-clause-is_split c = (rw c.in-Shown.is at c.requires.kept).0
 

@@ -40,7 +40,7 @@ spaceship_of-requires-clause-most c = c.requires.most
 pub loop-cluster-init : goal.loop-cluster-init
 loop-cluster-init c = record { rule = refl; split = c.requires.split; whole = refl; clusters = c.requires.clusters }
 
--- what has left, or stays, changes nothing
+-- a cluster that was already removed, or that stays on the board, changes nothing
 pub loop-cluster-preserved-then-has_escaped : goal.loop-cluster-preserved-then-has_escaped
 loop-cluster-preserved-then-has_escaped c = c.loop-cluster.invariant
 

@@ -35,7 +35,7 @@ pattern_of-requires c =
     ∙ gathered c.args.clusters.now c.loop-alone.alone-index c.loop-alone.cells.items c.loop-alone.invariant c.loop-alone-test.false)
     ∙ within_all 999999 (latest_of c.args.clusters.now) c.requires.near
 
--- two of them share a cell
+-- two of the clusters share a cell
 pub returns-clause-shared : goal.returns-clause-shared
 returns-clause-shared c =
     let parts = latest_of c.args.clusters.now in

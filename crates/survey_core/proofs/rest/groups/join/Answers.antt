@@ -3,7 +3,7 @@ use Rattle.survey_core.specs.rest.Grouping.{Coarser}
 use Rattle.survey_core.proofs.lemmas.rest.GroupingLemmas.{places_more, renamed_coarser, renamed_numbers, renamed_pair, stay_default}
 use Rattle.survey_core.proofs.rest.groups.join.Goals as goal
 
--- the two stay apart
+-- the two envelopes stay apart
 pub loop-other-preserved-then-apart : goal.loop-other-preserved-then-apart
 loop-other-preserved-then-apart c =
     let before = c.loop-other.invariant in
@@ -17,7 +17,7 @@ loop-other-preserved-then-apart c =
           let other : c.loop-other.other < c.args.place = c.loop-other-test.true in omega arith) (c.stay_apart-apart.ensures c.if-apart.true));
     }
 
--- or may meet, and are one group then
+-- the two envelopes may meet, and are then in one group
 pub loop-other-preserved : goal.loop-other-preserved
 loop-other-preserved c =
     let before = c.loop-other.invariant in

@@ -59,7 +59,7 @@ returns-then-limit-checkpoint c = record {
       c.loop-evolution.invariant.before;
 }
 
--- not yet
+-- the pattern isn't at rest yet
 pub go_on-requires-clause-kept : goal.go_on-requires-clause-kept
 go_on-requires-clause-kept c = c.loop-evolution.invariant.by_rule
 

@@ -6,7 +6,7 @@ use Rattle.haul_core.proofs.CheckLemmas.{IsMade, agrees_if_confirmed, confirmed,
 use Rattle.haul_core.proofs.report.claim.Claim.check_with_surveyor.Goals as goal
 use Rattle.haul_core.proofs.report.claim.Claim.check_with_surveyor.Goals.{In-Ok}
 
--- the report is made of what the claim names
+-- the report has the claim's job, worker and number
 is_made : (c : In-Ok) → IsMade c.args.self c.args.job.now c.in-Ok.report
 is_made c = record {
   same = ap (λ (k : Claimed). same_job k.job c.args.job.now) (sym c.self.view_is) ∙ sym c.is_same_job.ensures ∙ c.if-not-is_same_job.false;

@@ -25,7 +25,7 @@ settled_in-requires-clause-follows c =
     c.cut_at.ensures
     (c.in-Some-state_in.ensures.1 ∙ ap state_field c.in-Some-state.is)
 
--- what has been read is followed by the field of a soup that didn't settle
+-- the field `unsettled` follows the head
 unsettled : (c : In-None)
     → FollowsFields c.args.line.now (head_of (claimed c.args.head []) ++ codes "unsettled" ∷ []) (option_map (λ r. r.now) c.cut_at.result.1)
 unsettled c =

@@ -8,7 +8,7 @@ use Rattle.plane_core.proofs.lemmas.plane.RunLemmas.{after-plus}
 use Rattle.plane_core.proofs.engine.board.Board.advance.Goals as goal
 use Rattle.plane_core.proofs.engine.board.Board.advance.Goals.{then-most-eq1+in_ok-made, else-most-eq1}
 
--- the greatest even number of generations that are left
+-- the largest even number up to the number of generations left is even
 left_even : (most made : ℕ) → ((most - made) / 2 * 2) % 2 ≡ 0
 left_even most made = omega arith
 
@@ -24,7 +24,7 @@ fewer_left most made count leapt some few all = omega arith
 less : (most made : ℕ) → most - made ≤ most
 less most made = omega arith
 
--- the greatest even number up to four
+-- the largest even number up to the smaller of `left` and 4 is from 1 to 4
 some_even : (left few : ℕ) → 2 ≤ left → few ≡ min left 4 → 1 ≤ few / 2 * 2
 some_even left few some is = omega arith
 
@@ -91,7 +91,7 @@ returns-then-still-clause-after c =
     sym (c.is_still-still.ensures c.if-still.true left (left_even c.args.most made))
     ∙ (λ i. after (before.rule i) (before.after i) left) ∙ after-plus rule cells made left
 
--- a leap more
+-- one more leap doesn't exceed the most generations
 more_made : (most made count leapt : ℕ) → made ≤ most → count ≤ most - made → leapt ≤ count → made + leapt ≤ most
 more_made most made count leapt low few all = omega arith
 

@@ -13,7 +13,7 @@ use Rattle.plane_core.proofs.lemmas.plane.RunLemmas.{after-plus, inside-more}
 use Rattle.plane_core.proofs.lemmas.plane.SpeedLemmas.{run_inside}
 use Rattle.plane_core.proofs.plane.pattern.Pattern.run.Goals as goal
 
--- what is left to be made, in numbers
+-- some generations are left
 some_left : (made generations : ℕ) → made < generations → 0 < generations - made
 some_left made generations low = omega arith
 
@@ -24,7 +24,7 @@ loop-made-init c = record {
   inside = λ g low. absurd (omega arith);
 }
 
--- on boards
+-- the loop's step, on boards
 pub loop-made-preserved-in-Some : goal.loop-made-preserved-in-Some
 loop-made-preserved-in-Some c =
     let rule = c.args.rule.now in
@@ -42,7 +42,7 @@ loop-made-preserved-in-Some c =
           (λ g low. ap (λ (S : List Cell). touches_edge (after rule S g)) (sym before.later) ∙ stretch.inside g low);
     }
 
--- one step
+-- the loop's step, by one generation
 pub loop-made-preserved : goal.loop-made-preserved
 loop-made-preserved c =
     let rule = c.args.rule.now in
@@ -67,7 +67,7 @@ refused_at_edge : (cells : List Cell) (error : StepError) → RefusesStep cells 
 refused_at_edge cells Edge refused e = refused
 refused_at_edge cells (Memory error) refused e = cc
 
--- a generation was on the edge, and would have come too far
+-- if a generation touched the edge, the pattern came further than it can
 pub returns-in_err-pattern-in-None-clause-never_edge : goal.returns-in_err-pattern-in-None-clause-never_edge
 returns-in_err-pattern-in-None-clause-never_edge c reach h far e =
     let told = err_from_is_err_and c.from_residual-in_err-pattern-in-None.result c.from_residual-in_err-pattern-in-None.ensures.1 in
@@ -79,7 +79,7 @@ returns-in_err-pattern-in-None-clause-never_edge c reach h far e =
     ∙ run_inside c.args.rule.now c.args.self.now reach c.loop-made.made c.args.generations h far c.loop-made-test.true in
     false≢true (sym off ∙ on)
 
--- no generation before the first: the pattern itself is at the edge
+-- the pattern itself touches the edge
 pub returns-then-touches_edge-clause-never_edge : goal.returns-then-touches_edge-clause-never_edge
 returns-then-touches_edge-clause-never_edge c = λ reach h far e.
     let on = sym c.touches_edge.ensures ∙ c.if-touches_edge.true in

@@ -8,15 +8,15 @@ use Rattle.plane_core.proofs.lemmas.plane.TurnLemmas.{placed-turned, placed-plan
 use Rattle.plane_core.proofs.plane.pattern.Pattern.turn.Goals.{After-in_order, In-Some}
 use Rattle.plane_core.proofs.plane.pattern.Pattern.turn.Goals as goal
 
--- the placement takes the image to the corner
+-- the transform moves the image to the corner
 at_corner : (c : In-Some) → c.in-Some.transform ≡ corner_transform c.args.orientation (box_of (map (turned_cell c.args.orientation) c.args.self.now))
 at_corner c = rw (c.in-Some.is, c.cells-cells.ensures.cells) at c.to_corner.ensures.transform
 
--- the image lies on the plane
+-- the image is on the plane
 on : (c : In-Some) → list_all on_plane (turned c.args.orientation c.args.self.now) ≡ true
 on c = let told = rw (c.in-Some.is, c.cells-cells.ensures.cells) at c.to_corner.ensures.plane in sym told
 
--- the cells that are placed are the image
+-- the cells after the transform are the image
 placed : (c : After-in_order) → c.in_order.result.items ≡ turned c.args.orientation c.args.self.now
 placed c =
     c.in_order.ensures

@@ -10,7 +10,7 @@ use Rattle.plane_core.proofs.lemmas.plaintext.PlaintextWriting.{Writes_as, box_t
 use Rattle.plane_core.proofs.plane.pattern.Pattern.write_plaintext.Goals as goal
 use Rattle.plane_core.proofs.plane.pattern.Pattern.write_plaintext.Goals.{After-cells-remainder}
 
--- rows of a box, and those past a row and the box
+-- the numbers of a box's rows, and one row more, fit their type
 top_fits : (b : Bounds) → IsBox b → FitsSigned w32 b.top
 top_fits b box = let top = box.top in let bottom = box.bottom in let high = box.high in omega (arith, ints)
 

@@ -10,7 +10,7 @@ use Rattle.plane_core.proofs.plane.transform.Transform.transform_all.Goals as go
 low : (c : In-loop-cell) → c.loop-cell.cell-index < length c.args.cells.now
 low c = subst (λ (n : ℕ). c.loop-cell.cell-index < n) (ap length (c.deref_mut-cell-items.ensures.value ∙ c.in_ok-placed.ensures.items)) c.loop-cell-test.true
 
--- the next cell is as it was
+-- the next cell is still unchanged
 same : (c : In-loop-cell) → get_or c.loop-cell.cell-items c.loop-cell.cell-index (record { y = pos 0; x = pos 0 })
     ≡ get_or c.args.cells.now c.loop-cell.cell-index (record { y = pos 0; x = pos 0 })
 same c = as_it_was (landed c.args.self) c.args.cells.now c.loop-cell.cell-items c.loop-cell.cell-index _ (low c) c.loop-cell.invariant

@@ -31,7 +31,7 @@ count_cluster-requires-clause-near c =
 pub count_cluster-requires-clause-few : goal.count_cluster-requires-clause-few
 count_cluster-requires-clause-few c = omega (arith, c.loop-cluster.invariant.5, c.loop-cluster-test.true)
 
--- one cluster more, with its code
+-- one more cluster, with its code
 pub loop-cluster-preserved : goal.loop-cluster-preserved
 loop-cluster-preserved c =
     let codes : List (List ℕ) = c.loop-cluster.invariant.0 in
