@@ -175,7 +175,7 @@ def digests_of(folder: Path) -> str:
 
 def look_at(places: Places, folder: str) -> int:
     """Compares a folder's programs with this checkout. Returns 0 if they belong together. Otherwise
-    writes the first difference to standard error, and returns 1.
+    writes the reason to standard error, and returns 1.
     """
     wrong = fault_of(places, folder)
     if wrong:

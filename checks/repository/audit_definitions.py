@@ -207,8 +207,8 @@ def read_types(path: Path, crate: str, module: str, found: dict[Key, Definition]
 
 
 def add_view(of_type: Definition, lines: list[str]) -> None:
-    """Adds its view to a type. Contracts see a value through the view. The invariants of a type,
-    and how a value is recovered from its view, are only for the prover.
+    """Replaces a type's text by its view, through which contracts see a value. Leaves out
+    invariants and how a value is recovered, which are only for the prover.
     """
     names, kept, keeps = Names(), [], False
     for line in lines[1:-1]:

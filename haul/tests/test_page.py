@@ -187,7 +187,7 @@ and <code>haul check --samples all.haul</code> runs only the sample soups.</p>
             )
 
     def test_profiles_of_several_hauls(self) -> None:
-        """The hauls with a profile are named only if there are several profiles."""
+        """Each profile's hauls are named only if there are several profiles."""
         one, other = (
             made({"xs4_33": 1}, [(5, 1)], profile)
             for profile in (Profile(64, 512, 101, 30300), Profile(4, 8, 10, 30))

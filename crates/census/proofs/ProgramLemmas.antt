@@ -75,7 +75,7 @@ nothing_more (Some xs) (Some ys) (Some zs) first second = second ∙ append-nil 
 unprinted : (complaint : Complaint) → has_printed (status_of complaint) ≡ false
 unprinted complaint = search rules
 
--- a request that writes no lines to standard error makes no diagnostics
+-- a request for which `writes_lines` is false makes no diagnostics
 quiet : (request : Request) (bytes : List ℕ) (made : Made) → writes_lines request ≡ false → right_for request bytes (Ok made) → made.diagnostics ≡ []
 quiet request bytes made mute is = search rules
 

@@ -3,7 +3,7 @@ use code_core::reader::read_wechsler;
 use std::test::Fail;
 
 // Texts of a column or two are tested by cases of `show`. The texts here say 10,000 full columns of the first strip,
-// and one cell in the last of 10,000 strips.
+// or one cell in the last of 10,000 strips.
 #[test]
 fn reads_a_wide_text(rt: HostRuntime) -> Result<(), Fail> {
     let wide = read_wechsler(rt.alloc(), std::str::from_utf8(&[b'v'; 10_000])?)?;

@@ -1,5 +1,5 @@
 //! Tests of the public calls of `crew` and `handover`. They are in a crate of their own, so that `crew` and `handover`
-//! are proved once.
+//! aren't proved again for them.
 #![tactic(auto)]
 
 #[cfg(test)]

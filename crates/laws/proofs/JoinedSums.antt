@@ -60,7 +60,7 @@ at_least_one : (n : ℕ) → cond {A = ℕ} (nat_le 1 n) n 0 ≡ n
 at_least_one zero = refl
 at_least_one (suc n) = ap (λ (b : Bool). cond {A = ℕ} b (suc n) 0) (le-leb 1 (suc n) (omega arith))
 
--- what rows say about a code, and `nothing` if the code has no row
+-- what is meant by a code that has a row, otherwise `nothing`
 module _ {X : Type 0} (said : Row → X) (meant : List ℕ → X) (nothing : X) where
   in_row : (rows : List Row) (code : List ℕ) → All (λ row. said row ≡ meant row.code) rows
       → unwrap_or (option_map said (find (λ row. is_code code row.code) rows)) nothing

@@ -1,4 +1,5 @@
-//! Tests of the public calls of `plane_core`. They are in a crate of their own, so that `plane_core` is proved once.
+//! Tests of the public calls of `plane_core`. They are in a crate of their own, so that
+//! `plane_core` isn't proved again for them.
 #![tactic(auto)]
 
 #[cfg(test)]

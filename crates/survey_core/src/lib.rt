@@ -14,7 +14,7 @@
 
 /// A pattern between two checkpoints.
 pub mod evolution;
-/// Patterns far from the edge of the plane, where no step fails.
+/// Patterns so far from the edge that no step leaves the plane.
 mod far_from_edge;
 /// What a survey finds.
 pub mod finding;

@@ -1,4 +1,5 @@
-//! Tests of the public calls of `survey_core`. They are in a crate of their own, so that `survey_core` is proved once.
+//! Tests of the public calls of `survey_core`. They are in a crate of their own, so that
+//! `survey_core` isn't proved again for them.
 #![tactic(auto)]
 
 #[cfg(test)]

@@ -68,7 +68,7 @@ def compile_copy(copy: Path) -> None:
 
 
 def try_all(trials: list[Trial], workers: int) -> Iterator[str | None]:
-    """Yields the test that notices each change, or `None` if no test does."""
+    """Yields what `find_noticing_test` returns for each change."""
     with tempfile.TemporaryDirectory() as compiled:
         compile_copy(Path(compiled))
         # A process with running threads can't be forked in this way.

@@ -29,7 +29,7 @@ triple c = moved_by (negsuc 0) (pos 0) c ∷ c ∷ moved_by (pos 1) (pos 0) c �
 abbrev pub neighbourhood : Cell → List Cell
 neighbourhood c = flat_map triple (moved_by (pos 0) (negsuc 0) c ∷ c ∷ moved_by (pos 0) (pos 1) c ∷ [])
 
--- the next generation: the cells in the neighbourhoods of the pattern's cells that are alive one generation later
+-- the next generation: the cells that are alive then, all of them in neighbourhoods of the pattern's cells
 unfoldable pub next : Numbers → List Cell → List Cell
 next rule cells = filter (lives rule cells) (set_of (flat_map neighbourhood cells))
 
@@ -63,7 +63,7 @@ abbrev pub NextTurned : Type 0
 NextTurned = (o : Orientation) (rule : Numbers) (cells : List Cell) → InOrder cells → next rule (image o cells) ≡ image o (next rule cells)
 
 -- The speed of light: no pattern grows by more than one cell on each side in a generation. So if a pattern is in a box,
--- it is g generations later in that box with g more columns and rows on each side.
+-- after g generations it is in that box with g more columns and rows on each side.
 abbrev pub SpeedOfLight : Type 0
 SpeedOfLight = (rule : Numbers) (cells : List Cell) (b : Bounds) (g : ℕ) → All (IsWithin b) cells → All (IsWithin (enlarged g b)) (after rule cells g)
 

@@ -1,4 +1,4 @@
--- How a walk along cells in order meets the cells of a row.
+-- A walk along sorted cells, row by row.
 use Rattle.std.proofs.Common.{◌≡◌, ℕ, zero, suc, ℤ, pos, ◌+ℤ◌, ◌≤ℤ◌, ◌<ℤ◌, ◌+◌, ◌<◌, ◌≤◌, Bool, true, false, ◌||◌, List}
 use Rattle.std.proofs.Common.{[], ◌∷◌, length, take, drop, get_or, refl, sym, ap, subst, ◌∙◌, arith, ⊎_elim, w32, FitsSigned, to_z, of_z}
 use Rattle.std.specs.List.{AllByRecursion, prefix_len}

@@ -1,4 +1,4 @@
--- A board and the spaceships that were removed from it, as the code keeps them.
+-- Lemmas on `SplitPattern`: a board, and the spaceships that were removed from it.
 use Rattle.std.proofs.Common.{◌≡◌, ◌∙◌, ◌+◌, ◌*◌, ◌/◌, ◌%◌, ◌<◌, ◌≤◌, ℕ, ◌==◌, Bool, true, false, ◌||◌, not}
 use Rattle.std.proofs.Common.{unsigned_abs}
 use Rattle.std.proofs.Common.{List, [], ◌∷◌, ◌++◌, All, arith, ap, refl, sym, subst, flat_map, get_or, length, map, take}

@@ -33,7 +33,7 @@ known_later rule profile cells t s known_restless are n known rest =
     same : t + (s + n) ≡ (t + s) + n
     same = omega arith
 
--- one more checkpoint is known not to be at rest, if an even number of generations changes nothing
+-- a restless pattern that even numbers of generations don't change is restless at every t + 2k
 pub known_more : (rule : Numbers) (profile : Settling) (cells : List Cell) (t : ℕ) (known_restless : List Bool) → AreKnownRestless rule profile cells t known_restless
     → ¬ IsAtRest rule profile cells → ((n : ℕ) → n % 2 ≡ 0 → after rule cells n ≡ cells) → AreKnownRestless rule profile cells t (set known_restless (t % 2) true)
 known_more rule profile cells t known_restless are moves still n known = elim (cases_eq ((t + n) % 2) (t % 2)) [
