@@ -1,5 +1,5 @@
 //! Tests of the public calls of `commands` and `pattern_commands`. They are in a crate of their own, so that the two
-//! crates aren't proved again for them. What can be tested with the built program is tested by the cases in `checks/cases`.
+//! crates aren't proved again for them. The cases in `checks/cases` test what can be tested with the built program.
 #![tactic(auto)]
 
 #[cfg(test)]
