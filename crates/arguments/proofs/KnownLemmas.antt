@@ -39,7 +39,7 @@ leaf command = built_leaf (inherited (with_leaf_noted (marked_built census_app.t
 abbrev pub help_entry : Entry
 help_entry = record { name = codes "help"; is_named = true; kind = kind.Flag; default = None }
 
--- an argument that takes a value after its name, and an argument that is a value alone
+-- an argument that takes a value after its name, and a positional value
 abbrev pub takes_value : Entry → Bool
 takes_value e = e.is_named && not (is_flag e.kind)
 
@@ -75,7 +75,7 @@ reacts p e v = ((record { rows = rows_with e v p.1.rows; pending = None; skip = 
 abbrev pub asks : Kinds × Held → Entry → Met
 asks p e = ((record { rows = p.1.rows; pending = Some (e.name, []); skip = p.1.skip }, next (option e.name)), p.0)
 
--- the effect of a value alone; if its argument takes several values, what is held isn't settled first
+-- the effect of a positional value; if its argument takes several values, what is held isn't settled first
 abbrev pub goes_alone : Bool → Held → Kinds × Held → Entry → Text → Walk × Kinds
 goes_alone keeps_on h p e v = (at (pushed e.name v (cond keeps_on h p.1)) 2, cond keeps_on [] p.0)
 
@@ -134,7 +134,7 @@ abbrev pub takes_name : Text → Rule → Bool
 takes_name name a = not (is_some a.index) && has_long a name
 
 -- facts on one argument of a command: how arguments lead on from a place (a flag, `--name=value`, `--name` before a
--- value, that value, and a value alone), how a held value is settled, and what is taken from the default
+-- value, that value, and a positional value), how a held value is settled, and what is taken from the default
 pub record ParameterFacts : Type 0 where
   pub flagged : Held → ℕ → Option Met
   pub attached : Held → ℕ → Text → Option Met
@@ -147,7 +147,7 @@ pub record ParameterFacts : Type 0 where
   pub small : Bool
   pub default : Option Value
 
--- facts on a command: that it takes no second value alone, its defaults and checks, other arguments, and its name
+-- facts on a command: that it takes no second positional value, its defaults and checks, other arguments, and its name
 pub record CommandFacts : Type 0 where
   pub parameters : List ParameterFacts
   pub second : Option Rule

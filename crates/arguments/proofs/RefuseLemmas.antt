@@ -78,7 +78,7 @@ module _ (s : Shape) (rows : List Row) (p : Option (Text × List Text)) (single 
   abbrev again : Bool
   again = s.args_override_self
 
-  -- a value alone is a fault
+  -- a positional value is a fault
   value_stuck : (c : List Rule) (i : ℕ) → list_any takes_several c ≡ false
       → IsFaulty (option_map_or (λ a. positional_fault s.rules again a h) (arg_by_index c i) (stray_fault s))
   value_stuck [] i none = stray s
@@ -133,7 +133,7 @@ module _ (command : Command) (here : IsIn command commands) {h : Held} {position
       (told_or_held step.told (settling s (holding step.kept step.pending)).0 _ _ (subst (λ (p : Kinds × Held). IsFaulty p.0) (sym step.settles) bad)
       (λ f. all_stuck s step.kept step.pending (ap (λ (f : CommandFacts). f.several) (known command here)) f more step.end false))
 
-  -- a value alone is refused if the positional argument was given already
+  -- a positional value is refused if the positional argument was already given
   second_faulty : (v : Text) → starts_with_minus v ≡ false → position ≡ 2 → Refused (v ∷ more)
   second_faulty v bare second = word_faulty s h position v more (subst IsFaulty (sym (ap (turn_kinds s position) (plain_met s idle h position v bare)))
       (rw (second, ap (λ (f : CommandFacts). f.second) (known command here)) (stray s)))

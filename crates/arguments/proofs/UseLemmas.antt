@@ -91,7 +91,7 @@ module _ (command : Command) (here : IsIn command commands) {h : Held} {position
     place = place;
   }
 
-  -- only a value alone depends on the place
+  -- only a positional value depends on the place
   abbrev pub Fits : Use → Type 0
   Fits (alone e v) = position ≡ 1
   Fits u = Unit {0}
