@@ -22,7 +22,7 @@ from checks.program.recipes import (
     work,
 )
 
-# What is waited for takes less than this.
+# After this time, `wait_until` gives up. Everything that it waits for happens sooner.
 MOST_SECONDS = 60
 # A file's old date, in seconds since 1970.
 OLD = 978_307_200

@@ -47,7 +47,8 @@ def start_thread(thread: threading.Thread) -> None:
 class SignalHandler(Protocol):
     """Work that ends by itself after a signal."""
 
-    # The signal that ends the program, or `None` if there hasn't been one.
+    # The signal that must end this process after the work, or `None` as long as no signal must. A
+    # signal that only makes the work finish isn't noted here.
     number: int | None
 
     def came(self, number: int) -> bool:

@@ -24,7 +24,7 @@ STRIDE, MARGIN = 64, 4
 # The most columns and rows of a pattern, so that the last column isn't in its room.
 MOST_SIDE = STRIDE - 2 * MARGIN
 CORNER = MARGIN * STRIDE + MARGIN
-# mutant: equal because no pattern has cells in the first column
+# mutant: equal because all cells in the first column are dead in each pattern
 ROW = (1 << STRIDE) - 1
 # Half of the rows that a room may have, half of these, and so on.
 HALVES = (32, 16, 8, 4, 2, 1)
@@ -152,7 +152,7 @@ def select(digits: tuple[int, ...], counts: frozenset[int]) -> int:
     a count, the result is a negative number, which has all places from some place on."""
     found = 0
     for count in counts:
-        # mutant: equal because no pattern has the first cell
+        # mutant: equal because the cell (0, 0), which is bit 0, is dead in each pattern
         places = -1
         for power, digit in enumerate(digits):
             places &= digit if count >> power & 1 else ~digit
@@ -171,7 +171,7 @@ def find_islands(phases: list[int]) -> list[int]:
     does."""
     left, islands = phases[0], []
     while left:
-        # mutant: equal because no pattern has the first cell
+        # mutant: equal because the cell (0, 0), which is bit 0, is dead in each pattern
         reached, before = left & -left, 0
         while reached != before:
             before = reached
@@ -184,7 +184,7 @@ def find_islands(phases: list[int]) -> list[int]:
 
 def is_cluster(bits: int) -> bool:
     """Checks whether steps of at most two cells in any direction connect all live cells."""
-    # mutant: equal because no pattern has the first cell
+    # mutant: equal because the cell (0, 0), which is bit 0, is dead in each pattern
     reached, before = bits & -bits, 0
     while reached != before:
         before = reached

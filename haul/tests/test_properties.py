@@ -137,7 +137,7 @@ class OneWrongThing(unittest.TestCase):
 
 
 class Once(Census):
-    """The census program, for which the objects of each soup are known already."""
+    """Stands in for the census program: reports the objects that `left` has for a soup."""
 
     def __init__(self, left: dict[int, set[str]]) -> None:
         super().__init__(CENSUS, QUIET)

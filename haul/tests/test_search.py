@@ -568,7 +568,7 @@ class Stops(unittest.TestCase):
 
 
 class Keeping(Searches):
-    """Tests how a file is replaced."""
+    """Tests how a file is locked and replaced, also if it is named by a link."""
 
     def test_one_lock_for_two_names(self) -> None:
         (self.folder / "link").symlink_to(self.file)

@@ -19,7 +19,8 @@ pub(crate) fn reader(text: &[u8], bad: usize, kind: ErrorKind) -> FaultyReader<'
     reader_by(text, 1, bad, kind)
 }
 
-/// Returns such a reader, with at most `most` bytes per read.
+/// Returns a reader of a text that returns at most `most` bytes per read, with a fault at read number `bad`, counted
+/// from 1.
 pub(crate) fn reader_by(text: &[u8], most: usize, bad: usize, kind: ErrorKind) -> FaultyReader<'_> {
     FaultyReader {
         text,

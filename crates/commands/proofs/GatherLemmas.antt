@@ -73,7 +73,7 @@ pub refused_told : {E : Type 0} (terms : Terms) (line : List ℕ) (held : Held) 
 refused_told terms line held arrivals report reason (Ok fault) is reply memory diagnostics stands = refused arrivals report reason fault is reply memory diagnostics (stands memory)
 refused_told terms line held arrivals report reason (Err e) is reply memory diagnostics stands = tt
 
--- a claim that one finding of its soup contradicts is wrong, since there is no other
+-- if a claim disagrees with a finding of its soup, the claim is wrong, since a soup has only one finding
 pub wrong : FindingsAreDetermined → (claim : Claimed) (found : Finding) → IsFoundFor claim found → ¬ Agrees claim found → IsWrong claim
 wrong unique claim found is differs finding right agrees =
     let same = unique claim.job.rule claim.job.profile (soup claim.job.seed claim.number) found finding is right in

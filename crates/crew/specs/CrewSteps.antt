@@ -43,7 +43,7 @@ abbrev pub stopped_with : Option ℕ → ℕ → End → Option ℕ
 stopped_with (Some first) worker ended = Some first
 stopped_with None worker ended = if was_stopped ended then Some worker else None
 
--- why soups may be missing: a gate stopped a worker, or otherwise memory was refused
+-- why soups may be missing: a gate stopped a worker or, if none was stopped, memory ran out. `None` if neither happened.
 abbrev pub cause_of : Option ℕ → Option OutOfMemory → Option CrewError
 cause_of (Some worker) lacking = Some (Stopped worker)
 cause_of None (Some error) = Some (Memory error)

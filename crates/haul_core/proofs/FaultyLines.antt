@@ -148,7 +148,7 @@ unfolding found_fields
 some_found None h = absurd (omega arith)
 some_found (Some told) h = absurd (omega arith)
 
--- if the line ends within the head, the missing field is the first fault
+-- if the line ends within the head or right after it, the missing next field is the first fault
 pub head_lacks : (line : List ℕ) (place : ℕ) (head : LineStart) (there : List ℕ) → place ≤ 7 → HasHead line place head None → there ≡ []
     → IsFirstFaultOf line (length line - length there)
 head_lacks line place head there within h e =

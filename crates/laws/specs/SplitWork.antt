@@ -1,4 +1,5 @@
--- Work that is split is whole, and `take` has one right text.
+-- If the soups of a set are split among calls of `work`, `gather` makes from their lines what `take` prints for the
+-- set. And only one text is right for `take`.
 use Rattle.std.specs.Prelude.{Option, ◌≡◌, ◌≤◌, ◌^◌, ℕ, true, List, Ok, MatchResult, length}
 use Rattle.std.specs.List.{All, Contains}
 use Rattle.survey_core.specs.declared.job.Job.{Job}

@@ -160,7 +160,8 @@ passed_more text ranges here r (Some remainder) p h = record {
   some = λ here' e. p.some here refl;
 }
 
--- how much is left
+-- what each pass of a loop over a text's ranges makes smaller: 0 if no range follows, otherwise one more than the
+-- number of bytes that are left
 abbrev pub left_of : Option (List ℕ) → ℕ
 left_of None = 0
 left_of (Some remainder) = 1 + length remainder

@@ -28,7 +28,8 @@ row_sum word i = west_of 0 word i + bit_at word i + east_of word 0 i
 abbrev pub AreBeside : RowSums → List ℕ → Type 0
 AreBeside row now = (j i : ℕ) → j < 4 → sum_of row.all j i ≡ sum_of row.beside j i + bit_of now j i
 
--- `next` has the cells that live by the rule, counted as the total of the sums of the rows above, here and below
+-- `next` has the cells that live by the rule. The number of live cells in a cell's neighbourhood, with the cell itself,
+-- is the total of three sums: of the row above the cell, of its own row and of the row below it.
 abbrev pub AnswersRows : Numbers → Sum → Sum → Sum → List ℕ → List ℕ → Type 0
 AnswersRows rule up here down now next =
     (j i : ℕ) → j < 4 → i < 64 → bit_of next j i ≡ one_if (lives_by rule (sum_of up j i + sum_of here j i + sum_of down j i) (bit_of now j i == 1))

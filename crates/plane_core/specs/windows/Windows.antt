@@ -32,7 +32,7 @@ abbrev pub IsNextRow : Numbers → ℕ → ℕ → ℕ → ℕ → Type 0
 IsNextRow rule above here below next =
     (i : ℕ) → i < 64 → bit_at next i ≡ one_if (lives_by rule (row_sum above i + row_sum here i + row_sum below i) (bit_at here i == 1))
 
--- the second window is the first one generation later, if nothing is alive around it
+-- window `y` is what window `x` becomes after one generation, if nothing is alive around `x`
 abbrev pub IsNextWindow : Numbers → ℕ → List (List ℕ) → List (List ℕ) → Type 0
 IsNextWindow rule n x y = (r : ℕ) → r < 4 * n → IsNextRow rule (row_above n x r) (row_at n x r) (row_below n x r) (row_at n y r)
 

@@ -22,7 +22,7 @@ after-then rule cells g (suc n) =
 one_more : (place stride : ℕ) → (place + 1) * stride ≡ place * stride + stride
 one_more place stride = ap (λ (p : ℕ). p * stride) (add-one place) ∙ suc-mul place stride
 
--- the first checkpoint, and the next one
+-- generation 0 is a checkpoint, and so is the generation one stride after a checkpoint, if it isn't past the limit
 pub first_checkpoint : (profile : Settling) → IsCheckpoint profile 0
 first_checkpoint profile = record {
   place = 0;

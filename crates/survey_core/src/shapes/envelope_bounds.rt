@@ -146,7 +146,8 @@ fn cycles_in(horizon: u32, period: u32) -> u32
     }
 }
 
-/// Checks whether cycles of `period` generations suit the envelope.
+/// Checks whether the envelope can be followed in cycles of `period` generations: `period` is its own period, or the
+/// pattern recurs in place, so that any cycle will do.
 fn serves(period: u32, envelope: &EnvelopeBounds) -> bool
     ensures { IsTrue result → Serves period envelope.now }
 {

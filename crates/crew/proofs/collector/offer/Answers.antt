@@ -67,7 +67,7 @@ returns-in-Memory c = record {
       book_takes c.args.haul.now.terms arrivals c.args.report (Some c.in-Err.refused.reason) (c.in-Err.ensures.reply arrivals here) (ap Some c.in-Memory.is);
 }
 
--- src/collector.rt:55:1
+-- a refusal for another reason than memory leaves the haul unchanged
 pub returns : goal.returns
 returns c = let other = c.in_default.not-Memory out_of_memory in record {
   added = inl c.in-Err.ensures.kept;

@@ -1,4 +1,4 @@
--- The rows of the word columns of a board that may have a live cell.
+-- Lemmas about row spans: a row span says which rows of a board's word column may have live cells.
 use Rattle.std.proofs.Common.{◌≡◌, ◌≢◌, ◌==◌, ◌+◌, ◌/◌, ◌%◌, ◌<◌, ◌≤◌, ℕ, pos, ◌+ℤ◌, ◌-ℤ◌, true, List, [], ◌∷◌}
 use Rattle.std.proofs.Common.{arith, ap, ◌∙◌, sym, subst, inl, inr, ◌⊎◌, length, take, get_or, get_or-set_other, get_or-set_same, set}
 use Rattle.std.proofs.Common.{slice_index, slice_index_or}

@@ -87,7 +87,7 @@ map_fixed f [] same k d low = absurd (omega arith)
 map_fixed f (part ∷ parts) same zero d low = ap (λ (list : List (List Cell)). get_or list 0 part) same
 map_fixed f (part ∷ parts) same (suc k) d low = map_fixed f parts (ap (λ (list : List (List Cell)). drop 1 list) same) k d (omega arith)
 
--- clusters that keep apart until each of them is itself again keep apart forever
+-- if clusters keep apart up to a generation in which each of them is itself again, they keep apart forever
 pub apart_once_back : (rule : Numbers) (cells : List Cell) (clusters alone : List (List Cell)) (L : ℕ) → 1 ≤ L → InOrder cells → Partition cells clusters
     → alone ≡ map (λ part. after rule part L) clusters → alone ≡ clusters → ((g : ℕ) → g ≤ L → KeepApart rule cells clusters g)
     → (g : ℕ) → KeepApart rule cells clusters g

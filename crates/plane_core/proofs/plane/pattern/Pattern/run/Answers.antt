@@ -67,7 +67,7 @@ refused_at_edge : (cells : List Cell) (error : StepError) → RefusesStep cells 
 refused_at_edge cells Edge refused e = refused
 refused_at_edge cells (Memory error) refused e = cc
 
--- if a generation touched the edge, the pattern came further than it can
+-- the step's error isn't `Edge` if the pattern starts far enough from the edge: it can't get there in so few generations
 pub returns-in_err-pattern-in-None-clause-never_edge : goal.returns-in_err-pattern-in-None-clause-never_edge
 returns-in_err-pattern-in-None-clause-never_edge c reach h far e =
     let told = err_from_is_err_and c.from_residual-in_err-pattern-in-None.result c.from_residual-in_err-pattern-in-None.ensures.1 in
