@@ -9,28 +9,28 @@ use Rattle.arguments.specs.declared.options.ValueKind.TheVariants as kind
 use Rattle.arguments.specs.Entries.{Command, Entry}
 use Rattle.arguments.specs.Table.{commands}
 
--- the argument of a row with only its name and place
+-- the argument that a row describes, with only its name and place
 abbrev pub named : Entry → Rule
 named entry = record (new_rule entry.name) {
   long = if entry.is_named then Some entry.name else None;
   value_names = if entry.is_named then 1 else 0;
 }
 
--- the argument of a row, as one that takes any text as its value
+-- the argument that a row describes, with any text as its value; without a default, it must be given
 abbrev pub placed : Entry → Rule
 placed entry = record (named entry) {
   required = not (is_some entry.default);
   defaults = option_map_or (λ text. text ∷ []) entry.default [];
 }
 
--- the argument of a row with the values that its kind allows
+-- the argument that a row describes, which allows only the values of this kind
 abbrev pub rule_by : Entry → ValueKind → Rule
 rule_by entry kind.Text = placed entry
 rule_by entry kind.Flag = record (new_rule entry.name) { long = Some entry.name; action = Some SetTrue }
 rule_by entry (kind.Number least most) = record (placed entry) { parser = Some (Unsigned least most) }
 rule_by entry (kind.OptionalNumber least most) = record (named entry) { parser = Some (Unsigned least most) }
 
--- the argument of a row, as `clap` knows it
+-- the argument that a row describes, as `clap` knows it
 abbrev pub rule_in : Entry → Rule
 rule_in entry = rule_by entry entry.kind
 

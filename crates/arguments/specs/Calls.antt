@@ -1,4 +1,4 @@
--- The laws: what the calls of the program ask for, whatever the arguments.
+-- Laws about what a call of the program asks for.
 use Rattle.std.specs.Prelude.{◌≡◌, ◌++◌, false, true, List, [], ◌∷◌, None, Option, Some, codes, option_map}
 use Rattle.std.specs.List.{list_any}
 use Rattle.std.specs.Str.{bytes_eq}
@@ -14,20 +14,21 @@ use Rattle.arguments.specs.Table.{commands}
 use Rattle.arguments.specs.Table as table
 use Rattle.arguments.specs.Uses.{Use, entry_in, is_used, arguments_in, arguments_of}
 
--- What a call of the command asks for, if its arguments are lawful, each given at most once, in any order, and no
--- required argument is missing. It may be nothing.
+-- each call of the command asks for `asked uses` (for nothing if this is `None`), if its arguments are lawful, each is
+-- given at most once, in any order, and no required one is missing
 abbrev pub AsksForWhat : Command → (List Use → Option Request) → Type 0
 AsksForWhat command asked =
     (program : Text) (uses : List Use) → AreUses command uses → lacks_some command uses ≡ false
     → asked_by (program ∷ command.name ∷ arguments_in uses) ≡ asked uses
 
--- each such call of the command asks for this request
+-- a call of the command with lawful arguments, of which no required one is missing, asks for `request uses`
 abbrev pub AsksFor : Command → (List Use → Request) → Type 0
 AsksFor command request = AsksForWhat command (λ uses. Some (request uses))
 
--- each command asks for its request, with the values that are given and the defaults of the others
+-- each command asks for its request, with the values of the arguments that are given and the defaults of those that
+-- aren't
 pub record AskForTheirValues : Type 0 where
-  -- a call for sizes with coordinates, or for sizes from a generation after the last, asks for nothing
+  -- a call with `--sizes FROM` asks for nothing if it also has `--coordinates`, or if FROM is greater than N
   pub run : AsksForWhat table.run_command
       (λ uses. option_map (λ form. Run (number_given table.generations uses) form (text_given table.rule uses)) (run_form_given uses))
   pub name : AsksFor table.name_command (λ uses. Name (profile_given uses) (text_given table.rule uses))
@@ -38,9 +39,9 @@ pub record AskForTheirValues : Type 0 where
   pub work : AsksFor table.work_command (λ uses. Work (plan_given uses) (number_given table.worker uses))
   pub gather : AsksFor table.gather_command (λ uses. Gather (plan_given uses) (number_given table.workers uses))
 
--- Arguments of a command ask for nothing if a required one is missing; or if lawful ones are followed by one that was
--- given before, a value out of its range, an unknown option, an argument such as `-x` or `-h`, or `--help`, whatever
--- comes after it.
+-- A call of the command with lawful arguments asks for nothing if a required argument is missing. It also asks for
+-- nothing if the lawful arguments are followed by an argument that was given before, an argument with a value out of
+-- its range, an unknown option, an argument such as `-x` or `-h`, or `--help`. Further arguments may follow.
 pub record AskForNothing (command : Command) : Type 0 where
   pub missing : (program : Text) (uses : List Use) → AreUses command uses → lacks_some command uses ≡ true
       → asked_by (program ∷ command.name ∷ arguments_in uses) ≡ None
@@ -55,7 +56,7 @@ pub record AskForNothing (command : Command) : Type 0 where
   pub help : (program : Text) (uses : List Use) (more : List Text) → AreUses command uses
       → asked_by (program ∷ command.name ∷ (arguments_in uses ++ codes "--help" ∷ more)) ≡ None
 
--- this holds for each command
+-- `AskForNothing` holds for each command of the table
 abbrev pub OthersAskForNothing : Type 0
 OthersAskForNothing = (command : Command) → IsIn command commands → AskForNothing command
 

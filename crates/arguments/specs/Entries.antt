@@ -21,12 +21,12 @@ pub record Command : Type 0 where
   pub name : Text
   pub parameters : List Entry
 
--- the argument is given after `--` and its name
+-- the argument is written with `--` and its name, not by its position
 abbrev pub is_named : Place → Bool
 is_named place.Position = false
 is_named (place.Named shown) = true
 
--- the row of an argument in the program, without its help texts
+-- the row that the code has for an argument, without its help texts
 abbrev pub entry_of : Parameter → Entry
 entry_of row = record {
   name = row.name.now;
@@ -35,7 +35,7 @@ entry_of row = record {
   default = option_map (λ text. text.now) row.default;
 }
 
--- the row of a command in the program, without its help texts
+-- the row that the code has for a command, without its help texts
 abbrev pub command_of : CommandRow → Command
 command_of row = record { name = row.name.now; parameters = map entry_of row.parameters.now }
 

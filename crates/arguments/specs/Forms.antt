@@ -14,14 +14,15 @@ pattern_form false = Plaintext
 abbrev pub sizes_up_to : ℕ → ℕ → Option RunForm
 sizes_up_to last from = if nat_le from last then Some (Sizes from) else None
 
--- What `run` prints: the pattern after the last generation, or, if a first generation is given, the sizes from the
--- first to the last. It is `None` if coordinates are asked for as well, or if the first generation is after the last.
+-- What `run` prints: the pattern after the last generation or, if a first generation is given, the sizes of the
+-- generations from the first to the last. The result is `None` if both sizes and coordinates are asked for, or if the
+-- first generation is after the last.
 abbrev pub run_form : PatternForm → ℕ → Option ℕ → Option RunForm
 run_form form last None = Some (Pattern form)
 run_form Plaintext last (Some from) = sizes_up_to last from
 run_form Coordinates last (Some from) = None
 
--- sizes begin at the last generation or before it
+-- if `run` prints sizes, they begin at generation `last` or before
 abbrev pub BeginsUpTo : ℕ → RunForm → Type 0
 BeginsUpTo last (Pattern form) = Unit {0}
 BeginsUpTo last (Sizes from) = from ≤ last

@@ -13,7 +13,7 @@ use Rattle.arguments.specs.Forms.{pattern_form, run_form}
 use Rattle.arguments.specs.Table as table
 use Rattle.arguments.specs.Uses.{Use, entry_in, is_used, value_in}
 
--- the value of an argument: the one that is given, or otherwise the default
+-- the value of an argument: the one that is given, or otherwise the default (an empty text if there is none)
 abbrev pub text_given : Entry → List Use → Text
 text_given entry [] = unwrap_or entry.default []
 text_given entry (u ∷ more) = if bytes_eq (entry_in u).name entry.name then value_in u else text_given entry more
@@ -22,19 +22,19 @@ text_given entry (u ∷ more) = if bytes_eq (entry_in u).name entry.name then va
 abbrev pub number_given : Entry → List Use → ℕ
 number_given entry uses = digits_value 10 (text_given entry uses)
 
--- the number that is given for an argument, if it is given
+-- the number that is given for an argument, or `None` if the argument isn't given
 abbrev pub number_if_given : Entry → List Use → Option ℕ
 number_if_given entry uses = if is_used entry.name uses then Some (number_given entry uses) else None
 
--- the form of the pattern that a call asks for
+-- the pattern form that a call asks for
 abbrev pub form_given : List Use → PatternForm
 form_given uses = pattern_form (is_used table.coordinates.name uses)
 
--- what a call of `run` asks for
+-- what a call of `run` prints, or `None` if its options contradict each other
 abbrev pub run_form_given : List Use → Option RunForm
 run_form_given uses = run_form (form_given uses) (number_given table.generations uses) (number_if_given table.sizes uses)
 
--- the numbers of a profile that a call gives
+-- the profile of a call: its four numbers, as given or by default
 abbrev pub profile_given : List Use → ProfileNumbers
 profile_given uses = record {
   period = number_given table.period uses;
@@ -43,7 +43,7 @@ profile_given uses = record {
   limit = number_given table.limit uses;
 }
 
--- the set of soups that a call gives
+-- the set of soups of a call
 abbrev pub set_given : List Use → SoupSet
 set_given uses = record {
   seed = text_given table.seed uses;
@@ -52,6 +52,6 @@ set_given uses = record {
   also = text_given table.also uses;
 }
 
--- the plan that a call gives
+-- the plan of a call: its set of soups, its profile and its rule
 abbrev pub plan_given : List Use → Plan
 plan_given uses = record { set = set_given uses; profile = profile_given uses; rule = text_given table.rule uses }

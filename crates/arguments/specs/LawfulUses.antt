@@ -15,13 +15,13 @@ abbrev pub IsIn : {X : Type 0} → X → List X → Type 0
 IsIn x [] = ⊥
 IsIn x (y ∷ more) = (y ≡ x) ⊎ IsIn x more
 
--- the text has the digits of a number in this range
+-- the text consists of the decimal digits of a number from `least` to `most`
 pub record IsNumberFromTo (least most : ℕ) (text : Text) : Type 0 where
   pub numeral : IsNumeral 10 text
   pub low : least ≤ digits_value 10 text
   pub high : digits_value 10 text ≤ most
 
--- the value is of this kind
+-- the value is allowed for an argument of this kind; for a flag, it is `true`
 abbrev pub IsOfKind : ValueKind → Text → Type 0
 IsOfKind (kind.Number least most) value = IsNumberFromTo least most value
 IsOfKind (kind.OptionalNumber least most) value = IsNumberFromTo least most value
@@ -45,7 +45,7 @@ may_lack kind.Flag = true
 may_lack (kind.OptionalNumber least most) = true
 may_lack _ = false
 
--- an argument without a default must be given, unless its kind may be left out
+-- the argument must be given: it has no default, and arguments of its kind may not be left out
 abbrev pub is_required : Entry → Bool
 is_required entry = not (may_lack entry.kind) && not (is_some entry.default)
 
@@ -55,18 +55,18 @@ lacks_some command uses = list_any (λ entry. is_required entry && not (is_used 
 
 -- ---- arguments that a command refuses
 
--- the text has no sign, and doesn't have the digits of a number in this range
+-- the text has no sign, and doesn't consist of the decimal digits of a number from `least` to `most`
 abbrev pub IsNoNumber : ℕ → ℕ → Text → Type 0
 IsNoNumber least most text =
     (starts_with_minus text ≡ false) × (without_leading_plus text ≡ text) × (IsNumberFromTo least most text → ⊥)
 
--- the value of a numeric argument has no sign, and isn't a number in its range
+-- the kind is numeric, and the value has no sign and isn't a number in the kind's range
 abbrev pub IsNotOfKind : ValueKind → Text → Type 0
 IsNotOfKind (kind.Number least most) value = IsNoNumber least most value
 IsNotOfKind (kind.OptionalNumber least most) value = IsNoNumber least most value
 IsNotOfKind _ value = ⊥
 
--- an argument of the command, with a value that is out of its range
+-- an argument of the command, in an allowed form but with a value that isn't a number in its range
 pub record IsOutOfRange (command : Command) (u : Use) : Type 0 where
   pub parameter : IsIn (entry_in u) command.parameters
   pub stands : Stands u
@@ -79,7 +79,7 @@ pub record IsShort (argument : Text) : Type 0 where
   pub is_short : short_of argument ≡ Some letters
   pub first : slice_get (chars letters) 0 ≡ Some letter
 
--- `--name` or `--name=VALUE`, which is no option of the command, nor `--help`
+-- `--name` or `--name=VALUE`, where the name is neither that of an option of the command nor `help`
 pub record IsUnknown (command : Command) (argument : Text) : Type 0 where
   pub name : Text
   pub value : Option Text

@@ -11,7 +11,7 @@ use Rattle.arguments.specs.Plans.{plan_in, profile_in}
 use Rattle.arguments.specs.Table.{code, coordinates, generations, number, progress, report_from, rule, seed, sizes, worker, workers}
 use Rattle.arguments.specs.Values.{is_given, number_found, text_found}
 
--- the request of each command, if its values were found
+-- for each command: its request, or `None` if a value wasn't found or options of `run` contradict each other
 abbrev pub run_from : PatternForm → Option ℕ → Option ℕ → Option Text → Option Request
 run_from form from (Some n) (Some rule) = option_map (λ printed. Run n printed rule) (run_form form n from)
 run_from form from _ _ = None
@@ -40,11 +40,11 @@ abbrev pub gather_from : Option Plan → Option ℕ → Option Request
 gather_from (Some plan) (Some workers) = Some (Gather plan workers)
 gather_from _ _ = None
 
--- the form of the pattern, given what was found
+-- the pattern form that the values found for the arguments ask for
 abbrev pub form_in : List Row → PatternForm
 form_in rows = pattern_form (is_given coordinates rows)
 
--- the request of each command, given what was found for its arguments
+-- for each command: its request, from the values that were found for its arguments
 abbrev pub run_request : List Row → Option Request
 run_request rows = run_from (form_in rows) (number_found sizes rows) (number_found generations rows) (text_found rule rows)
 

@@ -9,7 +9,7 @@ use Rattle.arguments.specs.Application.{census_app}
 pub use Rattle.arguments.specs.NumbersInRange.{AreInTheirRanges, AreProfileNumbers}
 use Rattle.arguments.specs.Reading.{gather_request, name_request, run_request, show_request, soup_request, take_request, work_request}
 
--- the request of the command with this name
+-- the request of the command with the name `found.0`, from the values `found.1` that were found for its arguments
 abbrev pub request_in : Text × List Row → Option Request
 request_in found =
     if bytes_eq found.0 (codes "run") then run_request found.1
@@ -21,7 +21,7 @@ request_in found =
     else if bytes_eq found.0 (codes "gather") then gather_request found.1
     else None
 
--- a request, if nothing is wrong with the arguments
+-- the request, or `None` if `clap` has found a fault; asking for help counts as one
 abbrev pub unless_faulty : Kinds → Option Request → Option Request
 unless_faulty [] request = request
 unless_faulty (kind ∷ kinds) request = None
@@ -35,10 +35,11 @@ abbrev pub asks_version : List Text → Bool
 asks_version (program ∷ argument ∷ []) = is_version argument
 asks_version _ = false
 
--- what `clap` makes of the arguments: no request if it finds a fault in them, or they ask for help
+-- the request that `clap` reads from the arguments, or `None` if they have a fault, ask for help, or contradict each
+-- other
 abbrev pub called_by : List Text → Option Request
 called_by arguments = unless_faulty (fault_of census_app arguments) (option_and_then request_in (subcommand_of census_app arguments))
 
--- what the arguments ask for; the first is the program's name
+-- the request that the arguments make, or `None` if they ask for nothing; the first argument is the program's name
 abbrev pub asked_by : List Text → Option Request
 asked_by arguments = if asks_version arguments then Some Version else called_by arguments

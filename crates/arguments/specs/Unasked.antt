@@ -5,7 +5,7 @@ use Rattle.clap.specs.declared.error.kind.ErrorKind.TheVariants.{OutOfMemory}
 use Rattle.arguments.specs.declared.calls.Unasked.{Unasked}
 use Rattle.arguments.specs.declared.calls.Unasked.TheVariants.{Memory, Unread, Usage}
 
--- the arguments are not understood, or ask for help
+-- the reason is the arguments: they aren't understood, contradict each other, or ask for help
 abbrev pub IsUsage : Unasked → Type 0
 IsUsage (Usage text) = Unit {0}
 IsUsage (Unread error) = ⊥
@@ -17,7 +17,7 @@ pub record IsUsageText (text : List ℕ) : Type 0 where
   pub some : 0 < length prefix
   pub ended : text ≡ prefix ++ codes "\n"
 
--- there is a usage text, or memory was refused
+-- the reason has a usage text, or is that memory ran out
 abbrev pub SaysWhy : Unasked → Type 0
 SaysWhy (Usage text) = IsUsageText (string_bytes text)
 SaysWhy (Unread error) = kind_of error ≡ OutOfMemory

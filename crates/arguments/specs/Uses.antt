@@ -8,7 +8,7 @@ use Rattle.arguments.specs.declared.options.ValueKind.{ValueKind}
 use Rattle.arguments.specs.declared.options.ValueKind.TheVariants as kind
 use Rattle.arguments.specs.Entries.{Entry}
 
--- an argument in a call: VALUE by itself, `--name VALUE`, `--name=VALUE`, or `--name` of a flag
+-- an argument in a call: VALUE by itself, `--name VALUE`, `--name=VALUE`, or the flag `--name`
 pub data Use : Type 0 where
   alone : Entry → Text → Use
   spaced : Entry → Text → Use
@@ -44,17 +44,17 @@ arguments_in uses = flat_map arguments_of uses
 abbrev pub is_used : Text → List Use → Bool
 is_used name uses = list_any (λ u. bytes_eq (entry_in u).name name) uses
 
--- a flag has no value
+-- the kind is that of a flag, which has no value
 abbrev pub is_flag : ValueKind → Bool
 is_flag kind.Flag = true
 is_flag _ = false
 
--- a text that is a command-line argument by itself doesn't begin with `-`
+-- the value may be a command-line argument by itself: if it is a text, it doesn't begin with `-`
 abbrev pub IsBare : ValueKind → Text → Type 0
 IsBare kind.Text value = starts_with_minus value ≡ false
 IsBare _ value = ⊤
 
--- the argument is given in an allowed form: with a name or without one, with a value or as a flag
+-- the argument is given in a form that its row allows: with its name or without, with a value or as a flag
 abbrev pub Stands : Use → Type 0
 Stands (alone entry value) = (entry.is_named ≡ false) × (is_flag entry.kind ≡ false) × IsBare entry.kind value
 Stands (spaced entry value) = (entry.is_named ≡ true) × (is_flag entry.kind ≡ false) × IsBare entry.kind value

@@ -9,25 +9,25 @@ use Rattle.arguments.specs.declared.options.ValueKind.{ValueKind}
 use Rattle.arguments.specs.declared.options.ValueKind.TheVariants as kind
 use Rattle.arguments.specs.Entries.{Entry}
 
--- the number up to a limit that a text spells in digits, perhaps after a plus
+-- the number that a text spells in digits, perhaps after a `+`, if it is at most `most`
 abbrev pub number_named : ℕ → Text → Option ℕ
 number_named most text =
     let digits = without_leading_plus text in
     if is_numeral digits && nat_le (digits_value 10 digits) most then Some (digits_value 10 digits) else None
 
--- the number, if it is at most the limit
+-- the number, if it is at most `most`
 abbrev pub within : ℕ → ℕ → Option ℕ
 within most n = if nat_le n most then Some n else None
 
--- the number up to a limit that was found for an argument
+-- the number that was found for an argument, if it is at most `most`
 abbrev pub number_up_to : ℕ → Text → List Row → Option ℕ
 number_up_to most id rows = option_and_then (number_named most) (one_of id rows)
 
--- the number, if it is at least this
+-- the number, if it is at least `least`
 abbrev pub at_least : ℕ → ℕ → Option ℕ
 at_least least n = if nat_le least n then Some n else None
 
--- the number that was found for an argument of this kind, in its range
+-- the number that was found for an argument of this kind, if it is in the kind's range
 abbrev pub number_by : ValueKind → Text → List Row → Option ℕ
 number_by kind.Text id rows = None
 number_by kind.Flag id rows = None
@@ -46,7 +46,7 @@ text_found entry rows = first_of entry.name rows
 abbrev pub is_given : Entry → List Row → Bool
 is_given entry rows = option_map_or (λ text. bytes_eq text (codes "true")) (first_of entry.name rows) false
 
--- a number is in the range of a kind
+-- the kind is numeric, and the number is in its range
 abbrev pub IsInRange : ValueKind → ℕ → Type 0
 IsInRange kind.Text n = ⊥
 IsInRange kind.Flag n = ⊥

@@ -1,4 +1,4 @@
--- How the program ends, from its arguments to the bytes that it leaves.
+-- How the program ends: it has done what its arguments ask for, or it complains.
 use Rattle.std.specs.Prelude.{◌≡◌, ◌++◌, ◌⊎◌, ℕ, true, false, List, Option, None, Some, Ok, ⊤, codes}
 use Rattle.std.specs.Io.KnownBytes.{Appends}
 use Rattle.pattern_commands.specs.declared.ending.status.Status.{Status}
@@ -23,7 +23,7 @@ abbrev pub left_by : {V : Type 0} → (V → Option (List ℕ)) → V → Option
 left_by contents old None = contents old
 left_by contents old (Some new) = contents new
 
--- a stream between an earlier moment and a later one
+-- a stream from the moment at which `earlier` ends to the moment at which `later` ends
 abbrev pub since : Stream → Stream → Stream
 since earlier later = record { before = earlier.after; after = later.after; failed = later.failed }
 
@@ -33,9 +33,9 @@ pub record HasTextAndLine (errors : Stream) (text line : List ℕ) : Type 0 wher
   pub whole : Appends errors.before so_far text
   pub last : HasLine (record { before = so_far; after = errors.after; failed = errors.failed }) line
 
--- What the arguments ask for was done: its text is right for this input, and was added to the writer completely.
--- `missing` soups are missing, which is 0 except for `gather`. Standard error has the diagnostics of `gather` about
--- lines and missing soups, or the lines of late soups of `take`.
+-- What the arguments ask for was done: the text is right for this input, and was added to the writer completely.
+-- `missing` is the number of missing soups, which is 0 except for `gather`. Standard error has the diagnostics of
+-- `gather` about lines and missing soups, or the report lines of `take` about late soups.
 pub record IsDone (arguments : List Text) (reader before after : Option (List ℕ)) (errors : Stream) (missing : ℕ) : Type 0 where
   pub request : Request
   pub asked : asked_by arguments ≡ Some request
@@ -53,14 +53,14 @@ IsPrefixOf None sent = ⊤
 IsPrefixOf (Some xs) None = ⊥
 IsPrefixOf (Some xs) (Some ys) = (remainder : List ℕ) × (ys ++ remainder ≡ xs)
 
--- after the diagnostics of a command, standard error has the line of a failed write, unless a write to it had failed
--- before
+-- after the diagnostics of a command, standard error has the line that says that a write failed, unless a write to
+-- standard error had failed before
 pub record HasWriteFailedLine (diagnostics errors : Stream) : Type 0 where
   pub line : diagnostics.failed ≡ false → HasLine (since diagnostics errors) write_failed_line
   pub stays : diagnostics.failed ≡ true → errors.failed ≡ true
 
--- the command ended with a complaint, and the program ends with its exit code; or the command printed its text, and a
--- flush of it failed
+-- the command ended with a complaint, whose exit code is that of the program; or the command printed its text, but
+-- flushing the text failed
 abbrev pub EndsBadly : Status → ℕ → Stream → Stream → Type 0
 EndsBadly status number diagnostics errors =
     ((has_printed status ≡ false) × (number ≡ exit_code status) × (errors ≡ diagnostics))

@@ -1,4 +1,4 @@
--- What the program promises for each code that it ends with.
+-- What holds when the program has ended, for each exit code.
 use Rattle.std.specs.Prelude.{◌≡◌, ◌≢◌, ℕ, suc, false, true, List, [], Option, None, Some, IfSome, IsSomeAnd}
 use Rattle.pattern_commands.specs.Streams.{Stream, Has}
 use Rattle.arguments.specs.Requests.{Text, asked_by}
@@ -16,7 +16,7 @@ pub record LeavesAlone (arguments : List Text) (code : ℕ) (errors : Stream) (i
   pub untouched : code ≡ 2 → input × output
   -- code 3: nothing was printed
   pub refused : code ≡ 3 → output
-  -- code 3: nothing was read, unless the input may be what was refused
+  -- code 3: nothing was read, if the command can't refuse its input
   pub unread_refused : code ≡ 3 → IfSome (asked_by arguments) (λ request. refuses_input request ≡ false → input)
   -- code 4: nothing was printed, if the command's text is complete before its first byte is written
   pub nothing_left : code ≡ 4 → IfSome (asked_by arguments) (λ request. is_whole request ≡ true → unprinted)

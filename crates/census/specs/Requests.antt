@@ -1,4 +1,4 @@
--- The behaviour of each request, and how doing it may end.
+-- How the command of each request behaves, and how it may end.
 use Rattle.std.specs.Prelude.{◌≡◌, ◌⊎◌, ℕ, Bool, true, false, List, [], None, Option, Some, IsSomeAnd}
 use Rattle.memory.specs.Witness.{out_of_memory}
 use Rattle.pattern_commands.specs.declared.ending.complaint.Complaint.TheVariants as complaint
@@ -62,7 +62,8 @@ refuses_input request = (behaviour_of request).refuses
 abbrev pub is_whole : Request → Bool
 is_whole request = (behaviour_of request).whole
 
--- the command writes more than its last line to standard error: diagnostics about lines of its input, or report lines
+-- the command may write to standard error before its last line there: diagnostics about lines of its input, or report
+-- lines
 abbrev pub writes_lines : Request → Bool
 writes_lines (Gather plan workers) = true
 writes_lines (Take plan workers progress (Some from)) = true
@@ -75,13 +76,13 @@ is_over_sets (Work plan worker) = true
 is_over_sets (Gather plan workers) = true
 is_over_sets request = false
 
--- what is right for a request on an input
+-- which result or complaint is right for a request and an input
 abbrev pub right_for : Request → List ℕ → Makes
 right_for request = (behaviour_of request).right
 
 -- What a request leaves unchanged. `input` says that the reader is unchanged: this holds if the command doesn't read
--- its input, and after a refusal if the input can't be what was refused. `output` says that standard output is
--- unchanged: this holds after a refusal, and if memory ran out for a text that is complete before its first byte is
+-- its input, and after a refusal if the command can't refuse its input. `output` says that standard output is
+-- unchanged: this holds after a refusal, and if memory ran out and the text is complete before its first byte is
 -- written.
 pub record Spares (request : Request) (status : Status) (input output : Type 0) : Type 0 where
   pub unread : reads_input request ≡ false → input
@@ -89,20 +90,20 @@ pub record Spares (request : Request) (status : Status) (input output : Type 0) 
   pub untouched : status ≡ Refused → output
   pub no_memory : status ≡ Memory → is_whole request ≡ true → output
 
--- the command of a request has ended on an input as its behaviour allows
+-- the command of a request has ended as its behaviour allows for the input
 pub record DoesRequest (reader : Option (List ℕ)) (status : Status) (output errors : Stream) (request : Request) : Type 0 where
   pub bytes : List ℕ
   pub input : IsInput reader bytes
   pub ends : Ends (behaviour_of request) reader bytes status output errors
 
--- there was no memory to read the arguments or for a buffer, and nothing was done; this can't happen to `--version`
+-- there was no memory to read the arguments or for a buffer, and nothing was done; this can't happen with `--version`
 pub record LacksMemory (arguments : List Text) (status : Status) (output errors : Stream) : Type 0 where
   pub no_version : asks_version arguments ≡ false
   pub status_is : status ≡ Memory
   pub nothing : Has output []
   pub line : HasLine errors (complaint_line (complaint.Memory out_of_memory))
 
--- the command that the arguments ask for has ended, or there was no memory to read them or for a buffer
+-- the command that the arguments ask for has ended, or there was no memory to read the arguments or for a buffer
 abbrev pub DoesArguments : List Text → Option (List ℕ) → Status → Stream → Stream → Type 0
 DoesArguments arguments reader status output errors =
     IsSomeAnd (asked_by arguments) (DoesRequest reader status output errors) ⊎ LacksMemory arguments status output errors

@@ -31,7 +31,7 @@ code_text kind number text = opening text ++ (letter kind ++ (decimal number ++ 
 abbrev pub from_letter : List ℕ → List ℕ
 from_letter code = if starts_with nat_eq code (codes "ov_") then drop 3 code else drop 1 code
 
--- the kind that a letter stands for: `s` (115) for a still life, `p` (112) for an oscillator, and otherwise, as for
+-- the kind that a letter stands for: `s` (115) is a still life, `p` (112) an oscillator, and any other letter, such as
 -- `q`, a spaceship
 abbrev pub kind_of_letter : ℕ → Kind
 kind_of_letter letter = if letter == 115 then Still else if letter == 112 then Oscillator else Ship
@@ -44,7 +44,7 @@ kind_in code = kind_of_letter (slice_index (from_letter code) 0)
 abbrev pub is_digit : ℕ → Bool
 is_digit b = nat_le 48 b && nat_le b 57
 
--- the number of an apgcode, whose digits are after its letter
+-- the number in an apgcode, whose digits follow the letter
 unfoldable pub number_in : List ℕ → ℕ
 number_in code = digits_value 10 (take_while is_digit (drop 1 (from_letter code)))
 
@@ -52,8 +52,8 @@ number_in code = digits_value 10 (take_while is_digit (drop 1 (from_letter code)
 abbrev pub is_code_byte : ℕ → Bool
 is_code_byte b = is_character b || b == 95
 
--- an apgcode has 1 to 400 of these bytes: this project's bound, because the longest text has 327 bytes, and the rest
--- has less than 30
+-- An apgcode has 1 to 400 bytes, each of which is `0` to `9`, `a` to `z` or `_`. The bound is this project's own: the
+-- longest text of an object has 327 bytes, and the rest of the apgcode fewer than 30.
 pub record HasCodeShape (code : List ℕ) : Type 0 where
   pub some : 1 ≤ length code
   pub short : length code ≤ 400

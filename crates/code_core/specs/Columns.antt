@@ -1,4 +1,4 @@
--- Columns of five cells, by their values, and the cells of a list of tokens.
+-- Columns of five cells and their values, and the cells that tokens stand for.
 use Rattle.std.specs.Prelude.{◌≡◌, ◌==◌, ◌+◌, ◌*◌, ◌/◌, ◌%◌, ◌^◌, ℕ, pos, Bool, List, [], ◌∷◌, ◌++◌, Some, map, filter, if◌then◌else◌}
 use Rattle.std.specs.List.{range_with_len}
 use Rattle.plane_core.specs.declared.plane.cell.Cell.{Cell}
@@ -41,7 +41,7 @@ cells_from k x (NextStrip ∷ tokens) = cells_from (k + 1) 0 tokens
 abbrev pub token_cells : List Token → List Cell
 token_cells tokens = set_of (cells_from 0 0 tokens)
 
--- the pattern has this box, and these are its rows, counted from the corner of the box
+-- the pattern has this box, and the bits of `rows` are its cells, counted from the corner of the box
 pub record IsBoxed (b : Bounds) (rows : List ℕ) (cells : List Cell) : Type 0 where
   pub boxed : box_of cells ≡ Some b
   pub shown : ShowsInAllRows b.left b.top rows cells

@@ -21,8 +21,8 @@ image_box Flip b = box_to (pos (distance b.left b.right)) (pos (distance b.top b
 image_box Diagonal b = box_to (pos (distance b.top b.bottom)) (pos (distance b.left b.right))
 image_box AntiDiagonal b = box_to (pos (distance b.top b.bottom)) (pos (distance b.left b.right))
 
--- the place in the image of a cell of a pattern with this box: its column and row in the image are its distances from
--- two sides of the box
+-- where a cell of a pattern with this box is in the image: its column and row there are its distances from two sides of
+-- the box
 abbrev pub image_cell : Orientation → Bounds → Cell → Cell
 image_cell Same b c = cell_at (pos (distance b.left c.x)) (pos (distance b.top c.y))
 image_cell Quarter b c = cell_at (pos (distance c.y b.bottom)) (pos (distance b.left c.x))

@@ -1,4 +1,4 @@
--- How the least text of a pattern's images is found.
+-- How the least text of a pattern is found, among the texts of its phases in all orientations.
 use Rattle.std.specs.Prelude.{◌≡◌, ◌<◌, ℕ, List, [], get_or, length, Option, None, Some}
 use Rattle.std.specs.Ordering.{match_ordering}
 use Rattle.plane_core.specs.declared.plane.cell.Cell.{Cell}
@@ -16,7 +16,7 @@ earlier_text None b = b
 earlier_text (Some a) None = Some a
 earlier_text (Some a) (Some b) = match_ordering (text_cmp a b) (Some a) (Some a) (Some b)
 
--- t is a text of one of the first n groups of texts
+-- t is in one of the first n groups of texts, where `IsIn k` says which texts are in group k
 abbrev pub Among : (ℕ → List ℕ → Type 0) → ℕ → List ℕ → Type 0
 Among IsIn n t = (k : ℕ) × (k < n) × IsIn k t
 

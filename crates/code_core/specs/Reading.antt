@@ -28,7 +28,7 @@ single b =
 abbrev pub long_gap : ℕ → Token
 long_gap c = Gap (character_value c + 4)
 
--- a token followed by the others, or their fault
+-- these tokens with one more before them, or the fault that was found instead of them
 abbrev pub with_token : Token → Result (List Token) WechslerFault → Result (List Token) WechslerFault
 with_token token (Ok tokens) = Ok (token ∷ tokens)
 with_token token (Err fault) = Err fault
@@ -61,12 +61,12 @@ pattern_of_tokens (Err fault) = Err fault
 abbrev pub wechsler_pattern : List ℕ → Result (List Cell) WechslerFault
 wechsler_pattern text = pattern_of_tokens (tokens_at 0 text)
 
--- the pattern of a text of at most 10,000 bytes: this project's limit, far above the 327 bytes of the longest text of a
--- pattern
+-- The pattern of a text, or its fault, which is `TooLong` for more than 10,000 bytes. This limit is the project's own,
+-- far above the 327 bytes of the longest text of a pattern.
 abbrev pub wechsler_read : List ℕ → Result (List Cell) WechslerFault
 wechsler_read text = if nat_lt 10000 (length text) then Err TooLong else wechsler_pattern text
 
--- the text is that of the pattern: some tokens spell the text, and their cells are the pattern
+-- the text describes the pattern: some tokens spell the text, and their cells are the pattern
 pub record Says (text : List ℕ) (cells : List Cell) : Type 0 where
   pub tokens : List Token
   pub spells : Spells tokens text

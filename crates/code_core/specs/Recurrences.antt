@@ -11,7 +11,7 @@ use Rattle.plane_core.specs.plane.Rules.{Numbers}
 use Rattle.code_core.specs.declared.recurrence.Recurrence.{Recurrence}
 
 -- the pattern recurs: after the period, which is from 1 to the limit, it is the same pattern again, moved by (dx, dy),
--- and it isn't so after any earlier generation
+-- and none of the generations in between is a moved copy of the pattern
 pub record Recurs (rule : Numbers) (cells : List Cell) (limit : ℕ) (r : Recurrence) : Type 0 where
   pub some : 1 ≤ r.period
   pub within : r.period ≤ limit
@@ -19,12 +19,12 @@ pub record Recurs (rule : Numbers) (cells : List Cell) (limit : ℕ) (r : Recurr
   pub least : (p : ℕ) (dx dy : ℤ) → 1 ≤ p → p < r.period → after rule cells p ≢ shifted dx dy cells
 
 -- the search meets the edge: a generation below the limit touches the edge of the plane, and the pattern hasn't
--- recurred up to it
+-- recurred up to that generation
 abbrev pub MeetsEdge : Numbers → List Cell → ℕ → Type 0
 MeetsEdge rule cells limit = (g : ℕ) × (g < limit) × NeverRecurs rule cells g × (touches_edge (after rule cells g) ≡ true)
 
--- the search stays inside: no generation below the limit touches the edge of the plane, if the pattern hasn't recurred
--- up to it
+-- the search stays inside: as long as the pattern hasn't recurred, no generation below the limit touches the edge of
+-- the plane
 abbrev pub StaysInside : Numbers → List Cell → ℕ → Type 0
 StaysInside rule cells limit = (g : ℕ) → g < limit → NeverRecurs rule cells g → touches_edge (after rule cells g) ≡ false
 
@@ -44,8 +44,8 @@ pub record SearchEnds {X : Type 0} (IsFound : X → Type 0) (rule : Numbers) (ce
 unfoldable pub phases : Numbers → List Cell → ℕ → List (List Cell)
 phases rule cells n = map (after rule cells) (range_with_len 0 n)
 
--- The state of a search for the first generation that is the pattern again: none of the generations 1 to n is, `before`
--- has the generations before n, and `last` is generation n.
+-- The state of a search for the first generation that is the pattern again. It isn't among the generations 1 to n, and
+-- no generation before n touches the edge. `before` has the generations before n, and `last` is generation n.
 pub record Follows (rule : Numbers) (cells : List Cell) (n : ℕ) (before : List (List Cell)) (last : List Cell) : Type 0 where
   pub earlier : before ≡ phases rule cells n
   pub latest : last ≡ after rule cells n

@@ -11,8 +11,8 @@ use Rattle.code_core.specs.declared.reader.Token.TheVariants.{Column, Gap, NextS
 use Rattle.code_core.specs.Columns.{token_cells, column}
 use Rattle.code_core.specs.Tokens.{Spells, is_character, spelling}
 
--- The tokens of a strip after one more column is put before them. If the column is empty, it lengthens a gap that
--- follows. Otherwise it is a new gap, or is left out if no token follows.
+-- The tokens of a strip with one more column before them, which has this value. An empty column lengthens the gap that
+-- follows it, is a new gap if another token follows, and is left out if no token follows.
 abbrev pub before : ℕ → List Token → List Token
 before zero [] = []
 before zero (Gap n ∷ tokens) = Gap (n + 1) ∷ tokens
@@ -24,11 +24,11 @@ unfoldable pub strip_tokens : List ℕ → List Token
 strip_tokens [] = []
 strip_tokens (value ∷ values) = before value (strip_tokens values)
 
--- the values of the columns of strip k from the left, as many as the box is wide
+-- the values of the first `width` columns of strip k, from the left
 abbrev pub strip : List Cell → ℕ → ℕ → List ℕ
 strip cells width k = map (column cells k) (range_with_len 0 width)
 
--- the tokens of strips one below another
+-- the tokens of all strips from the top, with `NextStrip` between two strips
 abbrev pub joined_strips : List (List Token) → List Token
 joined_strips [] = []
 joined_strips (tokens ∷ []) = tokens

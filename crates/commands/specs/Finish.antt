@@ -1,4 +1,4 @@
--- How a haul is finished.
+-- How a haul is finished: its text is written.
 use Rattle.std.specs.Prelude.{◌≡◌, ℕ, true, false, [], Ok, Err, length}
 use Rattle.haul_core.specs.declared.book.census.Census.{Census}
 use Rattle.haul_core.specs.Books.{Held}

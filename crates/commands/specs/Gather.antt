@@ -33,7 +33,7 @@ gather_behaviour plan workers = record {
   breaks_off = λ errors. ((terms : Terms) × gather_opens plan workers terms) × (errors.failed ≡ true);
 }
 
--- the haul has these terms
+-- the terms `others` of a haul equal `terms`
 abbrev pub IsSame : Terms → Terms → Type 0
 IsSame terms others = others ≡ terms
 
@@ -59,8 +59,8 @@ pub record GivesUpAt (opens : Hauls) (most : ℕ) (reader left : Option (List �
   pub begun : HasBegunUpTo terms reader (prepend_known ahead left) errors.before errors.after
 
 -- How far the input was read: to its end if all lines were gathered. After a failed read, nothing was read beyond the
--- place, and all lines that end with a line feed were gathered. If memory ran out before a haul was opened, nothing was
--- read.
+-- place where gathering ended, and all lines that end with a line feed were gathered. If memory ran out before a haul
+-- was opened, nothing was read.
 abbrev pub HasReadUpTo : {R : Type 0} → Hauls → (remaining : R → Option (List ℕ)) → (old new : R) → Stream → Outcome → Type 0
 HasReadUpTo opens remaining old new errors (Ok missing) = IsSpent (remaining old) (remaining new)
 HasReadUpTo opens remaining old new errors (Err (Memory error)) =

@@ -44,7 +44,8 @@ pub record HasGatheredAll (reader left : Option (List ℕ)) (errors : Stream) (s
   pub come : HasCome (input_lines bytes) held diagnostics
   pub written : Has errors diagnostics
 
--- the lines up to here were gathered; after a line feed there may be more, and at the end of the input there are none
+-- all lines up to this line end were gathered: if it is a line feed, more lines may follow, and if it is the end of the
+-- input, all lines were gathered
 abbrev pub HasGatheredTo : Passage → Held → LineEnd → Type 0
 HasGatheredTo passage held Feed = HasGatheredLines passage held
 HasGatheredTo passage held Input = HasGatheredAll passage.reader passage.left passage.errors passage.size held
@@ -57,12 +58,12 @@ pub record HasGatheredShort (reader left : Option (List ℕ)) (errors : Stream) 
   pub few : length ahead ≤ 2 ^ 16
   pub all : HasGatheredAll reader (prepend_known ahead left) errors size held
 
--- the input has more than 2^32 bytes, if they are known
+-- if the bytes of the input are known, there are more than 2^32 of them
 abbrev pub IsTooLong : Option (List ℕ) → Type 0
 IsTooLong reader = IsLongerThan (2 ^ 32) reader
 
--- What holds if a complaint ends gathering and `left` is what is left of the input: standard error has the diagnostics
--- about all lines before, or a write to it failed.
+-- What holds if gathering ended with a complaint, and `left` is the input from that place on: standard error has the
+-- diagnostics about all lines before the place, or a write to standard error failed.
 abbrev pub EndsLines : Terms → (reader left : Option (List ℕ)) → Stream → Complaint → Type 0
 EndsLines terms reader left errors (Memory error) =
     HasBegunUpTo terms reader left errors.before errors.after × (errors.failed ≡ false)
@@ -73,13 +74,13 @@ EndsLines terms reader left errors TooLong =
 EndsLines terms reader left errors (WriteFailed error) = errors.failed ≡ true
 EndsLines terms reader left errors (Refused refusal) = ⊥
 
--- the same if the first bytes of what is left have already been read
+-- `EndsLines` holds for the place where gathering ended, but the bytes `ahead` after that place have been read as well
 pub record EndsLinesAt (terms : Terms) (reader left : Option (List ℕ)) (errors : Stream) (complaint : Complaint) : Type 0 where
   pub ahead : List ℕ
   pub few : length ahead ≤ most_ahead complaint
   pub ends : EndsLines terms reader (prepend_known ahead left) errors complaint
 
--- what holds after a complaint about a line that was read: nothing was written, or a write failed
+-- what holds if a line was read, but gathering it ended with a complaint: nothing was written, or a write failed
 abbrev pub EndsLine : {V : Type 0} → Output V → Output V → Complaint → Type 0
 EndsLine old new (Memory error) = new ≡ old
 EndsLine old new (ReadFailed error) = ⊥
@@ -87,8 +88,8 @@ EndsLine old new TooLong = ⊥
 EndsLine old new (WriteFailed error) = new.failed ≡ true
 EndsLine old new (Refused refusal) = ⊥
 
--- what holds after a complaint about the next line: what `EndsLine` says, or a read failed, or the input has more bytes
--- left than there is room for
+-- what holds if reading and gathering the next line ended with a complaint: what `EndsLine` says, or nothing was
+-- written because a read failed or the input has more than `room` bytes left
 abbrev pub EndsNext : {V : Type 0} → ℕ → Option (List ℕ) → Output V → Output V → Complaint → Type 0
 EndsNext room left old new (ReadFailed error) = new ≡ old
 EndsNext room left old new TooLong = (new ≡ old) × IsLongerThan room left

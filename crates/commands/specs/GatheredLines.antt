@@ -45,15 +45,16 @@ pub data IsLookedAt (job : Job) (line : List ℕ) : Result Reported LineFault �
   Whole : {outcome : Result Reported LineFault} → length line ≤ 2 ^ 24 → IsChecked job line outcome → IsLookedAt job line outcome
   Front : (place : ℕ) → 2 ^ 24 < length line → IsPrefixFault (take (2 ^ 24) line) place → IsLookedAt job line (Err (BadLine place))
 
--- the fault of a line whose report a haul refuses; an open haul refuses a report of its job for no other reason
+-- The fault of a line whose report a haul refuses for one of these three reasons, and otherwise `None`. An open haul
+-- refuses a report of its job for no other reason.
 abbrev pub offer_fault : Reported → Option OfferError → Option LineFault
 offer_fault report (Some offer_error.UnknownWorker) = Some (UnknownWorker report.worker)
 offer_fault report (Some offer_error.OutOfRange) = Some (OutOfRange report.number)
 offer_fault report (Some (offer_error.Double worker)) = Some (Double report.number worker)
 offer_fault report _ = None
 
--- The effect of a line after these arrivals: the arrival that it causes, if any, and the fault that is reported about
--- it, if any.
+-- The effect of a line on a haul that has had these arrivals before: the arrival that the line causes, if any, and the
+-- fault that is reported about the line, if any.
 pub data ComesOf (terms : Terms) (before : List Arrival) (line : List ℕ) : List Arrival → Option LineFault → Type 0 where
   Faulty : (fault : LineFault) → IsLookedAt terms.job line (Err fault) → ComesOf terms before line [] (Some fault)
   Offered : (report : Reported) → IsLookedAt terms.job line (Ok report)
@@ -77,7 +78,8 @@ abbrev pub fault_lines : ℕ → Option LineFault → List ℕ
 fault_lines number None = []
 fault_lines number (Some fault) = fault_line number fault
 
--- The arrivals that lines cause one after another in a haul that is empty at first, and the diagnostics about them.
+-- The arrivals that lines cause, one after another, in a haul that is empty at first, and the diagnostics about the
+-- lines.
 pub data Gathered (terms : Terms) : List (List ℕ) → List Arrival → List ℕ → Type 0 where
   Start : Gathered terms [] [] []
   Next : (lines : List (List ℕ)) (before : List Arrival) (diagnostics : List ℕ) (line : List ℕ) (arrived : List Arrival) (fault : Option LineFault)

@@ -29,7 +29,7 @@ pub record IsHaulOver (set : SoupSet) (workers : ℕ) (job : Job) (terms : Terms
   pub job_is : terms.job ≡ job
   pub workers_are : terms.workers ≡ workers
 
--- a property of hauls, by their terms
+-- a property of a haul's terms
 abbrev pub Hauls : Type 1
 Hauls = Terms → Type 0
 
@@ -50,13 +50,13 @@ pub record IsGathered (terms : Terms) (bytes : List ℕ) (gathering : Made) : Ty
   pub text_is : gathering.text ≡ haul_text census
   pub missing_is : gathering.missing ≡ length (missing_of terms.ranges taken)
 
--- the result of gathering an input in a haul that may open
+-- the result of gathering an input in a haul whose terms `opens` allows
 pub record IsGathering (opens : Hauls) (bytes : List ℕ) (gathering : Made) : Type 0 where
   pub terms : Terms
   pub opened : opens terms
   pub is : IsGathered terms bytes gathering
 
--- which gathering, or which complaint, is right for a plan; first the parts of its job are checked
+-- which gathering, or which complaint, is right for a plan; the parts of its job are checked before its set
 abbrev pub gather_right : Plan → ℕ → List ℕ → Makes
 gather_right plan workers bytes (Ok gathering) = IsGathering (gather_opens plan workers) bytes gathering
 gather_right plan workers bytes (Err (Refused refusal)) =
@@ -64,7 +64,8 @@ gather_right plan workers bytes (Err (Refused refusal)) =
 gather_right plan workers bytes (Err TooLong) = (terms : Terms) × gather_opens plan workers terms × (2 ^ 32 < length bytes)
 gather_right plan workers bytes (Err _) = ⊥
 
--- what is right for an open haul: what is gathered in it, or that its input is too long
+-- what is right once a haul is open: the result of gathering the input in it, or the complaint that the input is too
+-- long
 abbrev pub gathered_right : Terms → List ℕ → Makes
 gathered_right terms bytes (Ok gathering) = IsGathered terms bytes gathering
 gathered_right terms bytes (Err TooLong) = 2 ^ 32 < length bytes

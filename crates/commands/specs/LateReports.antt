@@ -1,4 +1,4 @@
--- The lines of late reports. A soup is late if it is unsettled, or its checkpoint is a given generation or later.
+-- The report lines of late soups. A soup is late if it is unsettled, or its checkpoint is a given generation or later.
 use Rattle.std.specs.Prelude.{◌≡◌, ℕ, All, Bool, List, [], Option, false, flat_map, if◌then◌else◌, nat_le, true}
 use Rattle.std.specs.Io.KnownBytes.{Appends}
 use Rattle.plane_core.specs.Outputs.{AppendsPrefix, Output}
@@ -16,12 +16,12 @@ is_late from Unsettled = true
 abbrev pub late_line : ℕ → Reported → List ℕ
 late_line from report = if is_late from report.finding then report_text report else []
 
--- the lines of the late ones among these reports, in their order
+-- the lines of the reports whose soups are late, in the order of the reports
 abbrev pub late_lines : ℕ → List Reported → List ℕ
 late_lines from reports = flat_map (late_line from) reports
 
--- These reports are right, and the lines of the late ones among them were written to a writer: all of these lines if no
--- write failed, and otherwise a prefix of them. Nothing is written after a failed write.
+-- These reports are right, and the lines of those whose soups are late were written to a writer: all of these lines if
+-- no write failed, and otherwise a prefix of them. Nothing is written after a failed write.
 pub record PutsReports {V : Type 0} (contents : V → Option (List ℕ)) (from : ℕ) (old new : Output V) (reports : List Reported) : Type 0 where
   pub right : All IsReport reports
   pub whole : new.failed ≡ false → (old.failed ≡ false) × Appends (contents old.writer) (contents new.writer) (late_lines from reports)

@@ -1,4 +1,4 @@
--- The lines of an input, and how one is read.
+-- The lines of an input, and how a line is read.
 use Rattle.std.specs.Prelude.{◌≡◌, ◌≢◌, ◌<◌, ◌≤◌, ◌==◌, ◌+◌, ◌^◌, ◌++◌, ℕ, List, [], ◌∷◌, All, IfSome, Option, None, Some, length, take, if◌then◌else◌}
 use Rattle.std.specs.Io.KnownBytes.{Consumes, IsAtEnd}
 use Rattle.pattern_commands.specs.declared.ending.complaint.Complaint.{Complaint}
@@ -8,12 +8,12 @@ use Rattle.commands.specs.declared.lines.LineEnd.TheVariants.{Feed, Input}
 use Rattle.commands.specs.declared.lines.LineRead.{LineRead}
 use Rattle.commands.specs.declared.lines.Piece.{Piece}
 
--- these lines, with a byte put before the first
+-- these lines, with a byte put at the beginning of the first line, or as a line of its own if there are no lines
 abbrev pub begun_with : ℕ → List (List ℕ) → List (List ℕ)
 begun_with byte [] = (byte ∷ []) ∷ []
 begun_with byte (line ∷ more) = (byte ∷ line) ∷ more
 
--- the lines of an input: a line feed (10) ends a line, and the last may lack it
+-- the lines of an input: a line feed (10) ends each line, but the last line may lack it
 abbrev pub input_lines : List ℕ → List (List ℕ)
 input_lines [] = []
 input_lines (byte ∷ more) = if byte == 10 then [] ∷ input_lines more else begun_with byte (input_lines more)
@@ -31,11 +31,11 @@ end_bytes Input = []
 abbrev pub with_end : LineEnd → List ℕ → List ℕ
 with_end end line = line ++ end_bytes end
 
--- nothing is left of the input, if that is known
+-- if the bytes of the input are known, none of them is left
 abbrev pub IsSpent : Option (List ℕ) → Option (List ℕ) → Type 0
 IsSpent old new = IfSome old (λ _. IsAtEnd new)
 
--- the reader has more than this many bytes left, if they are known
+-- if the bytes that the reader has left are known, there are more than `most` of them
 abbrev pub IsLongerThan : ℕ → Option (List ℕ) → Type 0
 IsLongerThan most reader = IfSome reader (λ bytes. most < length bytes)
 
@@ -50,7 +50,7 @@ pub record HasReadLine (room : ℕ) (old new : Option (List ℕ)) (kept : List �
   pub short : read.size ≤ room
   pub last : read.end ≡ Input → IsSpent old new
 
--- the bytes that end a piece, if a line ends with it
+-- the bytes of the line end of a piece: none if the line goes on after the piece
 abbrev pub piece_end : Option LineEnd → List ℕ
 piece_end None = []
 piece_end (Some end) = end_bytes end

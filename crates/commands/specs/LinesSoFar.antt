@@ -15,7 +15,7 @@ pub record AreEnded (bytes : List ℕ) (lines : List (List ℕ)) : Type 0 where
   pub spelled : bytes ≡ flat_map (with_end Feed) lines
   pub whole : All IsOneLine lines
 
--- these are all lines of the bytes that end with a line feed
+-- the bytes are these lines, each ended by a line feed, and then a part of a line, which may be empty
 pub record AreAllEnded (bytes : List ℕ) (lines : List (List ℕ)) : Type 0 where
   pub prefix : List ℕ
   pub part : List ℕ
@@ -29,15 +29,15 @@ pub record HasCome (lines : List (List ℕ)) (held : Held) (diagnostics : List �
   pub gathered : Gathered held.terms lines arrivals diagnostics
   pub stands : StandsFor arrivals held
 
--- The lines were gathered in the haul. `diagnostics` are those from before, and the diagnostics after them were added
+-- The lines were gathered in the haul. The diagnostics about them begin with `diagnostics`, and the others were added
 -- to standard error.
 pub record HasComeBy (lines : List (List ℕ)) (held : Held) (diagnostics : List ℕ) (errors : Stream) : Type 0 where
   pub more : List ℕ
   pub come : HasCome lines held (diagnostics ++ more)
   pub written : Has errors more
 
--- An input was read up to here, and its first lines were gathered: all of them, except perhaps the last, at which
--- gathering ended. Standard error has the diagnostics about the gathered lines.
+-- A part of an input was read, from its beginning. The lines of this part were gathered, except perhaps the last, at
+-- which gathering ended. Standard error has the diagnostics about the gathered lines.
 pub record HasBegunUpTo (terms : Terms) (reader left before after : Option (List ℕ)) : Type 0 where
   pub read : List ℕ
   pub consumed : Consumes reader left read
@@ -51,11 +51,11 @@ pub record HasBegunUpTo (terms : Terms) (reader left before after : Option (List
   pub gathered : Gathered terms lines arrivals diagnostics
   pub written : Appends before after diagnostics
 
--- the same for some place up to which the input was read
+-- `HasBegunUpTo` holds for some place up to which the input was read
 abbrev pub HasBegun : Terms → (reader before after : Option (List ℕ)) → Type 0
 HasBegun terms reader before after = (left : Option (List ℕ)) × HasBegunUpTo terms reader left before after
 
--- the most bytes that were read beyond the place where a complaint ends gathering: none if a read failed
+-- how many bytes may have been read, at most, beyond the place where gathering ended with this complaint
 abbrev pub most_ahead : Complaint → ℕ
 most_ahead (ReadFailed error) = 0
 most_ahead _ = 2 ^ 16

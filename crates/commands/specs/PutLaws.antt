@@ -1,4 +1,5 @@
--- Two laws of `PutsReports`: it holds for no reports, and if it holds for some and then for others, it holds for all.
+-- Two laws of `PutsReports`: it holds for an empty list of reports, and if it holds for one list and then for another,
+-- it holds for both lists joined.
 use Rattle.std.proofs.Common.{◌≡◌, ◌++◌, ◌∙◌, ℕ, Bool, List, [], Option, ap, false, refl, subst, sym, true}
 use Rattle.std.proofs.KnownBytes.{Appends-nil}
 use Rattle.std.proofs.lemmas.Grind.{flat_map-append}
@@ -10,7 +11,7 @@ use Rattle.haul_core.specs.Reports.{IsReport, Reported}
 use Rattle.commands.specs.LateReports.{PutsReports, late_line, late_lines}
 
 module _ {V : Type 0} (contents : V → Option (List ℕ)) (from : ℕ) where
-  -- no report was put
+  -- `PutsReports` holds for an empty list of reports if nothing has changed
   pub puts_none : (s : Output V) → PutsReports contents from s s []
   puts_none s = record {
     right = All-nil IsReport;
@@ -19,7 +20,7 @@ module _ {V : Type 0} (contents : V → Option (List ℕ)) (from : ℕ) where
     stays = λ failed. refl;
   }
 
-  -- some reports were put, and then others
+  -- if `PutsReports` holds for `xs` and then for `ys`, it holds for both lists joined
   pub puts_more : (s m t : Output V) (xs ys : List Reported) → PutsReports contents from s m xs → PutsReports contents from m t ys
       → PutsReports contents from s t (xs ++ ys)
   puts_more s m t xs ys p q = record {

@@ -9,7 +9,7 @@ use Rattle.pattern_commands.specs.declared.ending.complaint.Complaint.{Complaint
 use Rattle.pattern_commands.specs.declared.ending.complaint.Complaint.TheVariants.{Refused, Memory, ReadFailed, TooLong, WriteFailed}
 use Rattle.commands.specs.LateReports.{PutsReports}
 
--- why a haul isn't printed: memory ran out and no write of a line has failed, or the complaint is about a failed write
+-- a complaint after which no haul is printed: memory ran out (then no write of a line has failed), or a write failed
 abbrev pub StopsReporting : Bool → Complaint → Type 0
 StopsReporting failed (Memory error) = failed ≡ false
 StopsReporting failed (WriteFailed error) = Unit {0}
@@ -17,13 +17,13 @@ StopsReporting failed (Refused refusal) = ⊥
 StopsReporting failed (ReadFailed error) = ⊥
 StopsReporting failed TooLong = ⊥
 
--- a crew has taken soups of a haul, and the lines of its late reports were put
+-- a crew has taken soups of a haul, and `PutsReports` holds for the reports of its workers
 abbrev pub HasPutBy : {V : Type 0} → (V → Option (List ℕ)) → (workers from : ℕ) → (opened held : Held) → (old new : Output V) → Type 0
 HasPutBy contents workers from opened held old new =
     HasHeardCrew (λ worker number. Unit {0}) workers opened held (PutsReports contents from old new)
 
--- A crew has taken soups of a haul, and the lines of its late reports were written. If nothing stopped it, the haul is
--- complete, and no write has failed.
+-- A crew has taken soups of a haul, and `PutsReports` holds for the reports of its workers. If nothing stopped the
+-- crew, the haul is complete, and no write has failed.
 pub record HasReportedBy {V : Type 0} (contents : V → Option (List ℕ)) (workers from : ℕ) (opened held : Held) (old new : Output V)
     (taken : Result (Unit {0}) Complaint) : Type 0 where
   pub heard : HasPutBy contents workers from opened held old new

@@ -14,7 +14,7 @@ use Rattle.commands.specs.LateReports.{late_lines}
 use Rattle.commands.specs.SoupSets.{AreRangesOf, job_named}
 use Rattle.commands.specs.Take.{take_right}
 
--- right reports by these workers on a plan's soups, at most one on each
+-- right reports by these workers on a plan's soups, at most one on each soup
 pub record AreReportsOf (plan : Plan) (workers : ℕ) (reports : List Reported) : Type 0 where
   pub job : Job
   pub job_is : job_named plan ≡ Ok job
@@ -26,34 +26,33 @@ pub record AreReportsOf (plan : Plan) (workers : ℕ) (reports : List Reported) 
   pub within : All (λ r. is_in ranges r.number ≡ true) reports
   pub once : (n : ℕ) → times_reported n reports ≤ 1
 
--- there is a report on each soup of a plan, and the text has the lines of the late ones of these reports, in their
--- order
+-- the text has the report lines of all late soups of a plan, one line for each soup, in any order
 pub record TellsAllLate (plan : Plan) (workers from : ℕ) (text : List ℕ) : Type 0 where
   pub reports : List Reported
   pub are : AreReportsOf plan workers reports
   pub all : AreAll are.ranges (map (λ r. r.number) reports)
   pub text_is : text ≡ late_lines from reports
 
--- whole lines of late soups of a plan, at most one of each, were added
+-- report lines of late soups of a plan, at most one for each soup, were added completely
 pub record TellsLate (plan : Plan) (workers from : ℕ) (before after : Option (List ℕ)) : Type 0 where
   pub reports : List Reported
   pub are : AreReportsOf plan workers reports
   pub written : Appends before after (late_lines from reports)
 
--- the same, but the last line may be cut
+-- report lines of late soups of a plan, at most one for each soup, were added, but the last line may be cut
 pub record BreaksOffLate (plan : Plan) (workers from : ℕ) (errors : Stream) : Type 0 where
   pub reports : List Reported
   pub are : AreReportsOf plan workers reports
   pub written : HasPrefix errors (late_lines from reports)
 
--- what is right: the haul text of the complete haul, and the lines of all late soups; first the parts of the job are
--- checked
+-- what is right: the haul text of the complete haul with the report lines of all late soups, or a complaint that is
+-- right for `take`
 abbrev pub reporting_right : Plan → (workers from : ℕ) → Makes
 reporting_right plan workers from (Ok made) =
     take_right plan (Ok made.text) × TellsAllLate plan workers from made.diagnostics × (made.missing ≡ 0)
 reporting_right plan workers from (Err complaint) = take_right plan (Err complaint)
 
--- the behaviour of `take` with the lines of late soups: those unsettled, or with a checkpoint of `from` or later
+-- the behaviour of `take` with report lines of late soups, which are unsettled or have a checkpoint of `from` or later
 abbrev pub reporting_behaviour : Plan → (workers from : ℕ) → Behaviour
 reporting_behaviour plan workers from = record {
   right = λ bytes. reporting_right plan workers from;

@@ -1,4 +1,4 @@
--- The sets of soups of commands.
+-- The sets of soups that commands take, and why a set is refused.
 use Rattle.std.specs.Prelude.{◌≡◌, ◌++◌, ℕ, List, [], ◌∷◌, Result, Ok, Err}
 use Rattle.survey_core.specs.declared.job.Job.{Job}
 use Rattle.ranges.specs.declared.range.Range.{Range}
@@ -16,13 +16,13 @@ use Rattle.pattern_commands.specs.Inputs.{rule_named}
 use Rattle.pattern_commands.specs.Profiles.{profile_named}
 use Rattle.pattern_commands.specs.Soup.{seed_named}
 
--- the job of a plan; first the seed is checked, then the profile and then the rule
+-- the job of a plan, or the first complaint: the seed is checked first, then the profile, and then the rule
 abbrev pub job_named : Plan → Result Job Complaint
 job_named plan =
     given (seed_named plan.set.seed) (λ seed. given (profile_named plan.profile) (λ profile. given (rule_named plan.rule) (λ rule.
     Ok (record { seed = seed; profile = profile; rule = rule }))))
 
--- the range of the first number and the count of a set
+-- the range that a set's first number and count give
 abbrev pub own_range : SoupSet → Range
 own_range set = record { first = set.first; count = set.count }
 
@@ -33,7 +33,8 @@ pub record AreRangesOf (set : SoupSet) (ranges : List Range) : Type 0 where
   pub spelled : list_text listed ≡ set.also
   pub all : ranges ≡ listed ++ own_range set ∷ []
 
--- Why a set is refused: first its list, then ranges that are too large for a haul, and then ranges that share a number.
+-- Why a set is refused: its list isn't valid, its ranges are too large for a haul, or two ranges share a number. The
+-- set is checked in this order.
 pub data IsRefused (set : SoupSet) (refusal : Refusal) : Type 0 where
   Bad_list : ¬ IsListText set.also → (place : ℕ) → IsFirstListFault set.also place → refusal ≡ BadList place → IsRefused set refusal
   Too_large : (ranges : List Range) → AreRangesOf set ranges → ¬ AreSmall ranges → refusal ≡ RangeTooLarge → IsRefused set refusal

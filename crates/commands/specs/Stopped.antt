@@ -19,14 +19,14 @@ use Rattle.pattern_commands.specs.Behaviours.{Makes, Behaviour, silent_behaviour
 abbrev pub MayStop : (ℕ → ℕ → Type 0) → List Range → Type 0
 MayStop may_stop ranges = (worker : ℕ) × (n : ℕ) × (is_in ranges n ≡ true) × may_stop worker n
 
--- a worker and the number of a soup that was taken from it: the gate let the worker survey it
+-- the entry has a worker from 1 to `workers` and the number of a soup, and the gate let this worker survey the soup
 pub record IsLetIn (lets : ℕ → ℕ → Type 0) (workers : ℕ) (entry : ℕ × ℕ) : Type 0 where
   pub least : 1 ≤ entry.0
   pub most : entry.0 ≤ workers
   pub let_in : lets entry.0 entry.1
 
--- A text with the census of a job over the soups of a set that were taken, if this many numbers are missing. Each soup
--- was taken once, from one of the workers, which the gate had let survey it.
+-- The text has the census of a job over those soups of a set that were taken, and `missing` is the number of the other
+-- soups (at least one). Each soup was taken once, from a worker that the gate had let survey it.
 pub record TellsTaken (lets : ℕ → ℕ → Type 0) (workers : ℕ) (job : Job) (ranges : List Range) (missing : ℕ) (text : List ℕ) : Type 0 where
   pub normal : List Range
   pub form : IsNormalForm ranges normal
@@ -40,14 +40,14 @@ pub record TellsTaken (lets : ℕ → ℕ → Type 0) (workers : ℕ) (job : Job
   pub counted : IsCensus job normal (numbers_in taken) census
   pub text_is : text ≡ haul_text census
 
--- What is right if the gate may have stopped a worker: the census of a haul with this many numbers missing. First the
--- parts of its job are checked.
+-- What is right if the gate may have stopped a worker: the haul text of an incomplete haul, which lacks this many
+-- soups. The parts of the job are checked before the set.
 abbrev pub stopped_right : (may_stop lets : ℕ → ℕ → Type 0) → Plan → (workers missing : ℕ) → Right
 stopped_right may_stop lets plan workers missing =
     IsRightGiven (job_named plan) (λ job. IsRightForSet plan.set (λ ranges text.
     MayStop may_stop ranges × TellsTaken lets workers job ranges missing text))
 
--- `whole` if no numbers are missing, and otherwise `stopped` for the number of missing ones
+-- `whole` for 0 missing numbers, and otherwise `stopped` for the number of missing ones
 abbrev pub right_if : Right → (ℕ → Right) → ℕ → Right
 right_if whole stopped zero = whole
 right_if whole stopped (suc n) = stopped (suc n)

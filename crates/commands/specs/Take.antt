@@ -13,7 +13,7 @@ use Rattle.pattern_commands.specs.Answers.{Right, IsRightGiven}
 use Rattle.commands.specs.SoupSets.{AreRangesOf, job_named, IsRightForSet}
 use Rattle.pattern_commands.specs.Behaviours.{Behaviour, text_behaviour}
 
--- a text with the census of a job over all soups of a set, with the set's ranges in normal form
+-- the text is the haul text of the census of a job over all soups of these ranges, with the ranges in normal form
 pub record TellsAll (job : Job) (ranges : List Range) (text : List ℕ) : Type 0 where
   pub numbers : List ℕ
   pub all : AreAll ranges numbers
@@ -23,7 +23,8 @@ pub record TellsAll (job : Job) (ranges : List Range) (text : List ℕ) : Type 0
   pub counted : IsCensus job normal numbers census
   pub text_is : text ≡ haul_text census
 
--- the census of the complete haul; first the parts of its job are checked
+-- what is right for `take`: the haul text of the complete haul, or a refusal; the parts of the job are checked before
+-- the set
 abbrev pub take_right : Plan → Right
 take_right plan = IsRightGiven (job_named plan) (λ job. IsRightForSet plan.set (TellsAll job))
 

@@ -18,8 +18,8 @@ use Rattle.pattern_commands.specs.Answers.{NeedsMemory, Right}
 use Rattle.commands.specs.SoupSets.{AreRangesOf, IsRefused, job_named}
 use Rattle.commands.specs.Stopped.{IsLetIn}
 
--- a complaint that may end a command before it writes: a refusal that is right; or out of memory, if no complaint is
--- right except those that need memory
+-- a complaint that may end a command before it writes: a refusal that is right, or out of memory, if every right
+-- complaint needs memory to be found
 abbrev pub Stops : Right → Complaint → Type 0
 Stops right (Refused refusal) = right (Err (Refused refusal))
 Stops right (Memory error) = (complaint : Complaint) → right (Err complaint) → NeedsMemory complaint
@@ -64,27 +64,27 @@ abbrev pub StopsOpening : Plan → Complaint → Type 0
 StopsOpening plan complaint = (job_named plan ≡ Err complaint)
     ⊎ ((job : Job) × (job_named plan ≡ Ok job) × StopsSet plan.set complaint)
 
--- what became of a haul: all was taken, or some numbers weren't and the gate may have stopped a worker at a missing
--- number
+-- what became of a haul: all its soups were taken; or some weren't, and the gate may have stopped a worker at a number
+-- that was missing before
 abbrev pub EndsCrew : (ℕ → ℕ → Type 0) → Held → Held → Type 0
 EndsCrew may_stop old new = (IsComplete new.terms.ranges new.taken × AreAll new.terms.ranges (numbers_in new.taken))
     ⊎ ((¬ IsComplete new.terms.ranges new.taken) × (worker : ℕ) × StopsAt may_stop (was_missing old) worker)
 
--- a haul still has what it had taken before, and perhaps more after it
+-- a haul still has all that it had taken, and perhaps it has taken more
 pub record HasTakenMore (old new : Held) : Type 0 where
   pub terms : new.terms ≡ old.terms
   pub closed : new.closed ≡ old.closed
   pub more : List (ℕ × ℕ)
   pub taken : new.taken ≡ old.taken ++ more
 
--- each soup that the haul has taken since comes from a worker that the gate let survey it
+-- each soup that the haul has taken since its old state comes from a worker that the gate let survey the soup
 pub record HasLetIn (lets : ℕ → ℕ → Type 0) (workers : ℕ) (old new : Held) : Type 0 where
   pub more : List (ℕ × ℕ)
   pub taken : new.taken ≡ old.taken ++ more
   pub let_in : All (IsLetIn lets workers) more
 
--- A crew has taken what it could of a haul that was opened over a set: numbers of the set, none twice, and from workers
--- that the gate let survey them.
+-- A crew has worked on a haul that was opened over the set of a plan. The haul has taken soups of the set, none twice,
+-- each from a worker that the gate let survey it.
 pub record IsTaken (may_stop lets : ℕ → ℕ → Type 0) (plan : Plan) (workers : ℕ) (held : Held) : Type 0 where
   pub opened : Held
   pub is : IsOpenedFor plan workers opened

@@ -11,7 +11,7 @@ use Rattle.pattern_commands.specs.Answers.{Right, IsRightGiven}
 use Rattle.commands.specs.SoupSets.{job_named, IsRightForSet}
 use Rattle.pattern_commands.specs.Behaviours.{Behaviour, text_behaviour}
 
--- a worker's report on the soup of a job with this number
+-- a worker's right report on the soup with this number, for a job
 pub record IsReportOn (job : Job) (worker number : ℕ) (report : Reported) : Type 0 where
   pub job_is : report.job ≡ job
   pub worker_is : report.worker ≡ worker
@@ -33,7 +33,8 @@ pub record TellsReports (job : Job) (worker : ℕ) (ranges : List Range) (text :
   pub each : AreReportsOn job worker (numbers_of normal) reports
   pub text_is : text ≡ flat_map report_text reports
 
--- the reports of the worker on the whole set; first the parts of its job are checked
+-- what is right for `work`: the worker's report lines on all soups of the set, or a refusal; the parts of the job are
+-- checked before the set
 abbrev pub work_right : Plan → ℕ → Right
 work_right plan worker = IsRightGiven (job_named plan) (λ job. IsRightForSet plan.set (TellsReports job worker))
 

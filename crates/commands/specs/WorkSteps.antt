@@ -13,17 +13,17 @@ use Rattle.requests.specs.declared.plan.Plan.{Plan}
 use Rattle.commands.specs.SoupSets.{AreRangesOf, job_named}
 use Rattle.commands.specs.Work.{AreReportsOn}
 
--- the reports that are wanted: those of a worker, for a job, on the soups with these numbers
+-- which reports are wanted: those of this worker, for this job, on the soups with these numbers
 pub record WantedReports : Type 0 where
   pub job : Job
   pub worker : ℕ
   pub numbers : List ℕ
 
--- the reports of this worker on these soups
+-- the wanted reports with this job and worker, on the soups with these numbers
 abbrev pub reports_on : Job → ℕ → List ℕ → WantedReports
 reports_on job worker numbers = record { job = job; worker = worker; numbers = numbers }
 
--- the first of the wanted reports were made, and `written` holds for the text of their lines
+-- reports on a prefix of the wanted numbers were made, and `written` holds for the text of their lines
 pub record IsBegun (wanted : WantedReports) (written : List ℕ → Type 0) : Type 0 where
   pub done : List ℕ
   pub more : List ℕ
@@ -32,7 +32,7 @@ pub record IsBegun (wanted : WantedReports) (written : List ℕ → Type 0) : Ty
   pub each : AreReportsOn wanted.job wanted.worker done reports
   pub is_written : written (flat_map report_text reports)
 
--- the first of a worker's reports on the soups of a plan were made, and their lines were written completely
+-- a worker's reports on a prefix of a plan's soups were made, and their lines were written completely
 pub record HasWholeLines (plan : Plan) (worker : ℕ) (output : Stream) : Type 0 where
   pub job : Job
   pub job_is : job_named plan ≡ Ok job
@@ -42,7 +42,7 @@ pub record HasWholeLines (plan : Plan) (worker : ℕ) (output : Stream) : Type 0
   pub form : IsNormalForm ranges normal
   pub begun : IsBegun (reports_on job worker (numbers_of normal)) (Has output)
 
--- nothing was written, or whole lines
+-- either nothing or only whole lines were written
 abbrev pub EndsAtLine : Plan → ℕ → Stream → Type 0
 EndsAtLine plan worker output = Has output [] ⊎ HasWholeLines plan worker output
 
@@ -53,8 +53,8 @@ pub record IsPut (wanted : WantedReports) (output : Stream) : Type 0 where
   pub is_written : Has output (flat_map report_text reports)
   pub fine : output.failed ≡ false
 
--- What became of the wanted reports: their lines were written; or memory ran out at one, and the lines of those before
--- it were written; or a write failed, and a prefix of the lines so far was written.
+-- What became of the wanted reports. If all went well, all their lines were written. If memory ran out at a report, the
+-- lines of the reports before it were written. If a write failed, a prefix of the lines made until then was written.
 abbrev pub Puts : WantedReports → TextOutcome → Stream → Type 0
 Puts wanted (Ok _) output = IsPut wanted output
 Puts wanted (Err (Memory error)) output = IsBegun wanted (Has output)

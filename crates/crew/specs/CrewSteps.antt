@@ -1,4 +1,4 @@
--- How a crew is run: one more worker is started at a time, and at the end all are back.
+-- How a crew is run: the workers are started one at a time, and at the end all of them are back.
 use Rattle.std.specs.Prelude.{◌≡◌, ◌≤◌, ◌+◌, ◌++◌, ◌∷◌, [], ℕ, All, Bool, List, None, Option, Some, false, if◌then◌else◌, length, map, true, vec_capacity}
 use Rattle.memory.specs.declared.OutOfMemory.{OutOfMemory}
 use Rattle.haul_core.specs.Reports.{IsWorker}
@@ -19,7 +19,7 @@ use Rattle.crew.specs.declared.take.CrewError.TheVariants.{Memory, Stopped}
 abbrev pub collector_of : ℕ → Crew → Collector
 collector_of awaited crew = collector_with awaited crew.receiver crew.haul
 
--- the last pair of endpoints was removed from the old ones
+-- `endpoint` was the last pair of the old endpoints, and was removed
 pub record IsTakenOut (endpoint : Drawn × Presented Note) (old new : Endpoints) : Type 0 where
   pub passes : old.passes.items ≡ new.passes.items ++ endpoint.0 ∷ []
   pub senders : old.senders.items ≡ new.senders.items ++ endpoint.1 ∷ []
@@ -38,19 +38,20 @@ pub record HasAddedEndpoint (pass : Drawn) (sender : Presented Note) (old new : 
   pub for_passes : vec_capacity new.passes ≡ vec_capacity old.passes
   pub for_senders : vec_capacity new.senders ≡ vec_capacity old.senders
 
--- the first stopped worker among those that came back before and this one
+-- the first worker that was stopped: one that came back before, or otherwise this one if it was stopped
 abbrev pub stopped_with : Option ℕ → ℕ → End → Option ℕ
 stopped_with (Some first) worker ended = Some first
 stopped_with None worker ended = if was_stopped ended then Some worker else None
 
--- why soups may be missing: a gate stopped a worker or, if none was stopped, memory ran out. `None` if neither happened.
+-- why soups may be missing: a gate stopped a worker or, if no worker was stopped, memory ran out; `None` if neither
+-- happened
 abbrev pub cause_of : Option ℕ → Option OutOfMemory → Option CrewError
 cause_of (Some worker) lacking = Some (Stopped worker)
 cause_of None (Some error) = Some (Memory error)
 cause_of None None = None
 
 -- A worker can be started with each pair of endpoints: no pair was used yet, each sender has a worker's number, no
--- worker is back, there is room for all of them, and a byte can count them.
+-- worker was stopped or is back, there is room for all that come back, and at most 255 workers will be away.
 pub record MayRun (shared : Shared) (crew : Crew) : Type 0 where
   pub passes : All (λ p. p ≡ fresh shared.tickets) crew.endpoints.passes.items
   pub senders : All (λ s. s ≡ silent shared.belt.name s.number) crew.endpoints.senders.items
@@ -61,8 +62,8 @@ pub record MayRun (shared : Shared) (crew : Crew) : Type 0 where
   pub back : HaveRoom (length crew.endpoints.senders.items) crew.back
   pub stopped : crew.stopped ≡ None
 
--- All workers of these endpoints are back, in their order, with their results. The collector has waited for those that
--- were started, and for those that were away before.
+-- The workers of all the old endpoints are back, in the order of the endpoints, with their results. The collector has
+-- waited for those that were started, and for those that were away before.
 pub record HasRunAll (may_stop lets : ℕ → ℕ → Type 0) (shared : Shared) (old new : Crew) : Type 0 where
   pub results : List WorkerResult
   pub left : All (λ s. Leaves may_stop lets shared s.sender.number s) results

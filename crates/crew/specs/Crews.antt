@@ -45,8 +45,8 @@ pub record HasAdded (reports : List Reported) (old new : Held) : Type 0 where
 abbrev pub HasComeAll : List Reported → Held → Held → Type 0
 HasComeAll reports old new = (arrivals : List Arrival) → StandsFor arrivals old → StandsFor (arrivals ++ map Offer reports) new
 
--- A haul has taken a part of these reports. One report among them was lost, although the book would take it after those
--- taken before it.
+-- A haul has taken only the reports in `part`. One report among `reports` was lost, although the book would take it
+-- after the reports that were taken before it.
 pub record HasLost (reports part : List Reported) (old : Held) : Type 0 where
   pub before : List Reported
   pub report : Reported
@@ -55,7 +55,7 @@ pub record HasLost (reports part : List Reported) (old : Held) : Type 0 where
   pub some : IsSubsequence (before ++ report ∷ later) reports
   pub eligible : (arrivals : List Arrival) → StandsFor arrivals old → refusal_of old.terms (arrivals ++ map Offer before) report ≡ None
 
--- if the haul is open and the report is lawful, its soup was taken, from this report or from another
+-- if the haul is open and the report is lawful, the report's soup was taken, from this report or from another
 abbrev pub HasSoupOf : Held → Reported → Type 0
 HasSoupOf held report = held.closed ≡ false → is_lawful held.terms report ≡ true → is_taken held.taken report.number ≡ true
 
@@ -70,9 +70,8 @@ abbrev pub collector_with : ℕ → Received Note → Held → Collector
 collector_with awaited receiver haul = record { awaited = awaited; receiver = receiver; haul = haul }
 
 -- Notes were received from the workers, and each note "done" reduces the number of awaited workers by one. If no worker
--- is awaited any more, the last of these notes is such a note, unless there are none. The haul has taken some of the
--- reports among the notes: if `answered`, all that the book takes, so that the haul has their soups; otherwise a report
--- was lost.
+-- is awaited any more, the last note (if there are any) is a note "done". The haul has taken some of the reports among
+-- the notes: if `answered`, all that the book takes, so that the haul has their soups; otherwise a report was lost.
 pub record Collected (before after : Collector) (answered : Bool) : Type 0 where
   pub notes : List (ℕ × Note)
   pub belt : after.receiver.belt ≡ before.receiver.belt

@@ -1,4 +1,4 @@
--- What a crew takes for a haul.
+-- What a haul takes from a crew, which reports an observer is handed, and how the workers end.
 use Rattle.std.specs.Prelude.{◌≡◌, ◌<◌, ◌≤◌, ℕ, All, AllPairs, Bool, Contains, IfNone, IfSome, List, Option, count_by, false, filter, map}
 use Rattle.std.specs.Prelude.{nat_eq, option_map, true}
 use Rattle.std.specs.List.{IsDistinct, find, range_with_len}
@@ -21,9 +21,9 @@ was_missing held = missing_of held.terms.ranges held.taken
 abbrev pub taken_by : ℕ → List (ℕ × ℕ) → List ℕ
 taken_by worker taken = map (λ t. t.1) (filter (λ t. nat_eq worker t.0) taken)
 
--- The haul has taken reports of the crew's workers for its job. They are on missing numbers that the gate let these
--- workers survey, each once, and the numbers of each worker ascend. If some arrivals led to the old state, then they
--- and offers of these reports lead to the new one.
+-- The haul has taken reports of the crew's workers for its job. The reports are on missing numbers, no number twice,
+-- and the gate let each worker survey its numbers. The numbers of each worker ascend. Any arrivals that lead to the old
+-- state, followed by offers of these reports, lead to the new state.
 pub record HasTaken (lets : ℕ → ℕ → Type 0) (workers : ℕ) (old new : Held) : Type 0 where
   pub offers : List Reported
   pub added : HasAdded offers old new
@@ -38,8 +38,9 @@ pub record HasTaken (lets : ℕ → ℕ → Type 0) (workers : ℕ) (old new : H
 abbrev pub times_reported : ℕ → List Reported → ℕ
 times_reported n reports = count_by (nat_eq n) (map (λ r. r.number) reports)
 
--- An observer was handed reports of the crew's workers for the haul's job, for which `hears` holds. They are on missing
--- numbers that the gate let these workers survey, no number twice. The haul has taken some of them, in this order.
+-- An observer was handed reports of the crew's workers for the haul's job, and `hears` holds for these reports. They
+-- are on missing numbers, no number twice, and the gate let each worker survey its numbers. The haul has taken some or
+-- all of the reports, in the same order.
 pub record HasHeardCrew (lets : ℕ → ℕ → Type 0) (workers : ℕ) (old new : Held) (hears : List Reported → Type 0) : Type 0 where
   pub reports : List Reported
   pub heard : hears reports
@@ -59,8 +60,8 @@ pub data WorkerEnd : Type 0 where
   LackedMemory : WorkerEnd
   NeverBegan : WorkerEnd
 
--- how a worker may end: the gate may stop it at a missing number, and memory may run out in the survey of a missing
--- number that the gate let it survey
+-- The worker may end in this way. If the gate stopped it, the gate may stop it at some missing number. If memory ran
+-- out, the gate lets it survey some missing number.
 abbrev pub IsPossibleEnd : (may_stop lets : ℕ → ℕ → Type 0) → List ℕ → ℕ × WorkerEnd → Type 0
 IsPossibleEnd may_stop lets missing (worker, NoneLeft) = Unit {0}
 IsPossibleEnd may_stop lets missing (worker, StoppedByGate) = StopsAt may_stop missing worker
@@ -74,7 +75,7 @@ is_stopped (worker, NoneLeft) = false
 is_stopped (worker, LackedMemory) = false
 is_stopped (worker, NeverBegan) = false
 
--- the lowest number of a worker that the gate stopped
+-- the number of the first worker in the list that the gate stopped, if there is one; the lowest, if the numbers ascend
 abbrev pub lowest_stopped : List (ℕ × WorkerEnd) → Option ℕ
 lowest_stopped ends = option_map (λ e. e.0) (find is_stopped ends)
 

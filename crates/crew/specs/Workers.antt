@@ -19,11 +19,12 @@ use Rattle.crew.specs.declared.shared.Shared.{Shared}
 abbrev pub reported : List Note → List Reported
 reported notes = flat_map report_in notes
 
--- the worker's own report for the job, of a soup that its gate let it survey
+-- the report is this worker's, for this job, and on a soup that the gate lets this worker survey
 abbrev pub IsOwnReport : (ℕ → ℕ → Type 0) → Job → ℕ → Reported → Type 0
 IsOwnReport lets job worker r = (r.worker ≡ worker) × (r.job ≡ job) × lets worker r.number
 
--- The worker has reported its own surveys of the missing numbers at these places, in this order. The places ascend.
+-- The worker has reported its own surveys of the soups at these places in the list of missing numbers, in this order.
+-- The places ascend.
 pub record HasReported (lets : ℕ → ℕ → Type 0) (shared : Shared) (places : List ℕ) (sender : Presented Note) : Type 0 where
   pub belt : sender.belt ≡ shared.belt.name
   pub ascending : AllPairs (λ x y. x < y) places
@@ -31,11 +32,11 @@ pub record HasReported (lets : ℕ → ℕ → Type 0) (shared : Shared) (places
   pub numbers : map (λ r. r.number) (reported sender.notes) ≡ map (slice_index shared.missing.items) places
   pub own : All (IsOwnReport lets shared.job sender.number) (reported sender.notes)
 
--- the numbers of senders
+-- the sender's number of each pass, in order
 abbrev pub sender_numbers : List (Presented Note) → List ℕ
 sender_numbers passes = map (λ s. s.number) passes
 
--- no note says that the worker is done
+-- no note says that a worker is done
 abbrev pub AreNotDone : List Note → Type 0
 AreNotDone notes = All (λ note. is_done note ≡ false) notes
 
@@ -51,16 +52,17 @@ StopsAt may_stop missing worker = (n : ℕ) × Contains missing n × may_stop wo
 abbrev pub AreAllButLast : List ℕ → List ℕ → Type 0
 AreAllButLast places drawn = (drawn ≡ places) ⊎ ((n : ℕ) × (drawn ≡ places ++ n ∷ []))
 
--- after these places, the worker drew one more, and the gate let it survey the missing number there
+-- after these places, the worker drew one more place, and the gate let it survey the missing number at that place
 pub record WasLetLast (lets : ℕ → ℕ → Type 0) (shared : Shared) (worker : ℕ) (places : List ℕ) (pass : Drawn) : Type 0 where
   pub place : ℕ
   pub drawn : pass.numbers ≡ places ++ place ∷ []
   pub below : place < length shared.missing.items
   pub let_in : lets worker (slice_index shared.missing.items place)
 
--- What the worker with this number has done when its surveys end in this way. It has reported at each place that it
--- drew, except perhaps the last one. If no number was left, it has reported at the last place, too. If memory ran out,
--- it ran out in the survey at the last place.
+-- What the worker with this number has done if its surveys end as `ended` says. It has reported the soup at each place
+-- that it drew, except perhaps at the last place. If no number was left, it has reported all of these soups, and a draw
+-- returned `None`. If the gate stopped it, the gate may stop it at some missing number. If memory ran out, the gate let
+-- it survey the soup at the last place, which it hasn't reported.
 pub record HasWorked (may_stop lets : ℕ → ℕ → Type 0) (shared : Shared) (worker : ℕ) (ended : End) (pass : Drawn) (sender : Presented Note)
     : Type 0 where
   pub number : sender.number ≡ worker
@@ -95,8 +97,8 @@ lacks_memory (Memory error) = true
 lacks_memory (Unstarted error) = true
 lacks_memory _ = false
 
--- The result of the worker with this number. If it has begun to work, its last note says that it is done. If it was
--- called off, it has sent nothing.
+-- The result of the worker with this number. If the worker has begun to work, its last note says that it is done. If it
+-- was called off, it has sent no notes.
 pub record Leaves (may_stop lets : ℕ → ℕ → Type 0) (shared : Shared) (worker : ℕ) (worker_result : WorkerResult) : Type 0 where
   pub worked : HasWorked may_stop lets shared worker worker_result.end worker_result.pass worker_result.sender
   pub done : has_begun worker_result.end ≡ true → EndsByDone worker worker_result.sender.notes
@@ -111,6 +113,6 @@ pub record Returns (may_stop lets : ℕ → ℕ → Type 0) (shared : Shared) (w
 abbrev pub how_many_started : List WorkerResult → ℕ
 how_many_started results = count_by (λ s. was_started s.end) results
 
--- the first worker that its gate stopped
+-- the number of the first worker that the gate stopped, if there is one
 abbrev pub first_stopped : List WorkerResult → Option ℕ
 first_stopped results = option_map (λ s. s.sender.number) (find (λ s. was_stopped s.end) results)

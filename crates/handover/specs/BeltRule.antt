@@ -16,7 +16,7 @@ module _ {N : Type 0} where
   abbrev pub first_share : Share N
   first_share = share [] true 0 []
 
-  -- a pass after it was joined to another: it stands for nobody
+  -- a pass after it was joined to another pass: it stands for no sender, and doesn't receive
   abbrev pub spent_share : Share N
   spent_share = share [] false 0 []
 
@@ -24,11 +24,11 @@ module _ {N : Type 0} where
   abbrev pub with_sender : Share N → Share N
   with_sender v = share v.senders v.receives (v.made + 1) v.got
 
-  -- the pass of that sender
+  -- the pass of the sender that the receiver makes next
   abbrev pub new_sender : Share N → Share N
   new_sender v = share ((v.made + 1, []) ∷ []) false 0 []
 
-  -- a pass that absorbed another
+  -- the pass v after it absorbed the pass w
   abbrev pub both_shares : Share N → Share N → Share N
   both_shares v w = share (w.senders ++ v.senders) v.receives v.made v.got
 
@@ -40,7 +40,7 @@ module _ {N : Type 0} where
   abbrev pub with_senders : List (Presented N) → Share N → Share N
   with_senders passes v = share (map notes_entry passes ++ v.senders) v.receives v.made v.got
 
-  -- the notes of the only sender of a pass
+  -- the notes of the first sender of a pass; the pass of a sender has only this sender
   abbrev pub first_notes : List (ℕ × List N) → List N
   first_notes [] = []
   first_notes (e ∷ more) = e.1
@@ -57,9 +57,9 @@ module _ {N : Type 0} where
   abbrev pub receives : Share N → ℕ
   receives v = cond v.receives 1 0
 
-  -- Each sender of the pass has presented what was received from it, followed by what the queue holds for it. If the
-  -- pass receives, it knows all that was received, and the senders that it hasn't made have presented nothing and are
-  -- in no pass.
+  -- Each sender of the pass has presented the notes that were received from it, followed by its notes in the queue:
+  -- `all` has the received notes and then those in the queue. If the pass receives, it knows all received notes, and a
+  -- sender that it hasn't made has presented nothing and is in no pass.
   pub record KnowsItsNotes (all got : List (ℕ × N)) (owned : ℕ → ℕ) (v : Share N) : Type 0 where
     pub senders : All (λ e. e.1 ≡ notes_of e.0 all) v.senders
     pub got_is : v.receives ≡ true → v.got ≡ got
@@ -80,17 +80,17 @@ module _ {N : Type 0} where
   abbrev pub IsPrefix : List N → List N → Type 0
   IsPrefix prefix whole = (remainder : List N) × (whole ≡ prefix ++ remainder)
 
-  -- the receiver after it received a note of a sender that it made; each sender of the pass has presented what was
-  -- received
+  -- The receiver after it received a note of a sender that it made. For each sender of the pass, the notes that were
+  -- received from this sender are a prefix of the notes that it presented.
   pub record GetsNote (v : Share N) (x : ℕ × N) (w : Share N) : Type 0 where
     pub got : w ≡ share v.senders v.receives v.made (v.got ++ x ∷ [])
     pub made : (1 ≤ x.0) × (x.0 ≤ v.made)
     pub prefixes : All (λ e. IsPrefix (notes_of e.0 (v.got ++ x ∷ [])) e.1) v.senders
 
-  -- what is left of a sender's notes after these were received
+  -- the sender's number, and its notes after those that were received
   abbrev pub left_over : List (ℕ × N) → ℕ × List N → ℕ × List N
   left_over got e = (e.0, drop (length (notes_of e.0 got)) e.1)
 
-  -- the senders of the pass have presented what was received, followed by what the queue holds
+  -- each sender of the pass has presented the notes that were received from it, followed by its notes in the queue
   abbrev pub HoldsTheRest : Share N → List (ℕ × N) → Type 0
   HoldsTheRest v items = All (λ e. e.1 ≡ notes_of e.0 (v.got ++ items)) v.senders

@@ -1,4 +1,4 @@
--- A belt: notes of several senders, for one receiver, each sender's in its order.
+-- A belt: a queue of notes from several senders to one receiver, which keeps each sender's notes in their order.
 use Rattle.std.specs.Prelude.{◌≡◌, ◌≤◌, ℕ, All, List, [], ◌∷◌, ◌++◌, drop, filter, length, map, nat_eq, if◌then◌else◌}
 use Rattle.atomic_table.specs.Seated.{TableId}
 
@@ -23,8 +23,8 @@ pub record Received (N : Type 0) : Type 0 where
   pub belt : BeltId
   pub got : List (ℕ × N)
 
--- what is left on a belt: the number of its senders, and for each sender whose pass was handed back its number and its
--- notes
+-- what contracts see of the notes that are left on a belt: the number of the belt's senders, and for each sender whose
+-- pass was handed back, the sender's number and its notes that are left
 pub record Left (N : Type 0) : Type 0 where
   pub workers : ℕ
   pub lists : List (ℕ × List N)
@@ -53,7 +53,7 @@ module _ {N : Type 0} where
     pub belt : new.belt ≡ old.belt
     pub got : new.got ≡ old.got ++ (sender, note) ∷ []
 
-  -- what is left of a sender's notes after these were received: the sender's number, and the notes
+  -- the sender's number, and its notes after those that were received
   abbrev pub left_of : List (ℕ × N) → Presented N → ℕ × List N
   left_of got pass = (pass.number, drop (length (notes_of pass.number got)) pass.notes)
 
@@ -62,17 +62,18 @@ module _ {N : Type 0} where
   abbrev pub IsWhole : List (ℕ × N) → Presented N → Type 0
   IsWhole got pass = notes_of pass.number got ++ drop (length (notes_of pass.number got)) pass.notes ≡ pass.notes
 
-  -- the entry with this note in front, if it is the sender's
+  -- the entry, with this note before its other notes if it is the entry of this sender
   abbrev pub with_first : ℕ → N → ℕ × List N → ℕ × List N
   with_first sender note e = (e.0, if nat_eq e.0 sender then note ∷ e.1 else e.1)
 
-  -- The note was the first that was left of some sender. If the sender's pass was not handed back, no list has changed.
+  -- The note was removed: it was the first of a sender's notes that were left. If the sender's pass wasn't handed back,
+  -- no list has changed.
   pub record TookFirst (old new : Left N) (note : N) : Type 0 where
     pub sender : ℕ
     pub some_worker : (1 ≤ sender) × (sender ≤ old.workers)
     pub workers : new.workers ≡ old.workers
     pub lists : old.lists ≡ map (with_first sender note) new.lists
 
-  -- nothing is left of the senders whose passes were handed back
+  -- no notes are left of the senders whose passes were handed back
   abbrev pub NothingLeft : Left N → Type 0
   NothingLeft remainder = All (λ e. e.1 ≡ []) remainder.lists

@@ -19,19 +19,19 @@ holding issue shares marks numbers = record { issue = issue; shares = shares; ma
 abbrev pub series_of : TableId → Issue → Series
 series_of name issue = record { name = name; count = issue.count; passes = issue.passes }
 
--- the first pass has all shares
+-- the first pass: it has all shares, and has drawn nothing
 abbrev pub first_holding : Issue → Holding
 first_holding issue = holding issue issue.passes 0 []
 
--- a pass after it was joined to another: it stands for no pass
+-- a pass after it was joined to another pass: it has no shares
 abbrev pub spent_holding : Holding
 spent_holding = holding (record { count = 0; passes = 0 }) 0 0 []
 
--- a pass after a new one with one share was cut off
+-- the pass v after one of its shares was cut off for a new pass
 abbrev pub kept_part : Holding → Holding
 kept_part v = holding v.issue (v.shares - 1) v.marks v.numbers
 
--- the new pass
+-- the new pass that is cut off from v: it has one share, and has drawn nothing
 abbrev pub new_part : Holding → Holding
 new_part v = holding v.issue 1 0 []
 
@@ -39,14 +39,14 @@ new_part v = holding v.issue 1 0 []
 abbrev pub both_holdings : Holding → Holding → Holding
 both_holdings v w = holding v.issue (v.shares + w.shares) (v.marks + w.marks) (w.numbers ++ v.numbers)
 
--- a pass has no more marks than shares, a mark only once all numbers are drawn, and no number without a share
+-- the pass has no more marks than shares, marks only if all numbers are drawn, and numbers only if it has shares
 pub record Fits (issue : Issue) (counter : ℕ) (v : Holding) : Type 0 where
   pub marks : v.marks ≤ v.shares
   pub drained : 0 < v.marks → issue.count ≤ counter
   pub spent : v.shares ≡ 0 → v.numbers ≡ []
 
--- Each number below the counter and below the count is in exactly one pass. The counter is past the count by at most
--- the number of marks.
+-- Each number below both the counter and the count is in exactly one pass, and no other number is in a pass. The shares
+-- add up to the number of opened passes. The counter exceeds the count by at most the number of marks.
 pub record IsLawful (issue : Issue) (s : State (Unit {0}) Holding) : Type 0 where
   pub counter : ℕ
   pub kept : s.words ≡ counter ∷ []
@@ -65,7 +65,8 @@ holding_with n v = holding v.issue v.shares v.marks (v.numbers ++ n ∷ [])
 abbrev pub holding_marked : Holding → Holding
 holding_marked v = holding v.issue v.shares (v.marks + 1) v.numbers
 
--- what a pass knows after a draw that found the counter at n
+-- what a pass knows after a draw that found the counter at n: it drew n if n is below the count, and otherwise got
+-- `None`
 pub record Draws (s : Step (Unit {0})) (me : Me (Unit {0}) Holding) (n : ℕ) (after : Me (Unit {0}) Holding) : Type 0 where
   pub number : n < me.0.issue.count → after.0 ≡ holding_with n me.0
   pub greater : n < me.0.issue.count → All (λ m. m < n) me.0.numbers
@@ -79,13 +80,15 @@ pub record Joining (all left : List Drawn) (before after : Holding) : Type 0 whe
   pub marks : after.marks + how_many_heard left ≡ before.marks + how_many_heard all
   pub numbers : drawn_by_all left ++ after.numbers ≡ drawn_by_all all ++ before.numbers
 
--- what the kept pass knows at the end, if m numbers were drawn
+-- What the kept pass knows at the end, if m numbers were drawn: its numbers are below m, no number twice. If it stands
+-- for all passes, it has all numbers below m. If it has a mark, m is the count.
 pub record KnowsAtEnd (issue : Issue) (v : Holding) (m : ℕ) : Type 0 where
   pub once : (n : ℕ) → count_by (nat_eq n) v.numbers ≤ once_below m n
   pub all : v.shares ≡ issue.passes → (n : ℕ) → count_by (nat_eq n) v.numbers ≡ once_below m n
   pub drained : 0 < v.marks → m ≡ issue.count
 
--- the same for all passes that were handed back
+-- What is known of the passes that were handed back, if m numbers were drawn: their numbers are below m, no number
+-- twice. If all passes were handed back, they have all numbers below m. If a draw returned `None`, m is the count.
 pub record Gathers (series : Series) (passes : List Drawn) (m : ℕ) : Type 0 where
   pub once : AreSomeBelow m (drawn_by_all passes)
   pub drawn : length (drawn_by_all passes) ≤ m

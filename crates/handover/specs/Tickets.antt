@@ -30,7 +30,7 @@ with_none pass = record { series = pass.series; numbers = pass.numbers; heard_no
 abbrev pub drawn_by_all : List Drawn → List ℕ
 drawn_by_all passes = flat_map (λ p. p.numbers) passes
 
--- for how many of the passes a draw returned `None`
+-- how many of the passes got `None` from a draw
 abbrev pub how_many_heard : List Drawn → ℕ
 how_many_heard passes = count_by (λ p. p.heard_none) passes
 
@@ -46,6 +46,6 @@ AreSomeBelow m numbers = (n : ℕ) → count_by (nat_eq n) numbers ≤ once_belo
 abbrev pub AreAllBelow : ℕ → List ℕ → Type 0
 AreAllBelow m numbers = (n : ℕ) → count_by (nat_eq n) numbers ≡ once_below m n
 
--- 1 to 16 passes, as many as there may be workers
+-- the number of passes is from 1 to 16, as is the number of a haul's workers
 abbrev pub AreFew : ℕ → Type 0
 AreFew passes = (1 ≤ passes) × (passes ≤ 16)

@@ -1,4 +1,4 @@
--- The book: which reports a haul takes, whatever arrives and in whatever order, and what it replies.
+-- The book: which reports a haul takes, whatever arrives and in whatever order.
 use Rattle.std.specs.Prelude.{◌≡◌, ◌==◌, ◌&&◌, ℕ, Bool, true, false, not, List, [], ◌∷◌, filter, map, nat_le}
 use Rattle.std.specs.List.{list_any}
 use Rattle.survey_core.specs.declared.job.Job.{Job}
@@ -29,11 +29,11 @@ offered [] = []
 offered (Offer report ∷ more) = report ∷ offered more
 offered (Closing ∷ more) = []
 
--- the report is of the haul's job, of one of its workers, and of a number in its set
+-- the report is for the haul's job, by one of the haul's workers, and on a number in the haul's set
 abbrev pub is_lawful : Terms → Reported → Bool
 is_lawful terms r = same_job terms.job r.job && (nat_le r.worker terms.workers && is_in terms.ranges r.number)
 
--- The eligible offers: those that are lawful and come before any closing.
+-- the eligible offers: the reports that are lawful and are offered before any closing
 abbrev pub eligible : Terms → List Arrival → List Reported
 eligible terms arrivals = filter (is_lawful terms) (offered arrivals)
 

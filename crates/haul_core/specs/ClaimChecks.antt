@@ -35,8 +35,8 @@ Fails claim job OtherJob = same_job claim.job job ≡ false
 Fails claim job (Disagrees found) = (same_job claim.job job ≡ true) × (IsFoundFor claim found × ¬ Agrees claim found)
 Fails claim job (Memory error) = same_job claim.job job ≡ true
 
--- The result of checking a claim for this job. A correct claim becomes its report, unless memory runs out. Every other
--- claim is returned unchanged, with the reason.
+-- The result of checking a claim for this job. A correct claim becomes its report, unless memory runs out. If there is
+-- an error, the claim is returned unchanged, with the error.
 pub record IsCheckedClaim (claim : Claimed) (job : Job) (result : Result Reported (Claimed × CheckError)) : Type 0 where
   pub report : IfOk result (IsConfirmed claim job)
   pub complete : (report : Reported) → IsConfirmed claim job report

@@ -39,7 +39,7 @@ abbrev pub FollowsFields : List ℕ → List (List ℕ) → Option (List ℕ) �
 FollowsFields line fields None = IsLineOf fields line
 FollowsFields line fields (Some remainder) = line ≡ followed fields ++ remainder
 
--- the head with what the field at this place says, and the fields before it unchanged
+-- `more` is the head with what the field at this place says; the fields before this place are unchanged
 pub record HasFilled (place : ℕ) (head more : LineStart) (field : List ℕ) : Type 0 where
   pub lawful : IsClaim (claimed more [])
   pub none : more.settled ≡ None
@@ -50,7 +50,7 @@ abbrev pub Fills : ℕ → LineStart → List ℕ → Option LineStart → Type 
 Fills place head field None = (claim : Claimed) → IsClaim claim → get_or (head_of claim) place [] ≢ field
 Fills place head field (Some more) = HasFilled place head more field
 
--- a head that may be filled in
+-- a head that may be filled in: its fields are lawful, and it doesn't say yet that the soup settled
 pub record IsHead (head : LineStart) : Type 0 where
   pub lawful : IsClaim (claimed head [])
   pub none : head.settled ≡ None
@@ -60,7 +60,7 @@ pub record HasHead (line : List ℕ) (place : ℕ) (start : LineStart) (remainde
   pub head : IsHead start
   pub follows : FollowsFields line (take place (head_of (claimed start []))) remainder
 
--- everything before the counts has been read; only a soup that settled has counts
+-- everything before the counts has been read; if the line goes on, the soup has settled
 pub record HasReadStart (line : List ℕ) (start : LineStart) (remainder : Option (List ℕ)) : Type 0 where
   pub lawful : IsClaim (claimed start [])
   pub follows : FollowsFields line (fields_of (claimed start [])) remainder
@@ -72,16 +72,16 @@ last_code [] = None
 last_code (object ∷ []) = Some object.0
 last_code (object ∷ next ∷ more) = last_code (next ∷ more)
 
--- the code comes after the last one in ASCII order
+-- the code comes after the last code in ASCII order, if there is a last code
 abbrev pub IsAfter : Option (List ℕ) → List ℕ → Type 0
 IsAfter None code = Unit {0}
 IsAfter (Some last) code = slice_cmp nat_cmp last code ≡ Less
 
--- a count that may follow this code
+-- a count that may come after the count whose code is `last`; any count, if there is no last code
 abbrev pub MayFollow : Option (List ℕ) → (List ℕ × ℕ) → Type 0
 MayFollow last object = IsCount object × IsAfter last object.0
 
--- these counts have been read, after everything before them
+-- everything before the counts has been read, and then these counts; if the line goes on, the soup has settled
 pub record HasCounts (line : List ℕ) (start : LineStart) (counts : List (List ℕ × ℕ)) (last remainder : Option (List ℕ)) : Type 0 where
   pub lawful : IsClaim (claimed start counts)
   pub follows : FollowsFields line (fields_of (claimed start counts)) remainder

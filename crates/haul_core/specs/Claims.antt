@@ -30,7 +30,7 @@ abbrev pub followed : List (List ℕ) → List ℕ
 followed fields = flat_map (λ field. field ++ codes " ") fields
 
 -- A field begins at the place, and ends before the next space (32) or at the end of the line. The fields before it are
--- the first fields of some claim. With this field, they no longer are.
+-- the first fields of some claim. With this field added, they are the first fields of no claim.
 pub record IsBadField (line : List ℕ) (place : ℕ) : Type 0 where
   pub before : List (List ℕ)
   pub field : List ℕ
@@ -41,8 +41,8 @@ pub record IsBadField (line : List ℕ) (place : ℕ) : Type 0 where
   pub there : ¬ BeginClaim (before ++ field ∷ [])
   pub is : place ≡ length (followed before)
 
--- All fields of the line are the first fields of a claim, and a field is missing after them. The place is the line's
--- length.
+-- The fields of the line are the first fields of some claim, and at least one more field is missing. The place is the
+-- line's length.
 pub record LacksField (line : List ℕ) (place : ℕ) : Type 0 where
   pub first : List ℕ
   pub more : List (List ℕ)

@@ -19,11 +19,11 @@ line_of first more = first ++ flat_map spaced more
 abbrev pub line_of_numbers : List ℕ → List ℕ → List ℕ
 line_of_numbers name numbers = line_of name (map decimal numbers)
 
--- the four numbers of a profile
+-- the line of a profile, with its four numbers
 abbrev pub profile_line : Settling → List ℕ
 profile_line p = line_of_numbers (codes "@PROFILE") (p.period ∷ p.horizon ∷ p.stride ∷ p.limit ∷ [])
 
--- the version, the seed, the rule, the symmetry and the profile
+-- the lines of the version, the seed, the rule, the symmetry and the profile
 unfoldable pub head_lines : Job → List (List ℕ)
 head_lines job =
     codes "@VERSION 2"
@@ -33,7 +33,7 @@ head_lines job =
     ∷ profile_line job.profile
     ∷ []
 
--- the first number of a range, and how many numbers it has
+-- the line of a range: its first number, and how many numbers the range has
 abbrev pub range_line : Range → List ℕ
 range_line range = line_of_numbers (codes "@RANGE") (range.first ∷ range.count ∷ [])
 
@@ -42,7 +42,7 @@ abbrev pub range_lines : List Range → List (List ℕ)
 range_lines [] = range_line (record { first = 0; count = 0 }) ∷ []
 range_lines (range ∷ more) = map range_line (range ∷ more)
 
--- the numbers of soups, of unsettled soups, of soups whose objects stay for good, and of objects
+-- the lines that say how many soups, unsettled soups, soups whose objects stay for good, and objects there are
 unfoldable pub sum_lines : Census → List (List ℕ)
 sum_lines census =
     line_of_numbers (codes "@NUM_SOUPS") (census.soups ∷ [])
@@ -63,7 +63,7 @@ sample_line row = line_of_numbers row.code row.samples
 unfoldable pub total_lines : List Row → List (List ℕ)
 total_lines rows = [] ∷ codes "@CENSUS TABLE" ∷ map total_line rows
 
--- the table of samples
+-- the table of samples: an empty line, the title, and a line for each code
 unfoldable pub sample_lines : List Row → List (List ℕ)
 sample_lines rows = [] ∷ codes "@SAMPLE_SOUPIDS" ∷ map sample_line rows
 

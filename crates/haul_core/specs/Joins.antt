@@ -19,15 +19,15 @@ pub record CanJoin (a b : Held) : Type 0 where
   pub job : same_job a.terms.job b.terms.job ≡ true
   pub apart : ¬ ShareNumber a.terms.ranges b.terms.ranges
 
--- what holds if this error is returned: the first that fits
+-- what holds if this error is returned, which is the first, in this order, that fits
 abbrev pub Hinders : Held → Held → JoinError → Type 0
 Hinders a b Open = ¬ AreClosed a b
 Hinders a b OtherJob = AreClosed a b × (same_job a.terms.job b.terms.job ≡ false)
 Hinders a b Overlap = AreClosed a b × (same_job a.terms.job b.terms.job ≡ true) × ShareNumber a.terms.ranges b.terms.ranges
 Hinders a b (Memory error) = CanJoin a b
 
--- the joined haul has the job and both sets, is closed, and has taken what the first took, followed by what the second
--- took
+-- The joined haul has the job, both sets and the larger of the two numbers of workers, and is closed. It has taken what
+-- the first haul took, followed by what the second took.
 pub record IsJoined (a b joined : Held) : Type 0 where
   pub job : joined.terms.job ≡ a.terms.job
   pub set : IsNormalForm (a.terms.ranges ++ b.terms.ranges) joined.terms.ranges
@@ -39,6 +39,6 @@ pub record IsJoined (a b joined : Held) : Type 0 where
 abbrev pub taken_offers : Terms → List Arrival → List Arrival
 taken_offers terms arrivals = map (λ r. Offer r) (first_of_each (eligible terms arrivals))
 
--- the arrivals of a joined haul: the taken offers of the first, those of the second, and a closing
+-- the arrivals of a joined haul: the taken offers of the first haul, the taken offers of the second, and a closing
 abbrev pub joined_arrivals : Terms → List Arrival → Terms → List Arrival → List Arrival
 joined_arrivals a first b second = taken_offers a first ++ (taken_offers b second ++ Closing ∷ [])

@@ -29,7 +29,7 @@ pub record Sums : Type 0 where
   pub unsettled : ℕ
   pub for_good : ℕ
 
--- the totals are those of these surveys
+-- the totals are those of these surveys, each of which has fewer than 2^64 objects
 pub record AreSums (surveys : List Survey) (sums : Sums) : Type 0 where
   pub scores : (code : List ℕ) → score_in sums.scores code ≡ score_of surveys code
   pub unsettled_sum : sums.unsettled ≡ unsettled surveys

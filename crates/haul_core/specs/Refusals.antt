@@ -17,7 +17,7 @@ use Rattle.haul_core.specs.Books.{Terms, has_closing, eligible, has_number}
 abbrev pub first_worker : ℕ → List Reported → Option ℕ
 first_worker n reports = option_map (λ r. r.worker) (find (has_number n) reports)
 
--- the refusal of a double, if a worker reported the soup before
+-- why a report is refused if this worker reported the soup before; `None` if no worker did
 abbrev pub double : Option ℕ → Option OfferError
 double None = None
 double (Some worker) = Some (Double worker)
@@ -31,7 +31,7 @@ refusal_of terms before r =
     else if not (is_in terms.ranges r.number) then Some OutOfRange
     else double (first_worker r.number (eligible terms before))
 
--- the reply to an offer that is refused for this reason, or taken
+-- the reply to an offer that is refused for this reason, or taken if there is no reason
 abbrev pub reply_for : Option OfferError → Reply
 reply_for None = Taken
 reply_for (Some reason) = Refused reason
@@ -46,6 +46,6 @@ abbrev pub replies_to : Terms → List Arrival → List Arrival → List Reply
 replies_to terms before [] = []
 replies_to terms before (a ∷ more) = reply_to terms before a ∷ replies_to terms (before ++ a ∷ []) more
 
--- the given reply is the wanted one; or memory ran out for an offer that the book takes
+-- the given reply is the wanted one; for an offer that the book takes, it may also be that memory ran out
 abbrev pub IsReply : Option OfferError → Option OfferError → Type 0
 IsReply given wanted = (given ≡ wanted) ⊎ ((given ≡ Some (Memory out_of_memory)) × (wanted ≡ None))

@@ -1,4 +1,4 @@
--- What a haul answers to an offer, and where a list of arrivals stops if memory runs out.
+-- What a haul replies to an offer, and which arrivals it has received if memory runs out.
 use Rattle.std.specs.Prelude.{◌≡◌, ◌≢◌, ◌++◌, ◌⊎◌, ℕ, List, [], ◌∷◌, Option, None, Some, Result, Ok, Err, map, not, nat_eq, nat_lt, if◌then◌else◌}
 use Rattle.std.specs.Map.{lookup}
 use Rattle.memory.specs.Witness.{out_of_memory}
@@ -13,7 +13,7 @@ use Rattle.survey_core.specs.Jobs.{same_job}
 use Rattle.ranges.specs.Ranges.{is_in}
 use Rattle.haul_core.specs.Reports.{Reported}
 
--- the reply that a result stands for
+-- why an offer was refused, by the result of the call; `None` if the report was taken
 abbrev pub reply_of : Result (Unit {0}) Refused → Option OfferError
 reply_of (Ok u) = None
 reply_of (Err refused) = Some refused.reason
@@ -22,11 +22,11 @@ reply_of (Err refused) = Some refused.reason
 abbrev pub IsAnswered : Option OfferError → Type 0
 IsAnswered reply = reply ≢ Some (Memory out_of_memory)
 
--- the worker from whom the number was taken
+-- the worker whose report on this number was taken, if there is one
 abbrev pub worker_in : ℕ → List (ℕ × ℕ) → Option ℕ
 worker_in n taken = lookup (nat_eq n) (map (λ t. (t.1, t.0)) taken)
 
--- why a haul refuses a report, if it does
+-- why a haul refuses a report, if it does: the first reason that fits
 abbrev pub refusal_at : Held → Reported → Option OfferError
 refusal_at held r =
     if held.closed then Some Closed
@@ -41,8 +41,8 @@ IsTakenNext terms before [] = ⊥
 IsTakenNext terms before (Offer report ∷ more) = refusal_of terms before report ≡ None
 IsTakenNext terms before (Closing ∷ more) = ⊥
 
--- Memory ran out before any arrival, or at an offer that should be taken. The haul has received only the arrivals
--- before then.
+-- The haul has received the arrivals `before`, but only a prefix of the arrivals after them, because memory ran out:
+-- either before the first of these, or at an offer that the book takes.
 pub record StandsForPrefix (before arrivals : List Arrival) (held : Held) : Type 0 where
   pub prefix : List Arrival
   pub remainder : List Arrival

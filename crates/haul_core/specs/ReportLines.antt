@@ -14,7 +14,7 @@ unfoldable pub profile_field : Settling → List ℕ
 profile_field p =
     codes "profile=" ++ (decimal p.period ++ (codes "," ++ (decimal p.horizon ++ (codes "," ++ (decimal p.stride ++ (codes "," ++ decimal p.limit))))))
 
--- the version, the job, the worker and the number of the soup
+-- the fields of the version, the job, the worker and the number of the soup
 unfoldable pub head_fields : Claimed → List (List ℕ)
 head_fields claim =
     decimal claim.version
@@ -48,13 +48,13 @@ found_fields (Some said) = (codes "at=" ++ decimal said.checkpoint) ∷ (mark_fi
 unfoldable pub claim_line : Claimed → List ℕ
 claim_line claim = line_of (codes "report") (head_fields claim ++ found_fields claim.found)
 
--- what a line of a version says about a finding
+-- what a line of this version says about a soup with this finding
 abbrev pub said_of : ℕ → Finding → Option SaidOfSoup
 said_of version (Settled checkpoint objects for_good) =
     Some (record { checkpoint = checkpoint; for_good = if version == 1 then None else Some for_good; counts = objects })
 said_of version Unsettled = None
 
--- the claim that a report makes in a line of a version
+-- the claim that a report makes in a line of this version
 abbrev pub claim_of : ℕ → Reported → Claimed
 claim_of version report = record {
   version = version;

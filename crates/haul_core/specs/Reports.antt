@@ -18,14 +18,14 @@ pub record IsWorker (worker : ℕ) : Type 0 where
   pub least : 1 ≤ worker
   pub most : worker ≤ 16
 
--- the report is lawful: its worker and number are in range, and its finding is that of the soup
+-- the report is lawful: its worker and number are in range, and its finding is the soup's, with fewer than 2^64 objects
 pub record IsReport (report : Reported) : Type 0 where
   pub worker : IsWorker report.worker
   pub number : report.number < number_bound
   pub finding : IsFinding report.job.rule report.job.profile (soup report.job.seed report.number) report.finding
   pub few : objects_in report.finding < 2 ^ 64
 
--- the report of this worker on this soup of the job
+-- a lawful report of this worker on the soup of the job with this number
 pub record IsReportOf (job : Job) (worker number : ℕ) (report : Reported) : Type 0 where
   pub job_is : report.job ≡ job
   pub worker_is : report.worker ≡ worker

@@ -9,7 +9,7 @@ use Rattle.haul_core.specs.declared.book.census_rows.Row.{Row}
 use Rattle.haul_core.specs.Samples.{AreLeastThree}
 use Rattle.haul_core.specs.Totals.{Survey, numbers_with, total}
 
--- the codes of rows
+-- the code of each row, in order
 abbrev pub codes_of : List Row → List (List ℕ)
 codes_of rows = map (λ row. row.code) rows
 
@@ -17,13 +17,14 @@ codes_of rows = map (λ row. row.code) rows
 abbrev pub AreInOrder : List Row → Type 0
 AreInOrder rows = IsStrictlySortedBy (slice_cmp nat_cmp) (codes_of rows)
 
--- the row has its code's total over the surveys, at least 1, and the three lowest numbers of soups that left the object
+-- The row has its code's total over the surveys, which is at least 1. Its samples are the three lowest numbers of soups
+-- that left an object with the code, or all if there are fewer.
 pub record IsRowOf (surveys : List Survey) (row : Row) : Type 0 where
   pub some : 1 ≤ row.total
   pub total_is : row.total ≡ total surveys row.code
   pub samples_are : AreLeastThree (numbers_with surveys row.code) row.samples
 
--- in ASCII order, a row for each code of an object that the soups left, and no others
+-- the rows have each code of an object that the soups left, once and in ASCII order, and no other code
 pub record AreRowsOf (surveys : List Survey) (rows : List Row) : Type 0 where
   pub in_order : AreInOrder rows
   pub each : All (IsRowOf surveys) rows

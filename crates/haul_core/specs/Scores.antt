@@ -8,7 +8,7 @@ use Rattle.survey_core.specs.declared.finding.Finding.TheVariants.{Settled, Unse
 use Rattle.haul_core.specs.declared.book.scores.Score.{Score}
 use Rattle.haul_core.specs.SampleSteps.{with_each, with_number}
 
--- a blank score
+-- the blank score: no objects, and no samples
 abbrev pub no_score : Score
 no_score = record { total = 0; samples = [] }
 
@@ -20,11 +20,11 @@ found_score scores code = lookup (pointwise nat_eq code) scores
 abbrev pub HasScore : List (List ℕ × Score) → List ℕ → Type 0
 HasScore scores code = IsSome (found_score scores code)
 
--- the score of a code, or a blank one
+-- the score of a code, or the blank score if it has none
 abbrev pub score_in : List (List ℕ × Score) → List ℕ → Score
 score_in scores code = unwrap_or (found_score scores code) no_score
 
--- a score after one more soup, number `number`, that left this many objects, or none
+-- the score of a code after one more soup, with the number `number`, that left `count` objects with the code, or none
 abbrev pub added : Option ℕ → ℕ → Score → Score
 added None number score = score
 added (Some count) number score = record { total = score.total + count; samples = take 3 (with_number number score.samples) }
@@ -33,7 +33,7 @@ added (Some count) number score = record { total = score.total + count; samples 
 abbrev pub together : Score → Score → Score
 together t u = record { total = t.total + u.total; samples = with_each t.samples u.samples }
 
--- only blank scores were added
+-- the new scores are the old ones, followed by blank ones only
 pub record Extends (old new : List (List ℕ × Score)) : Type 0 where
   pub more : List (List ℕ × Score)
   pub is : new ≡ old ++ more

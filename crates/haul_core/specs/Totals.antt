@@ -1,4 +1,4 @@
--- Totals over surveyed soups: how many objects of a code they left, and which soups are its samples.
+-- Totals over surveyed soups: how many objects with a code the soups left, and which soups left one.
 use Rattle.std.specs.Prelude.{◌≡◌, ℕ, Bool, true, false, List, count_by, filter, map, nat_le, sum_by}
 use Rattle.std.specs.List.{All}
 use Rattle.survey_core.specs.Findings.{IsFinding}
@@ -21,7 +21,7 @@ abbrev pub is_for_good : Finding → Bool
 is_for_good (Settled checkpoint objects for_good) = for_good
 is_for_good Unsettled = false
 
--- a soup of a job, and its finding
+-- the number of a surveyed soup, and its finding
 pub record Survey : Type 0 where
   pub number : ℕ
   pub finding : Finding

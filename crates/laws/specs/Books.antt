@@ -14,13 +14,14 @@ use Rattle.ranges.specs.Ranges.{is_in}
 abbrev pub of_worker : ℕ → List (ℕ × ℕ) → List (ℕ × ℕ)
 of_worker worker entries = filter (λ t. nat_eq t.0 worker) entries
 
--- what is taken from a worker is a part of what it offered before any closing, each number at most once and in the set
+-- What is taken from a worker is some of what it offered before any closing, in the same order. Each number is taken at
+-- most once, and is in the set.
 pub record IsTakenOf (terms : Terms) (arrivals : List Arrival) (worker : ℕ) : Type 0 where
   pub part : IsSubsequence (of_worker worker (taken_of terms arrivals)) (of_worker worker (map entry (offered arrivals)))
   pub once : (n : ℕ) → count_by (nat_eq n) (numbers_in (of_worker worker (taken_of terms arrivals))) ≤ 1
   pub within : All (λ t. is_in terms.ranges t.1 ≡ true) (of_worker worker (taken_of terms arrivals))
 
--- this holds for all arrivals and each worker
+-- whatever arrives, the book takes from each worker some of what the worker offered, in the same order
 abbrev pub WorkersAreTakenInOrder : Type 0
 WorkersAreTakenInOrder = (terms : Terms) (arrivals : List Arrival) (worker : ℕ) → IsTakenOf terms arrivals worker
 
@@ -29,6 +30,6 @@ pub record IsTakenByFirst (terms : Terms) (arrivals : List Arrival) (n : ℕ) : 
   pub taken : is_taken (taken_of terms arrivals) n ≡ list_any (has_number n) (eligible terms arrivals)
   pub worker : worker_in n (taken_of terms arrivals) ≡ first_worker n (eligible terms arrivals)
 
--- this holds for all arrivals and each number
+-- whatever arrives, the book takes each number from the worker of the first eligible offer that has it
 abbrev pub FirstOffersAreTaken : Type 0
 FirstOffersAreTaken = (terms : Terms) (arrivals : List Arrival) (n : ℕ) → IsTakenByFirst terms arrivals n

@@ -28,15 +28,16 @@ CompleteHaulsPrintTheSame = (job : Job) (ranges others : List Range) (numbers mo
     → AreNormal ranges → AreNormal others → GiveOneSet ranges others → AreAll ranges numbers → AreAll others more
     → IsCensus job ranges numbers one → IsCensus job others more other → haul_text one ≡ haul_text other
 
--- the total in the row of a code: 0 if there is no row
+-- the total in the row of a code, or 0 if there is no such row
 abbrev pub total_in : List Row → List ℕ → ℕ
 total_in rows code = unwrap_or (option_map (λ row. row.total) (find (λ row. is_code code row.code) rows)) 0
 
--- the samples in the row of a code: none if there is no row
+-- the samples in the row of a code, or none if there is no such row
 abbrev pub samples_in : List Row → List ℕ → List ℕ
 samples_in rows code = unwrap_or (option_map (λ row. row.samples) (find (λ row. is_code code row.code) rows)) []
 
--- each number of a census is the sum of those of two others, and each code's samples are the three lowest of theirs
+-- The census `both` has the sums of the two other censuses: of soups, of unsettled soups, of soups whose objects stay
+-- for good, of objects, and of each code's total. A code's samples are the three lowest of its samples in those two.
 pub record AddUp (one other both : Census) : Type 0 where
   pub soups : both.soups ≡ one.soups + other.soups
   pub unsettled : both.unsettled ≡ one.unsettled + other.unsettled
@@ -56,7 +57,7 @@ pub record IsCensusOfSet (job : Job) (ranges : List Range) (census : Census) : T
   pub all : AreAll ranges numbers
   pub is : IsCensus job ranges numbers census
 
--- the census of a union of two sets, which share no number, is the sum of the two censuses
+-- if two sets share no number, the census of their union is the sum of their censuses
 abbrev pub SplitSetsAddUp : Type 0
 SplitSetsAddUp = (job : Job) (ranges others all : List Range) (one other both : Census)
     → ((n : ℕ) → is_in all n ≡ (is_in ranges n || is_in others n)) → ¬ ShareNumber ranges others

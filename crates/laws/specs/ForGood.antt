@@ -15,8 +15,7 @@ use Rattle.survey_core.specs.shapes.Objects.{AreObjectsOf, StayForGood}
 abbrev pub EmptyIsAtRest : Type 0
 EmptyIsAtRest = (rule : Numbers) (profile : Settling) → IsAtRest rule profile []
 
--- Clusters keep apart forever, not just up to the horizon, and the pattern is the same again after each `period`
--- generations.
+-- The clusters keep apart forever, not just up to the horizon, and the pattern repeats every `period` generations.
 pub record RestsForever (rule : Numbers) (cells : List Cell) (clusters : List (List Cell)) (period : ℕ) : Type 0 where
   pub apart : (g : ℕ) → KeepApart rule cells clusters g
   pub back : (g : ℕ) → after rule cells (g + period) ≡ after rule cells g
@@ -39,19 +38,20 @@ abbrev pub FindingsForGood : Type 0
 FindingsForGood = (rule : Numbers) (profile : Settling) (cells : List Cell) (t : ℕ) (objects : List (List ℕ × ℕ)) → InOrder cells
     → IsFinding rule profile cells (Settled t objects true) → RestsForGood rule profile (after rule cells t)
 
--- the kinds and numbers in codes say that objects stay for good if and only if their clusters' recurrences say so
+-- the kinds and numbers in the codes of objects, and the recurrences of their clusters, agree on whether the objects
+-- stay for good
 abbrev pub MarksMatchRecurrences : Type 0
 MarksMatchRecurrences = (rule : Numbers) (limit horizon : ℕ) (clusters : List (List Cell)) (objects : List (List ℕ × ℕ))
     → limit ≤ 64 → All (λ cluster. cluster ≢ []) clusters → AreObjectsOf rule limit clusters objects
     → StayForGood horizon objects ↔ ClustersStayForGood rule limit horizon clusters
 
--- a finding is marked if and only if its objects stay for good, as the kinds and numbers in their codes say
+-- the mark `for good` of a finding agrees with the kinds and numbers in the codes of its objects
 abbrev pub MarksAreInCodes : Type 0
 MarksAreInCodes = (rule : Numbers) (profile : Settling) (cells : List Cell) (t : ℕ) (objects : List (List ℕ × ℕ)) (good : Bool)
     → profile.period ≤ 64 → IsFinding rule profile cells (Settled t objects good) → IsTrue good ↔ StayForGood profile.horizon objects
 
--- a pattern that is at rest for good at t is the same pattern, at rest with the same objects, at t + k * L for every k,
--- where L is the least common multiple of the periods
+-- If a pattern settles at t with objects that stay for good, then for every k, generation t + k * L is equal to
+-- generation t, and is settled with the same objects. L is the least common multiple of the periods.
 abbrev pub ForGoodComesBack : Type 0
 ForGoodComesBack = (rule : Numbers) (profile : Settling) (cells : List Cell) (t : ℕ) (objects : List (List ℕ × ℕ)) → InOrder cells
     → (finding : IsFinding rule profile cells (Settled t objects true))

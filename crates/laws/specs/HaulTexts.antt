@@ -13,7 +13,7 @@ use Rattle.haul_core.specs.declared.book.census.Census.{Census}
 use Rattle.haul_core.specs.declared.book.census_rows.Row.{Row}
 use Rattle.haul_core.specs.HaulTexts.{haul_text}
 
--- the decimal has all digits of the number; the decimal of a larger number has only the last 64
+-- the number has at most 64 digits, so its decimal has all of them; the decimal of a larger number has only the last 64
 abbrev pub IsWrittenWhole : ℕ → Type 0
 IsWrittenWhole n = n < 10 ^ 64
 
@@ -41,17 +41,17 @@ pub record IsShortCensus (census : Census) : Type 0 where
   pub objects : IsWrittenWhole census.objects
   pub rows : All IsShortRow census.rows
 
--- such censuses are equal if their texts are
+-- two short censuses with the same haul text are equal
 abbrev pub HaulTextsAreFaithful : Type 0
 HaulTextsAreFaithful = (one other : Census) → IsShortCensus one → IsShortCensus other → haul_text one ≡ haul_text other → one ≡ other
 
--- the numbers are some numbers of the set, each once
+-- the numbers are some or all numbers of the set, each at most once
 pub record AreTakenOf (ranges : List Range) (numbers : List ℕ) : Type 0 where
   pub within : All (λ n. is_in ranges n ≡ true) numbers
   pub distinct : IsDistinct nat_eq numbers
 
--- the census of a haul is such a census, since its job is valid, its ranges are in normal form and end at 2^40 at most,
--- and the numbers taken are some of theirs, none twice
+-- the census of a haul is short, since the haul's job is valid, its ranges are in normal form and end at 2^40 at most,
+-- and the numbers taken are in these ranges, no number twice
 abbrev pub HaulCensusesAreShort : Type 0
 HaulCensusesAreShort = (job : Job) (ranges : List Range) (numbers : List ℕ) (census : Census) → IsJob job → AreNormal ranges
     → AreBelow number_bound ranges → AreTakenOf ranges numbers → IsCensus job ranges numbers census → IsShortCensus census

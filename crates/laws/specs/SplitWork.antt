@@ -37,8 +37,8 @@ pub record IsAccepted (plan : Plan) (job : Job) : Type 0 where
   pub small : AreSmall ranges
   pub apart : ¬ Overlap ranges
 
--- The soup with this number is in the set of a plan of `work` with this job. The worker's number is at most `workers`,
--- and each line that this `work` prints, which has at most 2^24 bytes, is somewhere among the lines of the input.
+-- The soup with this number is in the set of a call of `work` for this job. The number of the call's worker is at most
+-- `workers`. Each line that the call prints has at most 2^24 bytes, and is among the lines of the input `bytes`.
 pub record IsWorkedOn (job : Job) (workers : ℕ) (bytes : List ℕ) (n : ℕ) : Type 0 where
   pub plan : Plan
   pub job_is : job_named plan ≡ Ok job
@@ -60,14 +60,15 @@ SplitWorkIsWhole = (plan : Plan) (job : Job) (workers : ℕ) (bytes : List ℕ) 
     → length bytes ≤ 2 ^ 32 → ((n : ℕ) → IsInSet plan.set n → IsWorkedOn job workers bytes n) → gather_right plan workers bytes answer
     → IsWholeHaul plan answer
 
--- what standard output got, for each status: the text of `take`, or anything if memory ran out or a stream failed
+-- what standard output got, for each possible status: the text of `take`, or anything if memory ran out or a stream
+-- failed
 abbrev pub HasWholeText : Plan → Status → Stream → Type 0
 HasWholeText plan Done output = (text : List ℕ) × take_right plan (Ok text) × Has output text
 HasWholeText plan Memory output = Unit {0}
 HasWholeText plan Failed output = Unit {0}
 HasWholeText plan _ output = ⊥
 
--- in this case, `gather` ends with the text of `take`, unless memory runs out or a stream fails
+-- if each soup of a set is worked on, `gather` prints the text of `take`, unless memory runs out or a stream fails
 abbrev pub SplitWorkEnds : Type 0
 SplitWorkEnds = (plan : Plan) (job : Job) (workers : ℕ) (reader : Option (List ℕ)) (bytes : List ℕ) (status : Status) (output errors : Stream)
     → IsAccepted plan job → length bytes ≤ 2 ^ 32 → ((n : ℕ) → IsInSet plan.set n → IsWorkedOn job workers bytes n)

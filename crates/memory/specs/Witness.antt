@@ -2,6 +2,6 @@
 use Rattle.std.specs.Prelude.{alloc_error}
 use Rattle.memory.specs.declared.OutOfMemory.{OutOfMemory}
 
--- memory was refused: all witnesses of it are equal
+-- the witness that memory was refused; all such witnesses are equal
 pub out_of_memory : OutOfMemory
 out_of_memory = record { refused = alloc_error }

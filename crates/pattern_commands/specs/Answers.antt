@@ -5,8 +5,8 @@ use Rattle.pattern_commands.specs.declared.ending.complaint.Complaint.{Complaint
 use Rattle.pattern_commands.specs.declared.ending.complaint.Complaint.TheVariants.{Refused, TooLong}
 use Rattle.pattern_commands.specs.declared.ending.refusal.Refusal.TheVariants.{RangeTooLarge, RangesOverlap}
 
--- what a command that prints only a text writes to standard output, if memory lasts and no stream fails, or its
--- complaint
+-- the answer of a command that prints only a text: the text that it writes to standard output if memory lasts and no
+-- stream fails, or its complaint
 abbrev pub Answer : Type 0
 Answer = Result (List ℕ) Complaint
 

@@ -21,7 +21,7 @@ abbrev pub text_made : Result Made Complaint → List ℕ
 text_made (Ok made) = made.text
 text_made (Err complaint) = []
 
--- only complaints that need memory are right, so a command that ends with out of memory hides no other complaint
+-- only complaints that need memory are right, so a command that runs out of memory hides no other complaint
 abbrev pub NeedsMemoryAlone : Makes → Type 0
 NeedsMemoryAlone right = (complaint : Complaint) → right (Err complaint) → NeedsMemory complaint
 
@@ -56,6 +56,6 @@ silent_behaviour reads whole right = record {
   breaks_off = λ errors. ⊥;
 }
 
--- a command that writes a text
+-- a command that writes only a text
 abbrev pub text_behaviour : (reads whole : Bool) → (List ℕ → Right) → Behaviour
 text_behaviour reads whole right = silent_behaviour reads whole (λ bytes. alone (right bytes))

@@ -7,6 +7,6 @@ use Rattle.plane_core.specs.declared.plane.cell.Cell.{Cell}
 abbrev pub coordinate_line : Cell → List ℕ
 coordinate_line c = signed_decimal c.x ++ ((codes " " ++ signed_decimal c.y) ++ codes "\n")
 
--- the lines of all cells, in the order of the pattern: by rows, and in a row from the left
+-- the lines of all cells, in the order of the pattern: row by row, and in each row from left to right
 abbrev pub coordinates_text : List Cell → List ℕ
 coordinates_text cells = flat_map coordinate_line cells

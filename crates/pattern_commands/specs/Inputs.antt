@@ -31,23 +31,23 @@ abbrev pub pattern_complaint : PlaintextFault → Complaint
 pattern_complaint (fault.BadByte line column) = Refused (BadByte line column)
 pattern_complaint fault.TooLarge = Refused PatternTooLarge
 
--- the complaint about a call that reads a plaintext pattern
+-- the complaint if a call that reads a plaintext pattern fails with this error
 abbrev pub plaintext_complaint : PlaintextError → Complaint
 plaintext_complaint (error.Fault why) = pattern_complaint why
 plaintext_complaint (error.Memory refused) = Memory refused
 
--- the complaint about a call that reads a range list
+-- the complaint if a call that reads a range list fails with this error
 abbrev pub list_complaint : ListError → Complaint
 list_complaint (list_error.BadList place) = Refused (BadList place)
 list_complaint (list_error.Memory refused) = Memory refused
 
--- the complaint about a call that reads an input
+-- the complaint if a call that reads an input fails with this error
 abbrev pub input_complaint : InputError → Complaint
 input_complaint (input_error.Unreadable failed) = ReadFailed failed
 input_complaint input_error.TooLong = TooLong
 input_complaint (input_error.Memory refused) = Memory refused
 
--- the rule with this text
+-- the rule with this text, or the complaint about the text
 abbrev pub rule_named : List ℕ → Result Numbers Complaint
 rule_named text = result_map_both (λ rule. rule) rule_complaint (rule_read text)
 
@@ -61,8 +61,8 @@ pattern_of bytes = if nat_le (length bytes) (2 ^ 24)
 abbrev pub LiesWithin999 : List Cell → Type 0
 LiesWithin999 cells = lies_within 999 cells ≡ true
 
--- A call that reads a value returns it, refuses its text, or finds that the text is too long; or memory runs out or a
--- read fails.
+-- A call that reads a value returns the right `answer`: the value, a refusal, or that the text is too long. If memory
+-- runs out or a read fails, the call may return that instead.
 abbrev pub Reads : {A : Type 0} → Result A Complaint → Result A Complaint → Type 0
 Reads answer (Ok x) = answer ≡ Ok x
 Reads answer (Err (Refused refusal)) = answer ≡ Err (Refused refusal)
@@ -71,6 +71,6 @@ Reads answer (Err (Memory error)) = Unit {0}
 Reads answer (Err (ReadFailed error)) = Unit {0}
 Reads answer (Err (WriteFailed error)) = ⊥
 
--- at most this many bytes of a reader were read, if it is known what it had
+-- at most this many bytes of a reader were read; `old` and `new` are its bytes before and after, if they are known
 abbrev pub HasReadAtMost : ℕ → (old new : Option (List ℕ)) → Type 0
 HasReadAtMost most old new = (bytes : List ℕ) × Consumes old new bytes × (length bytes ≤ most)

@@ -16,7 +16,7 @@ use Rattle.pattern_commands.specs.Behaviours.{Behaviour, text_behaviour}
 abbrev pub object_line : List ℕ × ℕ → List ℕ
 object_line object = object.0 ++ (codes " " ++ decimal object.1 ++ codes "\n")
 
--- the lines of a finding: the checkpoint, and a line for each code
+-- the lines of a finding: the checkpoint, and a line for each code; or `unsettled`
 abbrev pub finding_text : Finding → List ℕ
 finding_text (Settled checkpoint objects for_good) = codes "settled " ++ decimal checkpoint ++ codes "\n" ++ flat_map object_line objects
 finding_text Unsettled = codes "unsettled\n"
@@ -25,7 +25,8 @@ finding_text Unsettled = codes "unsettled\n"
 abbrev pub TellsFinding : Numbers → Settling → List Cell → Right
 TellsFinding rule profile cells answer = (finding : Finding) × IsFinding rule profile cells finding × only (Ok (finding_text finding)) answer
 
--- the finding of the pattern; first the profile is checked, then the rule and then the input
+-- the right answers of `name`: the text of the pattern's finding; first the profile is checked, then the rule, and then
+-- the input
 abbrev pub name_right : ProfileNumbers → List ℕ → List ℕ → Right
 name_right numbers rule_text bytes =
     IsRightGiven (profile_named numbers) (λ profile. IsRightGiven (rule_named rule_text) (λ rule. IsRightGiven (pattern_of bytes) (TellsFinding rule profile)))

@@ -39,7 +39,7 @@ abbrev pub LeavesPart : Bool → Makes → Stream → Type 0
 LeavesPart true right output = Has output []
 LeavesPart false right output = (answer : Result Made Complaint) → right answer → HasPrefix output (text_made answer)
 
--- memory ran out, while the input was processed or before it was read
+-- memory ran out, either before the input was read or while it was processed
 pub record HasRunOutOfMemory (behaviour : Behaviour) (reader : Option (List ℕ)) (bytes : List ℕ) (output errors : Stream) : Type 0 where
   pub hides : behaviour.refuses ≡ false → NeedsMemoryAlone (behaviour.right bytes)
   pub left : LeavesPart behaviour.whole (behaviour.right bytes) output
@@ -60,7 +60,7 @@ pub record IsCutShort (behaviour : Behaviour) (bytes : List ℕ) (output errors 
   pub cut : output.failed ≡ true
   pub fine : errors.failed ≡ false
 
--- the diagnostics were not written completely
+-- the diagnostics were not written completely, and nothing was written to standard output
 pub record LacksDiagnostics (behaviour : Behaviour) (output errors : Stream) : Type 0 where
   pub cut : behaviour.breaks_off errors
   pub nothing : Has output []

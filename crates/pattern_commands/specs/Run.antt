@@ -12,7 +12,7 @@ abbrev pub run_answer : PatternForm → List ℕ → ℕ → List ℕ → Answer
 run_answer form rule_text n bytes =
     given (rule_named rule_text) (λ rule. given (pattern_of bytes) (λ cells. Ok (pattern_text form (after rule cells n))))
 
--- the behaviour of `run`; the input is read if the rule is valid
+-- the behaviour of `run`; the input is read only if the rule is valid
 abbrev pub run_behaviour : PatternForm → List ℕ → ℕ → Behaviour
 run_behaviour form rule_text n =
     text_behaviour (is_ok (rule_named rule_text)) true (λ bytes. only (run_answer form rule_text n bytes))

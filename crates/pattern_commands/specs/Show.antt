@@ -17,40 +17,40 @@ use Rattle.pattern_commands.specs.Answers.{Answer, given, only}
 use Rattle.pattern_commands.specs.PatternText.{pattern_text}
 use Rattle.pattern_commands.specs.Behaviours.{Behaviour, text_behaviour}
 
--- `_`, between the prefix of a code and its text
+-- the byte is `_`, which separates a code's prefix from its text
 abbrev pub is_separator : ℕ → Bool
 is_separator b = b == 95
 
--- a code's part before its first `_` and the part after it, if it has one
+-- the parts of a code before and after its first `_`, or `None` if the code has no `_`
 abbrev pub parted : List ℕ → Option (List ℕ × List ℕ)
 parted code = if nat_lt (position_or_len is_separator code) (length code)
     then Some (before_first is_separator code, after_first is_separator code)
     else None
 
--- `s`, `p` and `q` are the letters of still lifes, oscillators and spaceships
+-- the byte is the letter of a kind: `s`, `p` or `q`, for still lifes, oscillators and spaceships
 abbrev pub is_kind : ℕ → Bool
 is_kind b = b == 115 || (b == 112 || b == 113)
 
--- only digits, and at least one
+-- the text is a number: one or more digits
 abbrev pub is_number : List ℕ → Bool
 is_number digits = not (length digits == 0) && list_all is_ascii_digit digits
 
--- the part before the `_` is `x`, the letter of a kind and any number
+-- the text is a valid prefix: `x`, the letter of a kind, and a number
 unfoldable pub is_prefix : List ℕ → Bool
 is_prefix [] = false
 is_prefix (x ∷ []) = false
 is_prefix (x ∷ kind ∷ number) = x == 120 && (is_kind kind && is_number number)
 
--- the text after a valid prefix
+-- the text after a prefix, or the complaint that the prefix isn't valid
 abbrev pub after_prefix : List ℕ × List ℕ → Result (List ℕ) Complaint
 after_prefix (prefix, text) = if is_prefix prefix then Ok text else Err (Refused NotACode)
 
--- a code without `_` is a text itself
+-- the text of a code that has been parted; a code without `_` is a text as a whole
 abbrev pub text_or_part : List ℕ → Option (List ℕ × List ℕ) → Result (List ℕ) Complaint
 text_or_part code None = Ok code
 text_or_part code (Some parts) = after_prefix parts
 
--- the text of a code
+-- the text of a code, or the complaint about its prefix
 abbrev pub text_in : List ℕ → Result (List ℕ) Complaint
 text_in code = text_or_part code (parted code)
 
@@ -61,16 +61,16 @@ wechsler_complaint (fault.BadByte place) = Refused (CodeBadByte place)
 wechsler_complaint (fault.ShortRun place) = Refused (CodeShortRun place)
 wechsler_complaint fault.Empty = Refused CodeEmpty
 
--- the complaint about a call that reads a text in extended Wechsler format
+-- the complaint if a text in extended Wechsler format can't be read: the text's fault, or out of memory
 abbrev pub reader_complaint : WechslerError → Complaint
 reader_complaint (error.Fault why) = wechsler_complaint why
 reader_complaint (error.Memory refused) = Memory refused
 
--- the pattern of a text
+-- the pattern of a text in extended Wechsler format, or the complaint about the text
 abbrev pub shown : List ℕ → Result (List Cell) Complaint
 shown text = result_map_both (λ cells. cells) wechsler_complaint (wechsler_read text)
 
--- the text of the object of a code
+-- the pattern of a code, printed in the given form
 abbrev pub show_answer : PatternForm → List ℕ → Answer
 show_answer form code = given (text_in code) (λ text. given (shown text) (λ cells. Ok (pattern_text form cells)))
 

@@ -1,4 +1,5 @@
--- Steps of `run --sizes`: a pattern in parts that don't meet for some generations, and its lines.
+-- Steps of `run --sizes`: the line of each generation, and a pattern split into parts that don't meet for some
+-- generations.
 use Rattle.std.specs.Prelude.{◌≡◌, ◌++◌, ◌+◌, ◌≤◌, ◌+ℤ◌, ◌<ℤ◌, ℕ, zero, suc, pos, true, false, List, [], Result, Ok, Err, codes, decimal, drop, flat_map, length, take}
 use Rattle.plane_core.specs.declared.plane.cell.Cell.{Cell}
 use Rattle.plane_core.specs.engine.Boards.{Running}
@@ -12,7 +13,7 @@ use Rattle.pattern_commands.specs.declared.sizes.size.Size.{Size}
 use Rattle.pattern_commands.specs.Sizes.{sides, size_line, after_space}
 use Rattle.pattern_commands.specs.Streams.{Stream, Has, HasPrefix}
 
--- the size of a pattern
+-- the size of a pattern: its population and the smallest box around it
 abbrev pub pattern_size : List Cell → Size
 pattern_size cells = record { population = length cells; bounds = box_of cells }
 
@@ -25,7 +26,7 @@ unfoldable pub later_sizes : Numbers → List Cell → ℕ → ℕ → List ℕ
 later_sizes rule cells g zero = []
 later_sizes rule cells g (suc n) = later_sizes rule cells g n ++ size_line (g + suc n) (after rule cells (suc n))
 
--- the cells from place i of the list on are more than `far` rows below all cells before it
+-- all cells from place i of the list on are more than `far` rows below all cells before place i
 abbrev pub IsGap : ℕ → List Cell → ℕ → Type 0
 IsGap far cells i = (c d : Cell) → has (take i cells) c ≡ true → has (drop i cells) d ≡ true → (c.y +ℤ pos far) <ℤ d.y
 
@@ -33,7 +34,7 @@ IsGap far cells i = (c d : Cell) → has (take i cells) c ≡ true → has (drop
 abbrev pub parts_after : ℕ → List Running → List Cell
 parts_after g parts = flat_map (λ part. after part.rule part.cells g) parts
 
--- these are parts of the pattern that don't meet for n generations
+-- for n generations, the pattern consists of the parts, each run by itself
 abbrev pub RunApart : Numbers → List Cell → ℕ → List Running → Type 0
 RunApart rule cells n parts = (g : ℕ) → g ≤ n → after rule cells g ≡ parts_after g parts
 
@@ -41,8 +42,8 @@ RunApart rule cells n parts = (g : ℕ) → g ≤ n → after rule cells g ≡ p
 abbrev pub advanced : Running → Running
 advanced part = record { rule = part.rule; cells = after part.rule part.cells 1 }
 
--- What became of a text: the part that `done` gives for the result was written. Or memory ran out or a write failed,
--- and a prefix of the whole text was written.
+-- What was added to the output. If the result is `Ok x`, it is the text `done x`. If memory ran out or a write failed,
+-- it is a prefix of the whole text. No other error is possible.
 abbrev pub PutsLines : {A : Type 0} → (A → List ℕ) → List ℕ → Result A Complaint → Stream → Type 0
 PutsLines done whole (Ok x) output = Has output (done x) × (output.failed ≡ false)
 PutsLines done whole (Err (Memory error)) output = HasPrefix output whole

@@ -14,7 +14,7 @@ use Rattle.pattern_commands.specs.Inputs.{pattern_of, rule_named}
 abbrev pub after_space : List ℕ → List ℕ
 after_space number = codes " " ++ number
 
--- the left, top, right and bottom side of a box, if there is one
+-- the left, top, right and bottom side of a box, with a space before each; nothing if there is no box
 abbrev pub sides : Option Bounds → List ℕ
 sides None = []
 sides (Some b) = after_space (signed_decimal b.left) ++ (after_space (signed_decimal b.top) ++ (after_space (signed_decimal b.right) ++ after_space (signed_decimal b.bottom)))
@@ -24,12 +24,12 @@ sides (Some b) = after_space (signed_decimal b.left) ++ (after_space (signed_dec
 abbrev pub size_line : ℕ → List Cell → List ℕ
 size_line g cells = decimal g ++ (after_space (decimal (length cells)) ++ (sides (box_of cells) ++ codes "\n"))
 
--- the lines of n generations of a pattern, the first of which is generation `from`
+-- n lines, one for each generation of a pattern; the first line is that of generation `from`
 unfoldable pub sizes_text : Numbers → List Cell → ℕ → ℕ → List ℕ
 sizes_text rule cells from zero = []
 sizes_text rule cells from (suc n) = sizes_text rule cells from n ++ size_line (from + n) (after rule cells (from + n))
 
--- the lines of the generations from `from` to `last`; first the rule is checked, and then the input
+-- the lines of generations `from` to `last`; first the rule is checked, and then the input
 abbrev pub sizes_answer : List ℕ → ℕ → ℕ → List ℕ → Answer
 sizes_answer rule_text from last bytes =
     given (rule_named rule_text) (λ rule. given (pattern_of bytes) (λ cells. Ok (sizes_text rule cells from (last + 1 - from))))

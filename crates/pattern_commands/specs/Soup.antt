@@ -18,11 +18,11 @@ abbrev pub seed_complaint : SeedFault → Complaint
 seed_complaint error.TooLong = Refused SeedTooLong
 seed_complaint (error.BadByte place) = Refused (SeedBadByte place)
 
--- the seed with this text
+-- the seed with this text, or the complaint about the text
 abbrev pub seed_named : List ℕ → Result (List ℕ) Complaint
 seed_named text = result_map_both (λ seed. seed) seed_complaint (seed_read text)
 
--- the text of the soup with this number
+-- the text of the soup with this number, or the complaint about the seed
 abbrev pub soup_answer : PatternForm → List ℕ → ℕ → Answer
 soup_answer form seed_text number = given (seed_named seed_text) (λ seed. Ok (pattern_text form (soup seed number)))
 

@@ -12,7 +12,7 @@ exit_code Memory = 4
 exit_code Failed = 5
 exit_code Incomplete = 6
 
--- a command with this status has printed its whole text: it was done, perhaps with soups missing
+-- a command that ends with this status has printed its whole text, perhaps with soups missing
 abbrev pub has_printed : Status → Bool
 has_printed Done = true
 has_printed Incomplete = true

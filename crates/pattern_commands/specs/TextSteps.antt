@@ -10,7 +10,7 @@ use Rattle.pattern_commands.specs.Streams.{Stream, Has, HasPrefix}
 abbrev pub TextOutcome : Type 0
 TextOutcome = Result (Unit {0}) Complaint
 
--- no soup is missing after a text
+-- the outcome with the number of missing soups, which is 0 for a command that writes only a text
 abbrev pub none_missing : TextOutcome → Outcome
 none_missing (Ok _) = Ok 0
 none_missing (Err complaint) = Err complaint
@@ -29,12 +29,13 @@ LeavesTextPrefix true right output = HasPrefixOfRight right output
 LeavesTextPrefix false right output =
     ((complaint : Complaint) → right (Err complaint) → ⊥) × ((text : List ℕ) → right (Ok text) → HasPrefix output text)
 
--- the same if memory ran out
+-- how much of a text was written when memory ran out, depending on whether the text was complete before any write
 abbrev pub LeavesTextPart : Bool → Right → Stream → Type 0
 LeavesTextPart true right output = Has output []
 LeavesTextPart false right output = (answer : Answer) → right answer → HasPrefix output (output_text answer)
 
--- what standard output has when a command has tried to write the text of a right answer
+-- What a command that writes only a text has added to standard output, for each outcome. `reads`: the command reads its
+-- input. `whole`: the text is complete before any write.
 abbrev pub ReachesText : Bool → Bool → Right → TextOutcome → Stream → Type 0
 ReachesText reads whole right (Ok _) output = HasRight right output × (output.failed ≡ false)
 ReachesText reads whole right (Err (Memory error)) output =

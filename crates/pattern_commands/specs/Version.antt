@@ -7,7 +7,7 @@ use Rattle.pattern_commands.specs.Behaviours.{Behaviour, text_behaviour}
 abbrev pub version_line : List ℕ
 version_line = codes "census 0.3.0\n"
 
--- the line is the answer
+-- the only right answer: the line of the version
 abbrev pub version_answer : Answer
 version_answer = Ok version_line
 

@@ -18,7 +18,7 @@ is_live b = b == letter_o || b == star
 abbrev pub is_cell : ℕ → Bool
 is_cell b = b == dot || is_live b
 
--- the fault at a place: a byte that isn't a cell, or otherwise a column or a row past the 1,000th
+-- the fault at a place, if there is one: a byte that isn't a cell, or otherwise a column or a row past the 1,000th
 unfoldable pub fault_at : Place → Option PlaintextFault
 fault_at p = if not (is_cell p.byte) then Some (BadByte p.line (p.x + 1))
     else (if nat_lt p.x side_limit && nat_lt p.y side_limit then None else Some TooLarge)
@@ -28,11 +28,11 @@ abbrev pub fault_text : PlaintextFault → List ℕ
 fault_text (BadByte line column) = codes "bad byte at line " ++ decimal line ++ codes " column " ++ decimal column
 fault_text TooLarge = codes "pattern larger than 1000 by 1000"
 
--- the first fault at some places
+-- the fault at the first of these places that has one
 unfoldable pub first_fault : List Place → Option PlaintextFault
 first_fault ps = slice_get (filter_map fault_at ps) 0
 
--- the live cells among those at some places
+-- the live cells at these places
 unfoldable pub live_cells : List Place → List Cell
 live_cells ps = map (λ p. cell_at (pos p.x) (pos p.y)) (filter (λ p. is_live p.byte) ps)
 

@@ -1,4 +1,4 @@
--- The first fault of a text that isn't that of a list of ranges.
+-- The first fault of a text that isn't a list of ranges.
 use Rattle.std.specs.Prelude.{◌≡◌, ◌<◌, ◌≤◌, ◌+◌, ◌-◌, ◌^◌, ◌⊎◌, ◌++◌, ℕ, false, true, List, drop, length, slice_index, take}
 use Rattle.std.specs.Char.{is_ascii_digit}
 use Rattle.std.specs.List.{All}
@@ -40,13 +40,14 @@ pub record IsBadListByte (text : List ℕ) (place : ℕ) : Type 0 where
   pub there : place < length text → ¬ BeginsLongList (take (place + 1) text)
   pub short : place ≡ length text → ¬ IsListText text
 
--- The text before the place is the beginning of a list, a decimal of 2^64 or more begins at the place, and the byte
--- before the place is no digit.
+-- the text before the place is the beginning of a list, a decimal of 2^64 or more begins at the place, and the byte
+-- before the place isn't a digit
 pub record IsLargeDecimal (text : List ℕ) (place : ℕ) : Type 0 where
   pub before : BeginsList (take place text)
   pub apart : 1 ≤ place → is_ascii_digit (slice_index text (place - 1)) ≡ false
   pub there : BeginsLargeDecimal (drop place text)
 
--- the leftmost fault is at this place: the text before it is the beginning of a list
+-- the leftmost fault is at this place: a byte that can't follow, the end of an incomplete text, or a decimal of 2^64 or
+-- more
 abbrev pub IsFirstListFault : List ℕ → ℕ → Type 0
 IsFirstListFault text place = IsBadListByte text place ⊎ IsLargeDecimal text place

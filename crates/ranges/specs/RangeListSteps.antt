@@ -15,19 +15,19 @@ abbrev pub has_byte : ℕ → List ℕ → Type 0
 has_byte b [] = ⊥
 has_byte b (c ∷ remainder) = b ≡ c
 
--- the text begins with the decimal of n, which is below 2^64, and the remainder follows; only after `0` may a digit
--- follow
+-- the text is the decimal of n, which is below 2^64, followed by the remainder; the remainder may begin with a digit
+-- only if n is 0
 pub record BeginsDecimal (text : List ℕ) (n : ℕ) (remainder : List ℕ) : Type 0 where
   pub fits : n < 2 ^ 64
   pub spelled : text ≡ decimal n ++ remainder
   pub ends : has_digit remainder ≡ true → n ≡ 0
 
--- the text begins with no digit, or with a decimal of 2^64 or more
+-- the text doesn't begin with a digit, or it begins with a decimal of 2^64 or more
 abbrev pub BeginsNoDecimal : List ℕ → Type 0
 BeginsNoDecimal text = has_digit text ≡ true → BeginsLargeDecimal text
 
--- the text begins with a range of numbers below 2^64, and the remainder follows; only after the count `0` may a digit
--- follow
+-- the text is a range, whose two numbers are below 2^64, followed by the remainder; the remainder may begin with a
+-- digit only if the count is 0
 pub record BeginsRange (text : List ℕ) (r : Range) (remainder : List ℕ) : Type 0 where
   pub first : r.first < 2 ^ 64
   pub count : r.count < 2 ^ 64
@@ -50,7 +50,7 @@ pub record LacksCount (text remainder : List ℕ) : Type 0 where
 abbrev pub IsNoRange : List ℕ → List ℕ → Type 0
 IsNoRange text remainder = ((remainder ≡ text) × BeginsNoDecimal text) ⊎ (LacksPlus text remainder ⊎ LacksCount text remainder)
 
--- the text begins with a range, and neither its end nor a `,` (44) follows
+-- the text begins with a range, and neither the end of the text nor a `,` (44) follows
 pub record LacksComma (text remainder : List ℕ) : Type 0 where
   pub range : Range
   pub begins : BeginsRange text range remainder
@@ -72,8 +72,8 @@ abbrev pub ranges_and_commas : List Range → List ℕ
 ranges_and_commas [] = []
 ranges_and_commas (r ∷ more) = pair_text (written r) ++ 44 ∷ ranges_and_commas more
 
--- these ranges have been passed, and the next one begins the remainder; if there is no remainder, they are the whole
--- list
+-- the ranges read so far, with a comma after each, come before the remainder; if there is no remainder, they are the
+-- whole list
 abbrev pub HasPassed : List ℕ → List Range → Option (List ℕ) → Type 0
 HasPassed text ranges None = list_text ranges ≡ text
 HasPassed text ranges (Some remainder) = text ≡ ranges_and_commas ranges ++ remainder

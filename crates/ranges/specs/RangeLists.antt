@@ -30,7 +30,7 @@ list_text ranges = joined (map written ranges)
 abbrev pub FitU64 : List Range → Type 0
 FitU64 ranges = All (λ r. (r.first < 2 ^ 64) × (r.count < 2 ^ 64)) ranges
 
--- the text is that of some list of ranges
+-- the text is that of some list of ranges, whose numbers are below 2^64
 pub record IsListText (text : List ℕ) : Type 0 where
   pub ranges : List Range
   pub fit : FitU64 ranges

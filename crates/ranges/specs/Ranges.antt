@@ -15,7 +15,7 @@ is_in_range n r = nat_le r.first n && nat_lt n (end_of r)
 abbrev pub is_in : List Range → ℕ → Bool
 is_in ranges n = list_any (is_in_range n) ranges
 
--- how many numbers the ranges have together
+-- the sum of the ranges' counts: how many numbers they have together, if they don't overlap
 abbrev pub size_of : List Range → ℕ
 size_of ranges = sum_by (λ r. r.count) ranges
 

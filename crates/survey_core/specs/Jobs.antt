@@ -18,6 +18,6 @@ same_rule r s = pointwise beq r.births s.births && pointwise beq r.survivals s.s
 abbrev pub same_job : Job → Job → Bool
 same_job a b = pointwise nat_eq a.seed b.seed && (same_profile a.profile b.profile && same_rule a.rule b.rule)
 
--- two jobs are the same if and only if they are equal
+-- `same_job` is true for equal jobs and for no others
 abbrev pub SameJobsAreEqual : Type 0
 SameJobsAreEqual = (a b : Job) → (same_job a b ≡ true) ↔ (a ≡ b)

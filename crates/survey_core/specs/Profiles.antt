@@ -24,7 +24,7 @@ pub record IsProfile (profile : Settling) : Type 0 where
   pub stride : profile.stride ≤ 10000
   pub limit : profile.limit ≤ 100000
 
--- n is from `least` to `most`
+-- n is at least `least` and at most `most`
 abbrev pub is_from_to : ℕ → ℕ → ℕ → Bool
 is_from_to least most n = nat_le least n && nat_le n most
 

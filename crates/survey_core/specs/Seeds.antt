@@ -25,6 +25,6 @@ abbrev pub seed_with_fault : List ℕ → Option ℕ → Result (List ℕ) SeedF
 seed_with_fault text None = Ok text
 seed_with_fault text (Some place) = Err (BadByte place)
 
--- the seed with this text, or why it isn't one: first its length is checked, and then its bytes from the left
+-- the seed with this text, or the text's fault: first its length is checked, and then its bytes from the left
 abbrev pub seed_read : List ℕ → Result (List ℕ) SeedFault
 seed_read text = if nat_lt most_bytes (length text) then Err TooLong else seed_with_fault text (position is_invisible text)

@@ -27,7 +27,7 @@ live_in_square digest n = map square_cell (filter (is_alive_at digest) (range_wi
 abbrev pub soup_of : List ℕ → List Cell
 soup_of digest = set_of (live_in_square digest 256)
 
--- soup `number`: the message is the seed's bytes and then the number in decimal
+-- the soup of this seed and number: the hashed message is the seed's bytes, followed by the number in decimal
 abbrev pub soup : List ℕ → ℕ → List Cell
 soup seed number = soup_of (sha256 (seed ++ decimal number))
 

@@ -4,8 +4,8 @@ use Rattle.plane_core.specs.declared.plane.cell.Cell.{Cell}
 use Rattle.plane_core.specs.plane.Generations.{after, lies_within}
 use Rattle.plane_core.specs.plane.Rules.{Numbers}
 
--- how far from the origin a pattern may come in a survey: it begins within 1,000, and grows by one cell per generation
--- for at most 100,000 generations
+-- the largest absolute value of a coordinate in a survey: a pattern begins within 1,000 of the origin, and grows by at
+-- most one cell per generation for at most 100,000 generations
 abbrev pub survey_reach : ℕ
 survey_reach = 101000
 

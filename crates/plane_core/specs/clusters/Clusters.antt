@@ -6,7 +6,8 @@ use Rattle.std.specs.List.{list_any}
 use Rattle.plane_core.specs.plane.Bounds.{shifted}
 use Rattle.plane_core.specs.plane.Cells.{InOrder, cell_cmp, king_distance, has}
 
--- the list is a path from c to d: each of its cells is in the pattern, at king distance at most 2 from the one before
+-- the list is a path from c to d, without c: each of its cells is in the pattern, at king distance at most 2 from the
+-- cell before
 abbrev pub Leads : List Cell → Cell → List Cell → Cell → Type 0
 Leads cells c [] d = c ≡ d
 Leads cells c (e ∷ es) d = (has cells e ≡ true) × (king_distance c e ≤ 2) × Leads cells e es d
@@ -24,7 +25,7 @@ pub record IsCluster (cells cluster : List Cell) : Type 0 where
   pub has_start : has cells start ≡ true
   pub members : (d : Cell) → (has cluster d ≡ true) ↔ Linked cells start d
 
--- both clusters are nonempty, and the first cell of the first one comes before the first cell of the second
+-- both lists are nonempty, and the first cell of the left list comes before the first cell of the right list
 abbrev pub FirstBefore : List Cell → List Cell → Type 0
 FirstBefore [] ds = ⊥
 FirstBefore (c ∷ cs) [] = ⊥
@@ -67,7 +68,7 @@ ClustersLieApart = (cells : List Cell) (clusters : List (List Cell)) → AreClus
 abbrev pub ClustersAreDetermined : Type 0
 ClustersAreDetermined = (cells : List Cell) (one other : List (List Cell)) → AreClusters cells one → AreClusters cells other → one ≡ other
 
--- the clusters of a moved pattern are those of the pattern, moved
+-- moving a pattern moves each of its clusters by the same amount
 abbrev pub ClustersMoveAlong : Type 0
 ClustersMoveAlong = (dx dy : ℤ) (cells : List Cell) (clusters : List (List Cell)) → AreClusters cells clusters
     → AreClusters (shifted dx dy cells) (map (shifted dx dy) clusters)

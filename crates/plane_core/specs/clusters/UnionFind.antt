@@ -44,7 +44,7 @@ abbrev pub JoinsAll : List Cell → List ℕ → ℕ → Type 0
 JoinsAll cells parents place =
     (j k : ℕ) → j < k → k < place → king_distance (cell_of cells j) (cell_of cells k) ≤ 2 → Joined parents j k
 
--- the cell just before a place is near both the cell of the place and an earlier cell, so it joins the two
+-- the cell just before `place` is near both the cell at `place` and the earlier cell at `k`, so it joins the two
 pub record IsBridged (cells : List Cell) (k place : ℕ) : Type 0 where
   pub earlier : k + 1 < place
   pub left : king_distance (cell_of cells k) (cell_of cells (place - 1)) ≤ 2
@@ -55,7 +55,7 @@ pub record NeedsJoin (cells : List Cell) (k place : ℕ) : Type 0 where
   pub near : king_distance (cell_of cells k) (cell_of cells place) ≤ 2
   pub alone : ¬ IsBridged cells k place
 
--- each near cell in a row above the place and left of the column is bridged
+-- if a cell near the place is in a higher row and left of the column, then it is bridged
 abbrev pub IsFresh : List Cell → ℤ → ℕ → Type 0
 IsFresh cells column place = (k : ℕ) → k < place → (cell_of cells k).y <ℤ (cell_of cells place).y → (cell_of cells k).x <ℤ column
     → king_distance (cell_of cells k) (cell_of cells place) ≤ 2 → IsBridged cells k place
@@ -69,7 +69,7 @@ pub record IsRow (cells : List Cell) (row : RowPlaces) (place : ℕ) (from : Cel
   pub level : (k : ℕ) → row.from ≤ k → k < row.end → (cell_of cells k).y ≡ from.y
   pub later : (k : ℕ) → row.end ≤ k → k < place → from.y <ℤ (cell_of cells k).y
 
--- the two rows above a place, from the first column that is near the place
+-- the two rows above the cell at `place`, each from the first column that is near the cell
 pub record AreRowsAbove (cells : List Cell) (rows : RowsAbove) (place : ℕ) : Type 0 where
   pub few : rows.begin ≤ place
   pub begun : (k : ℕ) → k < rows.begin → (cell_of cells k).y <ℤ ((cell_of cells place).y +ℤ negsuc 1)
@@ -82,7 +82,8 @@ numbered n [] cells = []
 numbered n (m ∷ ms) [] = []
 numbered n (m ∷ ms) (c ∷ cs) = cond (m == n) (c ∷ numbered n ms cs) (numbered n ms cs)
 
--- The places before `place` have the numbers of their clusters, and each cluster consists of the cells with its number.
+-- each place before `place` has the number of its cluster, and each cluster consists so far of the cells with its
+-- number
 pub record ArePutInClusters (cells : List Cell) (parents numbers : List ℕ) (clusters : List (List Cell)) (place : ℕ) : Type 0 where
   pub size : length numbers ≡ place
   pub few : place ≤ length cells
@@ -93,8 +94,8 @@ pub record ArePutInClusters (cells : List Cell) (parents numbers : List ℕ) (cl
   pub linked : (j k : ℕ) → j < place → k < place → get_or numbers j 0 ≡ get_or numbers k 0 → Linked cells (cell_of cells j) (cell_of cells k)
   pub in_order : AllPairs FirstBefore clusters
 
--- The places before `place` have the numbers of their clusters, and the others lead to the same places as in the
--- forest.
+-- in `parents`, each place before `place` has the number of its cluster, and each later place still leads to its parent
+-- in the forest
 pub record IsGatheringCells (cells : List Cell) (parents : List ℕ) (clusters : List (List Cell)) (place : ℕ) : Type 0 where
   pub forest : List ℕ
   pub is_forest : IsForest cells forest

@@ -1,4 +1,4 @@
--- Boxes outside of which every cell is the same two generations later, and windows that cover the boxes.
+-- Active boxes: each cell that isn't within 2 of a box is the same two generations later. Windows cover the boxes.
 use Rattle.std.specs.Prelude.{◌≡◌, ◌≢◌, ◌<◌, ◌≤◌, ℕ, true, List, Option, Any, IsSomeAnd, unsigned_abs}
 use Rattle.std.specs.Int.{bit_at}
 use Rattle.plane_core.specs.declared.plane.bounds.Bounds.{Bounds}
@@ -11,15 +11,15 @@ use Rattle.plane_core.specs.plane.Generations.{after}
 use Rattle.plane_core.specs.engine.LeapWindows.{IsCovered, IsInnerCell}
 use Rattle.plane_core.specs.plane.Rules.{Numbers}
 
--- how far from the origin the sides of a box may be: no board is larger
+-- how far from the origin a side of a box may be; every board lies within this bound
 abbrev pub box_bound : ℕ
 box_bound = 8388608
 
--- the same bound for a rectangle around united boxes, which has a margin of four
+-- how far from the origin a side of a rectangle around united boxes may be: `box_bound` and a margin of four
 abbrev pub rectangle_bound : ℕ
 rectangle_bound = 8388612
 
--- the window begins so near to the origin that a box of its cells has its sides within the bound
+-- the window begins so near to the origin that each box inside the window has its sides within `box_bound`
 pub record IsInReach (p : LeapWindow) : Type 0 where
   pub left : unsigned_abs p.left ≤ 6291456
   pub top : unsigned_abs p.top ≤ 6291456

@@ -17,8 +17,9 @@ pub record Running : Type 0 where
   pub rule : Numbers
   pub cells : List Cell
 
--- The words and the boxes of a board: the words fill the frame, each cell that isn't within 2 of a box is the same two
--- generations later, and if `holds_all`, the boxes contain all live cells.
+-- The words and the boxes of a board: the words fill the frame, the sides of the boxes are within `box_bound`, and each
+-- cell that isn't within 2 of a box is the same two generations later. If `holds_all` is true, the boxes contain all
+-- live cells.
 pub record IsBoard (at : Frame) (rule : Numbers) (words : List ℕ) (boxes : List Bounds) (holds_all : Bool) : Type 0 where
   pub frame : IsFrame at
   pub long : FillsFrame at words

@@ -4,7 +4,8 @@ use Rattle.plane_core.specs.declared.plane.cell.Cell.{Cell}
 use Rattle.plane_core.specs.declared.engine.cover.Spans.{Spans}
 use Rattle.plane_core.specs.plane.Cells.{distance}
 
--- spans of this size, side by side, cover the numbers from `first` to `last`, and begin at most one span before `first`
+-- Spans of this size, side by side, cover the numbers from `first` to `last`. They begin at most one span before
+-- `first`, and their total length is at most one span more than the distance from `first` to `last`.
 pub record AreSideBySide (first last : ℤ) (size : ℕ) (spans : Spans) : Type 0 where
   pub start : spans.first ≤ℤ first
   pub near : first ≤ℤ (spans.first +ℤ pos size)

@@ -1,4 +1,4 @@
--- Diagonal directions, and how deep cells are in each: how far they reach, if columns and rows count alike.
+-- Diagonal directions, and the depth of cells in each: how far a cell lies in the direction, in columns plus rows.
 use Rattle.std.specs.Prelude.{◌≡◌, ◌+◌, ◌-◌, ◌<◌, ◌≤◌, ℕ, ℤ, ◌+ℤ◌, ◌≤ℤ◌, neg_ℤ, Bool, true, false, List, Option, IfSome, IsSomeAnd}
 use Rattle.plane_core.specs.declared.plane.cell.Cell.{Cell}
 use Rattle.plane_core.specs.declared.engine.direction.Direction.{Direction}
@@ -12,7 +12,7 @@ abbrev pub counted : Bool → ℤ → ℤ
 counted true at = at
 counted false at = neg_ℤ at
 
--- how deep a cell is in a direction
+-- the depth of a cell in a direction: its column plus its row, each counted in the direction
 abbrev pub depth_in : Direction → Cell → ℤ
 depth_in way c = counted way.right c.x +ℤ counted way.down c.y
 
@@ -36,7 +36,8 @@ abbrev pub outer_column : Bool → ℕ
 outer_column true = 63
 outer_column false = 0
 
--- the row `step` steps inwards from the outermost row: the last row if rows count downwards, otherwise the first
+-- the row that is `step` rows inwards from the outermost row of the span; that is the last row if rows count downwards,
+-- otherwise the first
 abbrev pub inner_row : Bool → RowSpan → ℕ → ℕ
 inner_row true rows step = rows.end - (step + 1)
 inner_row false rows step = rows.from + step
@@ -45,7 +46,7 @@ inner_row false rows step = rows.from + step
 abbrev pub NoDeeperRow : Frame → Direction → ℕ → ℕ → Option ℤ → Type 0
 NoDeeperRow at way word_column row found = (i : ℕ) → i < 64 → IsReached found (depth_in way (board_cell at word_column row i))
 
--- no cell in any of these rows, from `first` steps inwards on, is deeper than what was found
+-- no cell, alive or dead, that is `first` or more rows inwards from the outermost row is deeper than what was found
 abbrev pub NoDeeper : Frame → Direction → ℕ → RowSpan → ℕ → Option ℤ → Type 0
 NoDeeper at way word_column rows first found =
     (step : ℕ) → first ≤ step → step < rows.end - rows.from → NoDeeperRow at way word_column (inner_row way.down rows step) found

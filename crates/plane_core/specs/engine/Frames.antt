@@ -1,5 +1,5 @@
--- A board: a rectangle of cells, stored as a word for each row of a word column of 64 columns, and where the cells are
--- on the plane.
+-- A board: a rectangle of cells in word columns of 64 columns, with a word for each row of each word column. Its frame
+-- says where the cells are on the plane.
 use Rattle.std.specs.Prelude.{◌≡◌, ◌==◌, ◌+◌, ◌*◌, ◌/◌, ◌<◌, ◌≤◌, ◌^◌, ℕ, ◌+ℤ◌, ◌-ℤ◌, pos, List, length, slice_index, true, unsigned_abs}
 use Rattle.std.specs.Int.{bit_at}
 use Rattle.plane_core.specs.declared.plane.bounds.Bounds.{Bounds}
@@ -49,7 +49,7 @@ pub record IsViewFrame (at : Frame) : Type 0 where
 abbrev pub FillsFrame : Frame → List ℕ → Type 0
 FillsFrame at words = length words ≡ at.word_columns * at.rows
 
--- there are at most 256 words per cell, and 271,000 more, which take a little over two megabytes
+-- there are at most 256 words per cell and another 271,000 words, which take a little over two megabytes
 abbrev pub HasFewWords : Frame → List Cell → Type 0
 HasFewWords at cells = at.word_columns * at.rows ≤ 256 * length cells + 271000
 

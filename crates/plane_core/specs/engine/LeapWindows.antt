@@ -20,8 +20,8 @@ pub record IsInnerCell (p : LeapWindow) (c : Cell) : Type 0 where
 abbrev pub IsCovered : List LeapWindow → Cell → Type 0
 IsCovered places c = Any (λ p. IsInnerCell p c) places
 
--- The whole window, of 8 to 64 rows, is on the board, with a word column to its right. It begins in column x and row y
--- of the board.
+-- The whole window, of 8 to 64 rows, is on the board. It begins in column x and row y of the board, and the board has
+-- another word column to the right of the one in which the window begins.
 pub record IsOnBoard (at : Frame) (p : LeapWindow) : Type 0 where
   pub x : ℕ
   pub y : ℕ
@@ -36,13 +36,12 @@ pub record IsOnBoard (at : Frame) (p : LeapWindow) : Type 0 where
 abbrev pub IsSameAt : LeapWindow → List Cell → List Cell → ℕ → ℕ → Type 0
 IsSameAt p one other i r = has one (cell_at (p.left +ℤ pos i) (p.top +ℤ pos r)) ≡ has other (cell_at (p.left +ℤ pos i) (p.top +ℤ pos r))
 
--- The generation with which the last generation of a leap is compared: the generation two earlier, or an empty one if
--- the number of generations is odd.
+-- the pattern with which the last generation of a leap is compared: the generation two earlier, or the empty pattern if
+-- the number of generations is odd
 abbrev pub compared_with : Numbers → List Cell → ℕ → List Cell
 compared_with rule cells n = if n % 2 == 0 then after rule cells (n - 2) else []
 
--- Where the two patterns differ in an inner cell of the window, the column and the row of the cell are marked in the
--- change.
+-- if the two patterns differ in an inner cell of the window, `change` marks the cell's column and its row
 pub record MarksDifferences (p : LeapWindow) (one other : List Cell) (change : DifferenceMask) : Type 0 where
   pub columns : (i r : ℕ) → 4 ≤ i → i < 60 → 4 ≤ r → r + 4 < p.rows → bit_at change.columns i ≡ 0 → IsSameAt p one other i r
   pub rows : (i r : ℕ) → 4 ≤ i → i < 60 → 4 ≤ r → r + 4 < p.rows → bit_at change.rows r ≡ 0 → IsSameAt p one other i r

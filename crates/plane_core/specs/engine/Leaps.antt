@@ -21,19 +21,20 @@ abbrev pub ShowsInner : LeapWindow → List ℕ → List Cell → Type 0
 ShowsInner p rows cells = (r i : ℕ) → 4 ≤ r → r + 4 < p.rows → 4 ≤ i → i < 60
     → has cells (cell_at (p.left +ℤ pos i) (p.top +ℤ pos r)) ≡ (bit_at (slice_index rows r) i == 1)
 
--- A window of n vectors was run: it is right in all cells at least four inside its border, and the change marks the
--- differences.
+-- A window of n vectors was run for `count` generations. The new window is right in all cells at least four inside its
+-- border, and the change marks where the last generation differs from the pattern that it is compared with.
 abbrev pub IsRun : ℕ → Numbers → ℕ → List (List ℕ) → List (List ℕ) → DifferenceMask → Type 0
 IsRun n rule count x y change = (p : LeapWindow) (cells : List Cell) → p.rows ≡ 4 * n → InOrder cells → IsShownInside n p.left p.top 0 x cells
     → IsShownInside n p.left p.top 4 y (after rule cells count) × MarksDifferences p (after rule cells count) (compared_with rule cells count) change
 
--- A window of the board was run: its inner rows are those of the board `count` generations later, and the change marks
--- the differences.
+-- a window of the board was run: its inner part is that of the board `count` generations later, and the change marks
+-- where the last generation differs from the pattern that it is compared with
 abbrev pub IsRunAt : Frame → List ℕ → Numbers → ℕ → LeapWindow → List ℕ → DifferenceMask → Type 0
 IsRunAt at words rule count p rows change = (cells : List Cell) → InOrder cells → Shows at words cells
     → ShowsInner p rows (after rule cells count) × MarksDifferences p (after rule cells count) (compared_with rule cells count) change
 
--- Each window was run, and each cell of an inner part that differs is in one of the boxes.
+-- Each window was run. If a cell of an inner part differs between the last generation and the pattern that it is
+-- compared with, the cell is in one of the boxes.
 pub record AreRun (at : Frame) (words : List ℕ) (rule : Numbers) (count : ℕ) (places : List LeapWindow) (held : List (List ℕ))
     (boxes : List Bounds) : Type 0 where
   pub long : length places ≤ length held
@@ -43,8 +44,8 @@ pub record AreRun (at : Frame) (words : List ℕ) (rule : Numbers) (count : ℕ)
       → HoldDifferences places (after rule cells count) (compared_with rule cells count) boxes
   pub sides : All (AreSidesWithin box_bound) boxes
 
--- The inner parts of the first `count` windows were put back: each cell of the board shows what one of them shows, or
--- is in none of them and is unchanged.
+-- the inner parts of the first `count` windows were put back: each cell of the board is as one of these parts shows it,
+-- or is in none of them and is unchanged
 abbrev pub ArePutBack : Frame → List LeapWindow → List (List ℕ) → ℕ → List ℕ → List ℕ → Type 0
 ArePutBack at places held count old new = (cells : List Cell)
     → ((k : ℕ) (p : LeapWindow) → k < count → ShowsInner (slice_index_or places k p) (slice_index_or held k []) cells)

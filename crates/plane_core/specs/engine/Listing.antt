@@ -6,11 +6,12 @@ use Rattle.plane_core.specs.declared.plane.cell.Cell.{Cell}
 use Rattle.plane_core.specs.plane.Cells.{cell_at, has}
 use Rattle.plane_core.specs.engine.Frames.{Shows, board_cell, word_of}
 
--- each cell of the second list is in the first
+-- each cell of `cells` is also in `others`
 abbrev pub AreAmong : List Cell → List Cell → Type 0
 AreAmong others cells = (c : Cell) → has cells c ≡ true → has others c ≡ true
 
--- the first n bits of a word have been read: their live cells, and no others, have been added to the list
+-- the first n bits of a word have been read: their live cells, and only live cells of the word, have been added to the
+-- list
 pub record HasRead (word : ℕ) (first : Cell) (old : List Cell) (n : ℕ) (new : List Cell) : Type 0 where
   pub grows : AreAmong new old
   pub sound : (others : List Cell) → ((i : ℕ) → i < 64 → bit_at word i ≡ 1 → has others (cell_at (first.x +ℤ pos i) first.y) ≡ true)

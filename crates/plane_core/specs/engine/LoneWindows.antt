@@ -1,4 +1,4 @@
--- The origin of the window that runs a small pattern.
+-- The origin of the window in which a small pattern is run.
 use Rattle.std.specs.Prelude.{◌≤◌, unsigned_abs}
 use Rattle.plane_core.specs.declared.engine.lone_window.WindowOrigin.{WindowOrigin}
 

@@ -23,19 +23,20 @@ ShowsInnerRows at x y rows cells = (r i : ℕ) → 4 ≤ r → r < 36 → 4 ≤ 
 abbrev pub AreNextRows : Frame → List ℕ → Numbers → ℕ → ℕ → List ℕ → Type 0
 AreNextRows at words rule x y rows = (cells : List Cell) → InOrder cells → Shows at words cells → ShowsInnerRows at x y rows (after rule cells 1)
 
--- the window is on the board, with a word column to its right, and its rows show the pattern
+-- the window shows the pattern in its inner part, and the board has another word column to the right of the one in
+-- which the window begins
 pub record IsNextWindowOf (at : Frame) (y : ℕ) (cells : List Cell) (window : NextRows) : Type 0 where
   pub word_columns : window.x / 64 + 1 < at.word_columns
   pub shown : ShowsInnerRows at window.x y window.rows cells
 
--- The windows show the band of 32 rows that begins 4 below row y: each live cell of the band in the columns from `from`
--- to before `end` is in one of the windows.
+-- the windows show the band of 32 rows that begins 4 below row y: each live cell of the band in the columns from `from`
+-- to before `end` is in an inner column of one of the windows
 pub record AreBandOf (at : Frame) (y from end : ℕ) (cells : List Cell) (windows : List NextRows) : Type 0 where
   pub each : All (IsNextWindowOf at y cells) windows
   pub covered : (u v : ℕ) → y + 4 ≤ v → v < y + 36 → from ≤ u → u < end → has cells (cell_on at u v) ≡ true → Any (λ window. IsInnerColumn window.x u) windows
 
--- the rows before row n of the inner parts of the windows have been listed: their live cells, and only cells of the
--- pattern
+-- the inner parts of the windows have been listed up to before row n: their live cells, and only cells of the pattern,
+-- have been added to the list
 pub record HasListedRows (at : Frame) (y n : ℕ) (cells : List Cell) (windows : List NextRows) (old new : List Cell) : Type 0 where
   pub grows : AreAmong new old
   pub sound : AreAmong cells old → AreAmong cells new
@@ -51,7 +52,8 @@ pub record HasListedAbove (at : Frame) (v : ℕ) (cells new : List Cell) : Type 
 abbrev pub LiesInHull : Frame → Hull → List Cell → Type 0
 LiesInHull at hull cells = (s r i : ℕ) → s < at.word_columns → r < at.rows → i < 64 → has cells (board_cell at s r i) ≡ true → IsInHull hull s r
 
--- the board has a word column on each side of the hull, and rows above and below it
+-- the hull isn't empty, and the board has a word column on each side of the hull, at least five rows above it, and at
+-- least one row below it
 pub record HasRim (at : Frame) (hull : Hull) : Type 0 where
   pub left : 1 ≤ hull.word_columns.from
   pub columns : hull.word_columns.from < hull.word_columns.end

@@ -41,7 +41,7 @@ pub record IsInner (x y end u v : ℕ) : Type 0 where
   pub column : IsInnerColumn x u
   pub row : IsInnerRow y end v
 
--- the inner columns of a row are now those of the word, and all other bits are unchanged
+-- in row y of the board, the inner columns of a window now have the bits of the word, and all other bits are unchanged
 abbrev pub IsRowPut : Frame → ℕ → ℕ → ℕ → List ℕ → List ℕ → Type 0
 IsRowPut at x y word old new = (u v : ℕ) → u < 64 * at.word_columns → v < at.rows
     → ((c : IsInnerColumn x u) × (v ≡ y) × (bit_on at new u v ≡ bit_at word c.i))
@@ -53,13 +53,15 @@ pub record IsOneOfFour (y v : ℕ) : Type 0 where
   pub low : j < 4
   pub is : v ≡ y + j
 
--- the inner columns of four rows, from row y on, are now those of the window's rows from row r on, and all other bits are unchanged
+-- in the four rows of the board from row y on, the inner columns now have the bits of the window's rows from row r on,
+-- and all other bits are unchanged
 abbrev pub AreRowsPut : Frame → ℕ → ℕ → ℕ → List ℕ → List ℕ → List ℕ → Type 0
 AreRowsPut at x y r rows old new = (u v : ℕ) → u < 64 * at.word_columns → v < at.rows
     → ((c : IsInnerColumn x u) × (k : IsOneOfFour y v) × (bit_on at new u v ≡ bit_at (slice_index rows (r + k.j)) c.i))
     ⊎ ((IsInnerColumn x u → ¬ IsOneOfFour y v) × (bit_on at new u v ≡ bit_on at old u v))
 
--- the inner part of a window, from row 4 to before row `end`, now has these rows, and all other bits are unchanged
+-- on the board, the inner part of a window, from row 4 to before row `end`, now has the bits of these rows, and all
+-- other bits are unchanged
 abbrev pub IsPutBack : Frame → ℕ → ℕ → ℕ → List ℕ → List ℕ → List ℕ → Type 0
 IsPutBack at x y end rows old new = (u v : ℕ) → u < 64 * at.word_columns → v < at.rows
     → ((c : IsInner x y end u v) × (bit_on at new u v ≡ bit_at (slice_index rows c.row.r) c.column.i))

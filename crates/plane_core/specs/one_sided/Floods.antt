@@ -36,7 +36,7 @@ LiesInside flood = (r i : ℕ) → bit_in flood r i ≡ 1 → IsWellInside r i
 abbrev pub IsClosedAt : List ℕ → List ℕ → ℕ → ℕ → Type 0
 IsClosedAt rows flood q j = (r i : ℕ) → bit_in flood r i ≡ 1 → AreNear 2 q r → AreNear 2 j i → bit_in rows q j ≡ 1 → bit_in flood q j ≡ 1
 
--- each live bit within 2 of the flood is in the flood, except in the two outer rows at either border
+-- each live bit within 2 of the flood is in the flood, except in the two top rows and the two bottom rows
 abbrev pub IsClosed : List ℕ → List ℕ → Type 0
 IsClosed rows flood = (q j : ℕ) → 2 ≤ q → q < 62 → j < 64 → IsClosedAt rows flood q j
 

@@ -7,24 +7,25 @@ use Rattle.plane_core.specs.plane.Generations.{NeverRecurs, after}
 use Rattle.plane_core.specs.plane.Rules.{Numbers}
 use Rattle.plane_core.specs.windows.LonePatterns.{FillsRows, Holds}
 
--- the second window holds the pattern of the first one `made` generations later, and the pattern hasn't recurred until
--- then
+-- if window `start` holds a pattern, window `now` holds the pattern `made` generations later, and the pattern hasn't
+-- recurred until then
 pub record IsFollowed (rule : Numbers) (n : ℕ) (start now : List (List ℕ)) (made : ℕ) : Type 0 where
   pub held : (cells : List Cell) (left top : ℤ) → Holds n left top start cells → Holds n left top now (after rule cells made)
   pub new : (cells : List Cell) (left top : ℤ) → Holds n left top start cells → NeverRecurs rule cells made
 
--- what the outcome of following a pattern says about the pattern that the first window holds
+-- what the outcome of following a pattern says about each pattern that window `start` holds
 abbrev pub EndsInWindow : Followed → Numbers → ℕ → List (List ℕ) → List (List ℕ) → ℕ → Type 0
 EndsInWindow NeverAgain rule n start now most = (cells : List Cell) (left top : ℤ) → Holds n left top start cells → NeverRecurs rule cells most
 EndsInWindow PerhapsAgain rule n start now most = ⊤
 EndsInWindow (Outgrown made) rule n start now most = IsFollowed rule n start now made
 
--- the second 64 rows hold the pattern of the first `made` generations later, and the pattern hasn't recurred until then
+-- if the 64 rows of `start` hold a pattern, those of `now` hold the pattern `made` generations later, and the pattern
+-- hasn't recurred until then
 pub record IsFollowedInRows (rule : Numbers) (start now : List ℕ) (made : ℕ) : Type 0 where
   pub held : (cells : List Cell) (left top : ℤ) → FillsRows left top start cells → FillsRows left top now (after rule cells made)
   pub new : (cells : List Cell) (left top : ℤ) → FillsRows left top start cells → NeverRecurs rule cells made
 
--- what the end of following a pattern says about the pattern that the first 64 rows hold
+-- what the outcome of following a pattern says about each pattern that the 64 rows of `start` hold
 abbrev pub EndsInRows : Followed → Numbers → List ℕ → List ℕ → ℕ → Type 0
 EndsInRows NeverAgain rule start now most = (cells : List Cell) (left top : ℤ) → FillsRows left top start cells → NeverRecurs rule cells most
 EndsInRows PerhapsAgain rule start now most = ⊤

@@ -10,7 +10,8 @@ use Rattle.plane_core.specs.plane.Rules.{Numbers}
 use Rattle.plane_core.specs.windows.Rows.{ShowsInside}
 use Rattle.plane_core.specs.windows.Windows.{IsShownInside, row_at}
 
--- the cluster diverges: run alone, it has a cell that the whole doesn't have, at some generation up to the horizon
+-- the cluster diverges: run alone, it has a live cell that the whole pattern doesn't have, at some generation up to the
+-- horizon
 pub record Diverges (rule : Numbers) (whole cluster : List Cell) (horizon : ℕ) : Type 0 where
   pub generation : ℕ
   pub early : generation ≤ horizon
@@ -24,7 +25,7 @@ pub record HasRestlessCluster (rule : Numbers) (cells : List Cell) (horizon peri
   pub is : IsCluster cells cluster
   pub why : Diverges rule cells cluster horizon ⊎ NeverRecurs rule cluster period
 
--- each pattern that the window of n vectors shows from `depth` inside has a restless cluster
+-- each pattern that the window of n vectors shows, at least `depth` inside its border, has a restless cluster
 abbrev pub AreAllRestless : Numbers → ℕ → List (List ℕ) → ℕ → ℕ → ℕ → Type 0
 AreAllRestless rule n window depth horizon period =
     (cells : List Cell) (left top : ℤ) → InOrder cells → IsShownInside n left top depth window cells → HasRestlessCluster rule cells horizon period
@@ -40,13 +41,15 @@ pub record HasDivergingCell (n : ℕ) (whole alone : List (List ℕ)) (depth : �
   pub lit : bit_at (row_at n alone r) i ≡ 1
   pub dark : bit_at (row_at n whole r) i ≡ 0
 
--- each cluster that the window `alone` shows diverges from each pattern that the window `whole` shows
+-- each cluster shown in window `alone` diverges from each pattern shown in window `whole`, where both are shown at
+-- least `depth` inside the border
 abbrev pub DivergesFromWhole : Numbers → ℕ → List (List ℕ) → List (List ℕ) → ℕ → ℕ → Type 0
 DivergesFromWhole rule n whole alone depth horizon =
     (cells cluster : List Cell) (left top : ℤ) → InOrder cells → InOrder cluster → IsShownInside n left top depth whole cells
     → IsShownInside n left top depth alone cluster → Diverges rule cells cluster horizon
 
--- each cluster that the rows `alone` hold diverges from each pattern that the rows `whole` show
+-- if the 64 rows of `alone` hold a cluster, it diverges from each pattern that the rows of `whole` show at least
+-- `depth` inside the border
 abbrev pub DivergesInRows : Numbers → List ℕ → List ℕ → ℕ → ℕ → Type 0
 DivergesInRows rule whole alone depth horizon =
     (cells cluster : List Cell) (left top : ℤ) → InOrder cells → ShowsInside left top depth whole cells → FillsRows left top alone cluster

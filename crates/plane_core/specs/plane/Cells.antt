@@ -1,4 +1,4 @@
--- Cells, their order, and finite sets of them as lists in order (LifeWiki, "Conway's Game of Life").
+-- Cells, their order, and finite sets of cells as ordered lists (LifeWiki, "Conway's Game of Life").
 use Rattle.std.specs.Prelude.{◌≡◌, ◌==◌, ◌+◌, ℕ, ℤ, ◌+ℤ◌, Bool, true, not, ◌&&◌, ◌||◌, List, [], ◌∷◌, max, nat_le, unsigned_abs}
 use Rattle.std.specs.List.{list_any, list_all}
 use Rattle.std.specs.List.Sorted.{IsStrictlySortedBy}
@@ -65,7 +65,7 @@ on_plane c = is_within plane_bound c
 abbrev pub off_plane : Cell → Bool
 off_plane c = not (on_plane c)
 
--- the cell is at most one step off the plane
+-- the cell is on the plane or at most one step off it
 unfoldable pub near_plane : Cell → Bool
 near_plane c = is_within (plane_bound + 1) c
 

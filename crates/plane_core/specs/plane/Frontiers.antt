@@ -19,12 +19,13 @@ LiesUpTo o m cells = (c : Cell) → has cells c ≡ true → depth (turned_cell 
 abbrev pub is_slow : Numbers → Bool
 is_slow rule = not (is_birth rule 1 || is_birth rule 2 || is_survival rule 4 || is_survival rule 5)
 
--- under a slow rule, a pattern grows in each diagonal direction by at most one cell in two generations, rounded up
+-- under a slow rule, the largest depth of a pattern in a diagonal direction grows by at most n / 2, rounded up, in n
+-- generations
 abbrev pub FrontiersAreSlow : Type 0
 FrontiersAreSlow = (rule : Numbers) (o : Orientation) (m : ℤ) (cells : List Cell) (n : ℕ) → InOrder cells → is_slow rule ≡ true → LiesUpTo o m cells
     → (c : Cell) → has (after rule cells n) c ≡ true → (pos 2 *ℤ depth (turned_cell o c)) ≤ℤ ((pos 2 *ℤ m) +ℤ pos (n + 1))
 
--- under a slow rule, a pattern grows in each diagonal direction by at most k cells in 2k generations
+-- under a slow rule, the largest depth of a pattern in a diagonal direction grows by at most k in 2k generations
 abbrev pub FrontiersGoOn : Type 0
 FrontiersGoOn = (rule : Numbers) (o : Orientation) (m : ℤ) (cells : List Cell) (k : ℕ) → InOrder cells → is_slow rule ≡ true → LiesUpTo o m cells
     → LiesUpTo o (m +ℤ pos k) (after rule cells (2 * k))

@@ -17,7 +17,8 @@ around cells c = count_by (λ d. king_distance c d == 1) cells
 abbrev pub lives : Numbers → List Cell → Cell → Bool
 lives rule cells c = if has cells c then is_survival rule (around cells c) else is_birth rule (around cells c)
 
--- a cell is alive one generation later, if `count` is the number of live cells in its neighbourhood, including itself
+-- a cell is alive one generation later, where `count` is the number of live cells in its neighbourhood, including the
+-- cell itself
 abbrev pub lives_by : Numbers → ℕ → Bool → Bool
 lives_by rule count alive = if alive then is_survival rule (count - 1) else is_birth rule count
 
@@ -54,11 +55,11 @@ NeverRecurs rule cells n = (p : ℕ) (dx dy : ℤ) → 1 ≤ p → p ≤ n → a
 abbrev pub CellsFollowTheRule : Type 0
 CellsFollowTheRule = (rule : Numbers) (cells : List Cell) (c : Cell) → has (next rule cells) c ≡ lives rule cells c
 
--- the next generation of a moved pattern is its next generation, moved
+-- moving a pattern moves its next generation by the same amount
 abbrev pub NextMoved : Type 0
 NextMoved = (dx dy : ℤ) (rule : Numbers) (cells : List Cell) → InOrder cells → next rule (shifted dx dy cells) ≡ shifted dx dy (next rule cells)
 
--- the next generation of a turned pattern is its next generation, turned
+-- turning a pattern turns its next generation in the same way
 abbrev pub NextTurned : Type 0
 NextTurned = (o : Orientation) (rule : Numbers) (cells : List Cell) → InOrder cells → next rule (image o cells) ≡ image o (next rule cells)
 

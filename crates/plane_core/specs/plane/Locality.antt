@@ -8,7 +8,7 @@ use Rattle.plane_core.specs.plane.Cells.{InOrder, has, king_distance}
 use Rattle.plane_core.specs.plane.Generations.{after}
 use Rattle.plane_core.specs.plane.Rules.{Numbers}
 
--- the box with n columns and rows fewer on each side
+-- the box with n fewer columns and rows on each side
 abbrev pub narrowed : ℕ → Bounds → Bounds
 narrowed n b = record { left = b.left +ℤ pos n; top = b.top +ℤ pos n; right = b.right -ℤ pos n; bottom = b.bottom -ℤ pos n }
 

@@ -28,7 +28,8 @@ mirror_after Flip = Half
 mirror_after Diagonal = Quarter
 mirror_after AntiDiagonal = ThreeQuarter
 
--- the product of two orientations: a followed by b, with b as some quarter turns or as a mirror and some quarter turns
+-- the product of two orientations: a followed by b, where b is taken as quarter turns, or as a mirror followed by
+-- quarter turns
 abbrev pub product : Orientation → Orientation → Orientation
 product a Same = a
 product a Quarter = quarter_after a
@@ -59,6 +60,6 @@ TurningTwice = (a b : Orientation) (cells : List Cell) → turned b (turned a ce
 abbrev pub TurningBack : Type 0
 TurningBack = (a : Orientation) → (b : Orientation) × (product a b ≡ Same) × (product b a ≡ Same)
 
--- turning a translate of a pattern gives the same image
+-- a pattern and its translates have the same image, moved to the corner
 abbrev pub TurningMoved : Type 0
 TurningMoved = (a : Orientation) (dx dy : ℤ) (cells : List Cell) → turned a (shifted dx dy cells) ≡ turned a cells

@@ -31,7 +31,7 @@ digits n [] = []
 digits n (true ∷ more) = (48 + n) ∷ digits (n + 1) more
 digits n (false ∷ more) = digits (n + 1) more
 
--- the only text of a rule, such as b3s23: each letter and the digits of its numbers
+-- the only text of a rule, such as b3s23: `b` and the birth numbers, then `s` and the survival numbers
 unfoldable pub rule_text : Numbers → List ℕ
 rule_text rule = codes "b" ++ (digits 1 rule.births ++ (codes "s" ++ digits 0 rule.survivals))
 

@@ -12,11 +12,11 @@ use Rattle.plane_core.specs.windows.Words.{one_if, west_of, east_of}
 abbrev pub bit_of : List ℕ → ℕ → ℕ → ℕ
 bit_of v j i = bit_at (slice_index v j) i
 
--- the sum at bit i of lane j, of two binary digits
+-- the sum at bit i of lane j: a number with two binary digits
 abbrev pub sum_of : Sum → ℕ → ℕ → ℕ
 sum_of s j i = bit_of s.ones j i + 2 * bit_of s.twos j i
 
--- the total at bit i of lane j, of four binary digits
+-- the total at bit i of lane j: a number with four binary digits
 abbrev pub total_of : Total → ℕ → ℕ → ℕ
 total_of t j i = bit_of t.ones j i + 2 * bit_of t.twos j i + 4 * bit_of t.fours j i + 8 * bit_of t.eights j i
 
@@ -28,8 +28,8 @@ row_sum word i = west_of 0 word i + bit_at word i + east_of word 0 i
 abbrev pub AreBeside : RowSums → List ℕ → Type 0
 AreBeside row now = (j i : ℕ) → j < 4 → sum_of row.all j i ≡ sum_of row.beside j i + bit_of now j i
 
--- `next` has the cells that live by the rule. The number of live cells in a cell's neighbourhood, with the cell itself,
--- is the total of three sums: of the row above the cell, of its own row and of the row below it.
+-- `next` has the cells that are alive one generation later. The number of live cells in a cell's neighbourhood,
+-- including the cell, is the total of three sums: of the row above the cell, of its own row and of the row below it.
 abbrev pub AnswersRows : Numbers → Sum → Sum → Sum → List ℕ → List ℕ → Type 0
 AnswersRows rule up here down now next =
     (j i : ℕ) → j < 4 → i < 64 → bit_of next j i ≡ one_if (lives_by rule (sum_of up j i + sum_of here j i + sum_of down j i) (bit_of now j i == 1))

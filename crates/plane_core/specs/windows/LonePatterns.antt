@@ -1,4 +1,5 @@
--- A pattern in a window that contains nothing else: until a cell is on the rim, its generations are the window's.
+-- A pattern in a window that contains nothing else. Until a live cell is on the rim, the window's generations are the
+-- pattern's.
 use Rattle.std.specs.Prelude.{◌≡◌, ◌-◌, ◌*◌, ◌<◌, ◌^◌, ℕ, ℤ, ◌+ℤ◌, ◌≤ℤ◌, ◌<ℤ◌, pos, List, [], length, slice_index, slice_index_or, true}
 use Rattle.std.specs.Int.{bit_at}
 use Rattle.plane_core.specs.declared.plane.cell.Cell.{Cell}

@@ -12,7 +12,7 @@ bit_in rows r i = bit_at (slice_index rows r) i
 abbrev pub ShowsInAllRows : ℤ → ℤ → List ℕ → List Cell → Type 0
 ShowsInAllRows left top rows cells = (r i : ℕ) → r < 64 → i < 64 → has cells (cell_at (left +ℤ pos i) (top +ℤ pos r)) ≡ (bit_in rows r i == 1)
 
--- the rows show the pattern, except in the outer two columns and rows
+-- the rows show the pattern, except in the two outermost columns and rows on each side
 abbrev pub ShowsInRows : ℤ → ℤ → List ℕ → List Cell → Type 0
 ShowsInRows left top rows cells = (r i : ℕ) → 2 ≤ r → r < 62 → 2 ≤ i → i < 62
     → has cells (cell_at (left +ℤ pos i) (top +ℤ pos r)) ≡ (bit_in rows r i == 1)

@@ -45,12 +45,13 @@ pub record IsVectorMade (rule : Numbers) (k : ℕ) (up : Sum) (here below : RowS
   pub sums : (j i : ℕ) → j < 4 → i < 64 → sum_of below.all j i ≡ row_sum (lane_at old (k + 1) j) i
   pub beside : AreBeside below (slice_index_or old (k + 1) [])
 
--- the window, whose first cell is (left, top), shows the list in all cells at least `depth` inside it
+-- the window, whose first cell is (left, top), shows the list in all cells at least `depth` inside its border
 abbrev pub IsShownInside : ℕ → ℤ → ℤ → ℕ → List (List ℕ) → List Cell → Type 0
 IsShownInside n left top depth x cells = (r i : ℕ) → depth ≤ r → r + depth < 4 * n → depth ≤ i → i + depth < 64
     → has cells (cell_at (left +ℤ pos i) (top +ℤ pos r)) ≡ (bit_at (row_at n x r) i == 1)
 
--- If the first window shows a pattern, the second shows it `count` generations later, `count` cells further inside.
+-- if the first window shows a pattern at least `depth` inside its border, the second shows the pattern `count`
+-- generations later, at least `depth + count` inside
 abbrev pub IsLaterWindow : Numbers → ℕ → List (List ℕ) → List (List ℕ) → ℕ → Type 0
 IsLaterWindow rule n x y count = (cells : List Cell) (left top : ℤ) (depth : ℕ) → InOrder cells → IsShownInside n left top depth x cells
     → IsShownInside n left top (depth + count) y (after rule cells count)

@@ -8,12 +8,12 @@ use Rattle.plane_core.specs.plane.Rules.{Numbers}
 abbrev pub one_if : Bool → ℕ
 one_if b = if b then 1 else 0
 
--- the cell to the left of column i, which is the last one of the previous word if i is 0
+-- the bit of the cell to the left of column i; if i is 0, that is the last cell of the previous word
 abbrev pub west_of : ℕ → ℕ → ℕ → ℕ
 west_of before here zero = bit_at before 63
 west_of before here (suc i) = bit_at here i
 
--- the cell to the right of column i, which is the first one of the next word if i is 63
+-- the bit of the cell to the right of column i; if i is 63, that is the first cell of the next word
 abbrev pub east_of : ℕ → ℕ → ℕ → ℕ
 east_of here after i = if i == 63 then bit_at after 0 else bit_at here (i + 1)
 

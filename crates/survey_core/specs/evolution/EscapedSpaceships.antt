@@ -32,8 +32,8 @@ pub record IsAheadOf (rule : Numbers) (way : Orientation) (m : ℤ) (r : Recurre
   pub none_behind : (g : ℕ) → g < r.period → LiesFrom way from (after rule spaceship g)
   pub room : ((pos 2 *ℤ m) +ℤ pos (r.period + 10)) ≤ℤ (pos 2 *ℤ from)
 
--- Under a slow rule, a pattern that lies up to depth m + k when the spaceship is n generations old, where k is at most
--- half of n + 1, stays more than two cells away from the spaceship.
+-- Under a slow rule, a pattern behind the spaceship stays more than two cells away from it. The pattern is behind if it
+-- lies up to depth m + k when the spaceship is n generations old, and k is at most half of n + 1.
 abbrev pub SpaceshipsStayAhead : Type 0
 SpaceshipsStayAhead = (rule : Numbers) (way : Orientation) (m : ℤ) (r : Recurrence) (spaceship cells : List Cell) (n k g : ℕ) → is_slow rule ≡ true
     → IsAheadOf rule way m r spaceship → InOrder cells → LiesUpTo way (m +ℤ pos k) cells → 2 * k ≤ n + 1
@@ -51,13 +51,13 @@ pub record IsForemost (rule : Numbers) (whole : List Cell) (r : Recurrence) (spa
   pub ahead : IsAheadOf rule way m r spaceship
   pub behind : LiesUpTo way m (without whole spaceship)
 
--- a pattern with a foremost part evolves as this part and the rest do, each run alone
+-- under a slow rule, a pattern with a foremost part evolves as this part and the rest do, each run alone
 abbrev pub SpaceshipsRunAlone : Type 0
 SpaceshipsRunAlone = (rule : Numbers) (whole : List Cell) (r : Recurrence) (spaceship : List Cell) → is_slow rule ≡ true → InOrder whole
     → IsForemost rule whole r spaceship
     → (g : ℕ) (c : Cell) → has (after rule whole g) c ≡ (has (after rule (without whole spaceship) g) c || has (after rule spaceship g) c)
 
--- the box of all phases of a spaceship begins far enough past m
+-- the box of all phases of a spaceship begins so far past depth m that the spaceship has room to stay ahead
 pub record BeginsPast (way : Orientation) (m : ℤ) (envelope : EnvelopeBounds) : Type 0 where
   pub from : ℤ
   pub least : (c : Cell) → IsWithin envelope.bounds c → from ≤ℤ depth (turned_cell way c)

@@ -32,8 +32,9 @@ pub record AreCandidates (board : List Cell) (spaceships : List Spaceship) (clus
   pub each : All (IsCluster before) clusters
   pub still : (cluster : List Cell) → IsCluster before cluster → IsNoneOf spaceships cluster → IsPartOf board cluster
 
--- The spaceship was removed from the board an even number of generations ago, twice `half`. It was ahead then, and
--- since then the board has grown by at most one cell in two generations.
+-- Under a slow rule, the spaceship was removed from the board an even number of generations ago, twice `half`. It was
+-- ahead of the board in a diagonal direction then, and the board's depth in this direction has since grown by at most
+-- one in two generations.
 pub record IsOff (rule : Numbers) (t : ℕ) (board : List Cell) (spaceship : Spaceship) : Type 0 where
   pub slow : is_slow rule ≡ true
   pub half : ℕ
@@ -62,7 +63,7 @@ pub record IsTraced (rule : Numbers) (t : ℕ) (spaceship : Spaceship) : Type 0 
   pub small : HasSmallNumbers spaceship
   pub since : spaceship.since ≤ t
 
--- the latest time up to which spaceships are kept off a board: until then none of them comes near the edge of the plane
+-- the latest time at which spaceships may be off a board: until then none of them comes near the edge of the plane
 abbrev pub latest_time : ℕ
 latest_time = 800000
 
@@ -76,6 +77,6 @@ pub record IsSplitAt (rule : Numbers) (t : ℕ) (board : List Cell) (spaceships 
 abbrev pub IsSplit : Numbers → SplitPattern → Type 0
 IsSplit rule split = (split.board.rule ≡ rule) × IsSplitAt rule split.time split.board.cells split.spaceships.items
 
--- the whole pattern
+-- the whole pattern of a split pattern: what its board shows, and its spaceships
 abbrev pub whole_of : Numbers → SplitPattern → List Cell
 whole_of rule split = whole_at rule split.time split.board.cells split.spaceships.items

@@ -10,7 +10,7 @@ use Rattle.survey_core.specs.declared.rest.alone.Alone.{Alone}
 abbrev pub alone_at : Numbers → ℕ → List Cell → Alone
 alone_at rule g cluster = record { cluster = cluster; first = next rule cluster; latest = after rule cluster g }
 
--- the same, with the cluster one generation further
+-- a cluster that is run alone, one generation further
 abbrev pub stepped : Numbers → Alone → Alone
 stepped rule alone = record { cluster = alone.cluster; first = alone.first; latest = next rule alone.latest }
 
@@ -22,6 +22,6 @@ clusters_of list = map (λ alone. alone.cluster) list
 abbrev pub latest_of : List Alone → List (List Cell)
 latest_of list = map (λ alone. alone.latest) list
 
--- the cluster at place n lies more than two cells apart from each of the first m
+-- the cluster at place n, as it is now, lies more than two cells apart from each of the first m clusters
 abbrev pub LiesApartFrom : ℕ → ℕ → List Alone → Type 0
 LiesApartFrom n m list = (i : ℕ) (d : Alone) → i < m → LieApart (get_or list i d).latest (get_or list n d).latest

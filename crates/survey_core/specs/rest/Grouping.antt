@@ -4,16 +4,16 @@ use Rattle.survey_core.specs.declared.shapes.envelope_bounds.EnvelopeBounds.{Env
 use Rattle.survey_core.specs.rest.Groups.{renamed}
 use Rattle.survey_core.specs.shapes.Envelopes.{StayApart}
 
--- each envelope has the number of its group, which is the place of an envelope
+-- each envelope has the number of its group: the place of one of the envelopes
 pub record AreNumbers (envelopes : List EnvelopeBounds) (groups : List ℕ) : Type 0 where
   pub count : length groups ≡ length envelopes
   pub below : All (λ k. k < length envelopes) groups
 
--- envelopes that were in one group still are
+-- envelopes that were in the same group still are
 abbrev pub Coarser : List ℕ → List ℕ → Type 0
 Coarser old new = (a b : ℕ) → a < length old → b < length old → get_or new a 0 ≢ get_or new b 0 → get_or old a 0 ≢ get_or old b 0
 
--- the group with one number gets the other number, and the other groups keep theirs
+-- the group with the number `from` now has the number `to`, and all other groups keep their numbers
 abbrev pub AreRenamed : ℕ → ℕ → List ℕ → List ℕ → Type 0
 AreRenamed from to old new = (k : ℕ) → k < length old → get_or new k 0 ≡ renamed from to (get_or old k 0)
 

@@ -26,10 +26,11 @@ abbrev pub GroupsStayApart : Numbers → List ℕ → List (List Cell) → ℕ �
 GroupsStayApart rule groups parts n = (i j : ℕ) (d : List Cell) (g : ℕ) → i < length parts → j < length parts → get_or groups i 0 ≢ get_or groups j 0
     → g ≤ n → LieApart (after rule (get_or parts i d) g) (after rule (get_or parts j d) g)
 
--- the parts of group k, each run alone, keep apart and make up their union up to generation n
+-- up to generation n, the parts of group k, each run alone, share no cell, and together they are their union run as one
+-- pattern
 abbrev pub GroupKeeps : Numbers → List ℕ → List (List Cell) → ℕ → ℕ → Type 0
 GroupKeeps rule groups parts n k = (g : ℕ) → g ≤ n → KeepApart rule (union_of (members k groups parts)) (members k groups parts) g
 
--- the number of group `from` becomes that of group `to`
+-- the number k, or `to` if k is `from`
 abbrev pub renamed : ℕ → ℕ → ℕ → ℕ
 renamed from to k = if k == from then to else k

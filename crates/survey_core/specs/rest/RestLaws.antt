@@ -8,15 +8,16 @@ use Rattle.plane_core.specs.plane.Rules.{Numbers}
 use Rattle.survey_core.specs.rest.Groups.{GroupKeeps, GroupsStayApart}
 use Rattle.survey_core.specs.rest.Rest.{KeepApart}
 
--- If parts, each run alone, stay more than two cells apart, they evolve in the whole as they do alone.
+-- if the parts of a pattern, each run alone, stay more than two cells apart, they evolve in the pattern as they do
+-- alone
 abbrev pub PartsRunAlone : Type 0
 PartsRunAlone = (rule : Numbers) (cells : List Cell) (parts : List (List Cell)) (n : ℕ) → InOrder cells → All InOrder parts → Partition cells parts
     → ((i j : ℕ) (d : List Cell) (g : ℕ) → i < length parts → j < length parts → i ≢ j → g ≤ n
     → LieApart (after rule (get_or parts i d) g) (after rule (get_or parts j d) g))
     → (g : ℕ) → g ≤ n → KeepApart rule cells parts g
 
--- For groups of parts, it is enough that parts of different groups stay apart. Then all parts keep apart if and only if
--- they do in each group.
+-- if parts of different groups, each run alone, stay more than two cells apart, then all parts keep apart in the
+-- pattern if and only if the parts of each group keep apart in their union
 abbrev pub GroupsRunAlone : Type 0
 GroupsRunAlone = (rule : Numbers) (cells : List Cell) (groups : List ℕ) (parts : List (List Cell)) (n : ℕ) → InOrder cells → length groups ≡ length parts
     → Partition cells parts → GroupsStayApart rule groups parts n

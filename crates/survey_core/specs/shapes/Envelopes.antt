@@ -28,7 +28,8 @@ pub record AreEnvelopes (rule : Numbers) (limit : ℕ) (parts : List (List Cell)
   pub count : length envelopes ≡ length parts
   pub each : (i : ℕ) (d : List Cell) (e : EnvelopeBounds) → i < length parts → IsEnvelope rule limit (get_or parts i d) (get_or envelopes i e)
 
--- cycles of this many generations suit an envelope: this is its period, or the pattern doesn't move
+-- a cycle of `period` generations suits an envelope: the envelope's recurrence has this period, or its displacement is
+-- (0, 0)
 abbrev pub Serves : ℕ → EnvelopeBounds → Type 0
 Serves period envelope = (period ≡ envelope.recurrence.period) ⊎ ((envelope.recurrence.dx ≡ pos 0) × (envelope.recurrence.dy ≡ pos 0))
 
@@ -36,8 +37,8 @@ Serves period envelope = (period ≡ envelope.recurrence.period) ⊎ ((envelope.
 abbrev pub is_past : ℤ → ℤ → ℤ → ℤ → Bool
 is_past end t begin s = int_lt ((end +ℤ t) +ℤ pos 2) (begin +ℤ s)
 
--- the sides of the box beyond which the other, moved by (x, y), lies with at least two empty columns or rows between
--- them
+-- the sides of box `one` beyond which box `other`, moved by (x, y), lies, with at least two columns or rows between the
+-- boxes
 abbrev pub gaps_of : Bounds → Bounds → ℤ → ℤ → Gaps
 gaps_of one other x y = record {
   right = is_past one.right (pos 0) other.left x;
@@ -54,11 +55,11 @@ is_gap gaps = gaps.right || gaps.left || gaps.below || gaps.above
 abbrev pub gap_stays : Gaps → ℤ → ℤ → Bool
 gap_stays gaps dx dy = gaps.right && int_le (pos 0) dx || gaps.left && int_le dx (pos 0) || gaps.below && int_le (pos 0) dy || gaps.above && int_le dy (pos 0)
 
--- the box and the other, moved by (x, y), are clear of each other
+-- box `one` and box `other`, which is moved by (x, y), are clear of each other: there is a gap
 abbrev pub is_clear : Bounds → Bounds → ℤ → ℤ → Bool
 is_clear one other x y = is_gap (gaps_of one other x y)
 
--- the boxes are clear of each other for this many cycles
+-- the boxes, moving with their patterns, are clear of each other at the beginning of each of this many cycles
 abbrev pub StayClear : ℕ → EnvelopeBounds → EnvelopeBounds → Type 0
 StayClear cycles one other = (n : ℕ) → n < cycles → is_clear one.bounds other.bounds (times n (other.recurrence.dx -ℤ one.recurrence.dx))
     (times n (other.recurrence.dy -ℤ one.recurrence.dy)) ≡ true

@@ -1,4 +1,4 @@
--- What a memo knows about a shape, and about which clusters this is true.
+-- What a memo knows about a shape, and to which clusters this applies.
 use Rattle.std.specs.Prelude.{◌≡◌, ℕ, ℤ, List}
 use Rattle.plane_core.specs.declared.plane.cell.Cell.{Cell}
 use Rattle.plane_core.specs.plane.Bounds.{shifted}
@@ -7,7 +7,7 @@ use Rattle.code_core.specs.Names.{IsCode}
 use Rattle.survey_core.specs.declared.shapes.envelope_bounds.EnvelopeBounds.{EnvelopeBounds}
 use Rattle.survey_core.specs.shapes.Envelopes.{IsEnvelope}
 
--- what is kept of a shape: the rule under which and the limit within which it recurs, its envelope, and its apgcode
+-- a fact about a shape: the shape, its envelope, and its apgcode, for a rule and a limit on the shape's period
 pub record Fact : Type 0 where
   pub rule : Numbers
   pub limit : ℕ
