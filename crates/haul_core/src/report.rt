@@ -1,5 +1,5 @@
-//! Reports on soups, and their lines. What a line says is only a claim, right or wrong. The claim becomes a report once
-//! the soup has been surveyed again and the finding agrees with it.
+//! Reports on soups, and report lines. What a line says is only a claim, right or wrong. The claim becomes a report
+//! once the soup has been surveyed again and the finding agrees with the claim.
 //!
 //! ```text
 //!           write                  read                check
@@ -102,8 +102,8 @@ impl Report {
         Report::make_with_surveyor(alloc, &mut surveyor, job, worker, number)
     }
 
-    /// Makes the same report as [`make`](Report::make), using a surveyor, which is faster. The surveyor may have
-    /// surveyed other soups before.
+    /// Makes the same report as [`make`](Report::make), using a surveyor that may have surveyed other soups before.
+    /// Using one surveyor for many soups is faster.
     ///
     /// # Errors
     ///

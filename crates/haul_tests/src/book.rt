@@ -10,8 +10,8 @@ use std::alloc::Global;
 use std::test::Fail;
 use survey_core::job::Job;
 
-/// Eight arrivals at a haul of the soups 0 to 3 and two workers: whether an offer is of the haul's job, its worker and
-/// its number. Worker 0 stands for a closing.
+/// Eight arrivals at a haul of soups 0 to 3 with two workers. For an offer, a row says whether the report is of the
+/// haul's job, its worker, and the number of its soup. Worker 0 stands for a closing.
 const ARRIVALS: [(bool, u8, u32); 8] = [
     (true, 1, 3),
     (true, 2, 3),
@@ -23,7 +23,7 @@ const ARRIVALS: [(bool, u8, u32); 8] = [
     (true, 0, 0),
 ];
 
-/// The replies to these arrivals, according to the rules of the book.
+/// The replies to `ARRIVALS`, according to the rules of the book.
 const REPLIES: [Reply; 8] = [
     Reply::Taken,
     Reply::Refused(OfferError::Double { worker: 1 }),
@@ -35,7 +35,7 @@ const REPLIES: [Reply; 8] = [
     Reply::AlreadyClosed,
 ];
 
-/// The arrivals, at a haul of `job`. Offers that aren't of this job are of `other`.
+/// Returns the arrivals of `ARRIVALS` at a haul of `job`. Offers that aren't of this job are of `other`.
 fn arrivals(alloc: Global, job: &Job, other: &Job) -> Result<Vec<Arrival>, Fail> {
     let mut arrivals = Vec::new(alloc);
     for (is_own, worker, number) in ARRIVALS {
@@ -49,7 +49,7 @@ fn arrivals(alloc: Global, job: &Job, other: &Job) -> Result<Vec<Arrival>, Fail>
     Ok(arrivals)
 }
 
-/// Adds an offer.
+/// Appends the offer of a report by this worker on soup `number`.
 fn push_offer(
     alloc: Global,
     arrivals: &mut Vec<Arrival>,
@@ -72,7 +72,7 @@ fn replies_to_eight_arrivals(rt: HostRuntime) -> Result<(), Fail> {
     Ok(())
 }
 
-/// Offers of reports of worker 1 on the first `count` soups.
+/// Returns offers of worker 1's reports on the first `count` soups.
 fn offers(alloc: Global, job: &Job, count: u32) -> Result<Vec<Arrival>, Fail> {
     let mut offers = Vec::new(alloc);
     for number in 0..count {
@@ -81,7 +81,8 @@ fn offers(alloc: Global, job: &Job, count: u32) -> Result<Vec<Arrival>, Fail> {
     Ok(offers)
 }
 
-/// Returns a haul of this job and of `count` soups, all of which were offered in one call.
+/// Returns a haul of the first `count` soups of this job, after the reports on all of them were offered to it in one
+/// call.
 pub(crate) fn whole_haul(alloc: Global, job: Job, count: u32) -> Result<Haul, Fail> {
     let offers = offers(alloc, &job, count)?;
     let mut haul = Haul::open(alloc, job, &[range(0, u64::from(count))], 1)?;

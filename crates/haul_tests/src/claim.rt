@@ -7,9 +7,9 @@ use memory::OutOfMemory;
 use std::alloc::Global;
 use std::test::Fail;
 
-// Two lines about soup 101 of the empty seed under the standard profile, whose finding was computed by a program in
-// another language that was written only from the definitions, and a line about soup 0 under a profile whose only
-// checkpoint is generation 0.
+// Two lines about soup 101 of the empty seed under the standard profile, and a line about soup 0 under a profile whose
+// only checkpoint is generation 0. The finding of soup 101 was computed by a program in another language, which was
+// written only from the definitions.
 const RIGHT: [&[u8]; 3] = [
     b"report 2 rule=b3s23 profile=64,512,101,30300 seed= worker=3 soup=101 at=202 \
         good=yes xp2_7*1 xs4_33*3 xs5_253*1 xs7_2596*1",
@@ -18,8 +18,8 @@ const RIGHT: [&[u8]; 3] = [
     b"report 2 rule=b3s23 profile=1,1,1,0 seed= worker=2 soup=0 unsettled",
 ];
 
-// The same with mistakes: `good=no` in place of `good=yes`, a count that is too high in each version, and in each
-// version a soup that didn't settle, given as settled.
+// Lines about the same soups, with mistakes: `good=no` in place of `good=yes`, one line of each version with a count
+// that is too high, and one line of each version that says that soup 0 settled, which it didn't.
 const WRONG: [&[u8]; 5] = [
     b"report 2 rule=b3s23 profile=64,512,101,30300 seed= worker=3 soup=101 at=202 \
         good=no xp2_7*1 xs4_33*3 xs5_253*1 xs7_2596*1",
@@ -31,7 +31,7 @@ const WRONG: [&[u8]; 5] = [
     b"report 1 rule=b3s23 profile=1,1,1,0 seed= worker=1 soup=0 at=0",
 ];
 
-/// Whether the claim of a line becomes a report of its own job.
+/// Checks whether the claim of a line becomes a report when it is checked against the claim's own job.
 fn is_believed(alloc: Global, line: &[u8]) -> Result<bool, Fail> {
     let claim = Claim::read_line(alloc, line)?;
     let job = claim.job();
@@ -46,7 +46,7 @@ fn believes_what_is_right(rt: HostRuntime) -> Result<(), Fail> {
     Ok(())
 }
 
-/// Whether the claim of a line disagrees with the finding of its soup.
+/// Checks whether the claim of a line disagrees with the finding of its soup.
 fn disagrees(alloc: Global, line: &[u8]) -> Result<bool, Fail> {
     let claim = Claim::read_line(alloc, line)?;
     let job = claim.job();
@@ -64,7 +64,8 @@ fn believes_nothing_wrong(rt: HostRuntime) -> Result<(), Fail> {
     Ok(())
 }
 
-/// Damaged lines, each with the place where its first wrong field begins, or where a field is missing at its end.
+/// Damaged lines, each with the place where its first wrong field begins or, if a field is missing at its end, with its
+/// length.
 const DAMAGED: [(&[u8], usize); 14] = [
     (
         b"report 1 rule=b3s23 profile=1,1,1,0 seed= worker=1 soup=0",
@@ -118,14 +119,14 @@ const DAMAGED: [(&[u8], usize); 14] = [
     (b"report 1 rule=b3s23 profile=1,1,1,0 seed= wor", 42),
 ];
 
-/// Lines that are read: one in both versions, and one of another job.
+/// Lines that are read: the same line in both versions, and a line with another rule.
 const WHOLE: [&[u8]; 3] = [
     b"report 1 rule=b3s23 profile=1,1,1,0 seed= worker=2 soup=0 unsettled",
     b"report 2 rule=b3s23 profile=1,1,1,0 seed= worker=2 soup=0 unsettled",
     b"report 1 rule=b36s23 profile=1,1,1,0 seed= worker=1 soup=0 unsettled",
 ];
 
-/// Where the first fault of a line is, or `None` if the line is read.
+/// Returns the place of the first fault of a line, or `None` if the line is read.
 fn fault_of(alloc: Global, line: &[u8]) -> Result<Option<usize>, OutOfMemory> {
     match Claim::read_line(alloc, line) {
         Ok(_) => Ok(None),
@@ -134,7 +135,7 @@ fn fault_of(alloc: Global, line: &[u8]) -> Result<Option<usize>, OutOfMemory> {
     }
 }
 
-// If one of the whole lines is cut anywhere, its first part isn't the line of a claim.
+// If a line of `WHOLE` is cut off anywhere, it isn't the line of a claim any more.
 #[test]
 fn tells_where_a_line_is_damaged(rt: HostRuntime) -> Result<(), Fail> {
     for (line, place) in DAMAGED {

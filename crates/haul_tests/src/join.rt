@@ -9,14 +9,15 @@ use std::alloc::Global;
 use std::test::Fail;
 use survey_core::job::Job;
 
-/// A closed haul of only this soup, which the haul has taken.
+/// Returns a closed haul of one soup, which the haul has taken.
 fn haul_of(alloc: Global, job: &Job, number: u32) -> Result<Haul, OpenError> {
     let mut haul = Haul::open(alloc, *job, &[range(u64::from(number), 1)], 1)?;
     offer(alloc, &mut haul, number);
     Ok(closed(haul))
 }
 
-// What the two soups leave was computed by a program in another language that was written only from the definitions.
+// The objects of the two soups were computed by a program in another language, which was written only from the
+// definitions.
 #[test]
 fn joins_hauls_that_have_objects(rt: HostRuntime) -> Result<(), Fail> {
     let job = standard_job()?;
@@ -56,7 +57,7 @@ xs5_253 101
 xs7_2596 101
 ";
 
-/// A closed haul of the 2^24 numbers from `part` times 2^24 on.
+/// Returns a closed haul of 2^24 soup numbers, from `part` times 2^24 on. The haul has taken none of them.
 fn large_haul(alloc: Global, job: &Job, part: u32) -> Result<Haul, OpenError> {
     let first = u64::from(part) << 24;
     let haul = Haul::open(alloc, *job, &[range(first, 1 << 24)], 1)?;
@@ -85,14 +86,14 @@ fn every_fourth(alloc: Global, first: u64, count: u32) -> Result<Vec<Range>, Out
     Ok(ranges)
 }
 
-/// A closed haul of `count` numbers: `first`, `first` + 4, `first` + 8 and so on.
+/// Returns a closed haul of `count` soup numbers: `first`, `first` + 4, `first` + 8 and so on.
 fn sparse_haul(alloc: Global, job: &Job, first: u64, count: u32) -> Result<Haul, OpenError> {
     let ranges = every_fourth(alloc, first, count)?;
     let haul = Haul::open(alloc, *job, ranges.as_slice(), 1)?;
     Ok(closed(haul))
 }
 
-// The ranges of each lie between those of the other, and none touches another.
+// The ranges of the two hauls alternate, and no two of them touch.
 #[test]
 fn joins_hauls_of_five_thousand_ranges(rt: HostRuntime) -> Result<(), Fail> {
     let job = quick_job("")?;
@@ -105,8 +106,9 @@ fn joins_hauls_of_five_thousand_ranges(rt: HostRuntime) -> Result<(), Fail> {
     Ok(())
 }
 
-/// Two hauls that aren't joined, and why: whether the first and the second are closed, and the seed and the number of
-/// the only soup of the second. The first has the empty seed and soups 0 to 3.
+/// Pairs of hauls that aren't joined. The first haul has the empty seed and soups 0 to 3. Each row says whether the
+/// first haul is closed, whether the second haul is closed, the seed and the only soup of the second haul, and the
+/// error.
 const NOT_JOINED: [(bool, bool, &str, u64, JoinError); 6] = [
     (false, true, "", 4, JoinError::Open),
     (true, false, "", 4, JoinError::Open),
@@ -116,13 +118,13 @@ const NOT_JOINED: [(bool, bool, &str, u64, JoinError); 6] = [
     (true, true, "", 3, JoinError::Overlap),
 ];
 
-/// A haul of these soups that has taken none.
+/// Returns a haul of these soups that has taken none of them.
 fn unfilled(alloc: Global, seed: &str, soups: Range, is_closed: bool) -> Result<Haul, Fail> {
     let haul = Haul::open(alloc, quick_job(seed)?, &[soups], 1)?;
     Ok(if is_closed { closed(haul) } else { haul })
 }
 
-/// Why two hauls aren't joined.
+/// Returns why two hauls can't be joined, or `None` if they can.
 fn error_of(first: Haul, second: Haul) -> Option<JoinError> {
     match first.join(second) {
         Ok(joined) => {

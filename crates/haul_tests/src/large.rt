@@ -1,5 +1,6 @@
-//! Each call on something large, once. A soup is quick under the profile 1,1,1,0: under Life it is unsettled at once,
-//! and under a rule where nothing is born or dies it is at rest at once.
+//! Tests of calls with large values: long lines, many ranges and many soups. The soups are surveyed quickly under the
+//! profile 1,1,1,0: in Life a soup is unsettled at once, and under a rule by which nothing is born or dies, it is at
+//! rest at once.
 
 use crate::book::whole_haul;
 use crate::setup::{offer, quick_job, range, still_job};
@@ -16,7 +17,7 @@ use std::test::Fail;
 
 const HEAD: &str = "report 1 rule=b3s23 profile=1,1,1,0 seed= worker=1 soup=0 at=0";
 
-/// Adds the field for 7 objects of a code: these two letters, and then 398 times `a`.
+/// Appends the field for 7 objects whose code is these two letters, followed by 398 times `a`.
 fn push_count(line: &mut Vec<u8>, first: u8, second: u8) -> Result<(), OutOfMemory> {
     line.extend_from_slice(&[b' ', first, second])?;
     line.extend_from_slice(&[b'a'; 398])?;
@@ -24,7 +25,7 @@ fn push_count(line: &mut Vec<u8>, first: u8, second: u8) -> Result<(), OutOfMemo
     Ok(())
 }
 
-/// A line with 260 codes, in ASCII order.
+/// Returns a line with 260 codes, in ASCII order.
 fn line_of_codes(alloc: Global) -> Result<Vec<u8>, OutOfMemory> {
     let mut line = Vec::from_slice(alloc, HEAD.as_bytes())?;
     for first in b'a'..=b'j' {
@@ -35,7 +36,7 @@ fn line_of_codes(alloc: Global) -> Result<Vec<u8>, OutOfMemory> {
     Ok(line)
 }
 
-/// Whether the claim has 260 counts, the last one of seven objects of the last code.
+/// Checks whether the claim has 260 counts, and the last count is of seven objects with the last code of the line.
 fn has_260_counts(claim: &Claim) -> bool {
     let Some(said) = claim.settled() else {
         return false;
@@ -54,7 +55,7 @@ fn reads_a_line_of_100_000_bytes(rt: HostRuntime) -> Result<(), Fail> {
     Ok(())
 }
 
-/// Ten thousand ranges of two numbers each. One number is left out between two ranges.
+/// Returns ten thousand ranges of two numbers each. One number is left out between each range and the next.
 fn ten_thousand(alloc: Global) -> Result<Vec<Range>, OutOfMemory> {
     let mut ranges = Vec::new(alloc);
     for place in 0..10_000u32 {
@@ -63,13 +64,13 @@ fn ten_thousand(alloc: Global) -> Result<Vec<Range>, OutOfMemory> {
     Ok(ranges)
 }
 
-/// A haul of these ranges.
+/// Returns a haul of the ranges of `ten_thousand`.
 fn haul_of_ranges(alloc: Global) -> Result<Haul, Fail> {
     let ranges = ten_thousand(alloc)?;
     Ok(Haul::open(alloc, quick_job("")?, ranges.as_slice(), 1)?)
 }
 
-/// Whether the haul takes a soup, and all the others are missing afterwards.
+/// Checks whether the haul takes its last soup, 29,998, and its other 19,999 soups are missing afterwards.
 fn takes_one(alloc: Global, haul: &mut Haul) -> Result<bool, OutOfMemory> {
     let taken = offer(alloc, haul, 29_998);
     let missing = haul.missing()?;
@@ -86,7 +87,7 @@ fn opens_a_haul_of_ten_thousand_ranges(rt: HostRuntime) -> Result<(), Fail> {
     Ok(())
 }
 
-/// A haul of 2^24 soups.
+/// Returns a haul of 2^24 soups, the most for which a haul can be opened.
 fn largest_haul(alloc: Global) -> Result<Haul, Fail> {
     Ok(Haul::open(alloc, quick_job("")?, &[range(7, 1 << 24)], 1)?)
 }
@@ -103,14 +104,14 @@ fn lists_2_to_the_24_numbers_that_are_missing(rt: HostRuntime) -> Result<(), Fai
 const LAST: &[u8] =
     b"report 2 rule=b3s23 profile=1,1,1,0 seed= worker=16 soup=1099511627775 unsettled\n";
 
-/// The line of a report.
+/// Returns the line of a report.
 fn line_of(alloc: Global, report: &Report) -> Result<Vec<u8>, Fail> {
     let mut out = Out::new(Vec::new(alloc));
     write_report_line(report, &mut out)?;
     Ok(out.into_inner())
 }
 
-/// The report of the last soup by the last worker.
+/// Returns the report by the last worker, 16, on the last soup, 2^40 - 1.
 fn last_report(alloc: Global) -> Result<Report, Fail> {
     Ok(Report::make(alloc, &quick_job("")?, 16, (1 << 40) - 1)?)
 }
@@ -143,7 +144,7 @@ fn takes_66_000_soups(rt: HostRuntime) -> Result<(), Fail> {
     Ok(())
 }
 
-/// The census of 5,500 soups, almost all of which leave an object that no other soup leaves.
+/// Returns the census of 5,500 soups. Almost all of them leave an object that no other soup of the census leaves.
 fn census_of_many_codes(alloc: Global) -> Result<Census, Fail> {
     let haul = whole_haul(alloc, still_job()?, 5_500)?;
     let census = haul.census();

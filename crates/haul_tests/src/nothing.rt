@@ -1,4 +1,4 @@
-//! Each call that allocates, once with nothing: no soups, no arrivals and no ranges.
+//! Tests of calls that allocate, with nothing to allocate for: no soups, no arrivals and no ranges.
 
 use crate::setup::{closed, quick_job, range, text_of};
 use haul_core::book::haul::{Haul, OpenError};
@@ -7,13 +7,13 @@ use std::alloc::Global;
 use std::test::Fail;
 use survey_core::job::Job;
 
-/// A closed haul of no soup.
+/// Returns a closed haul of no soups.
 fn empty_haul(alloc: Global, job: &Job) -> Result<Haul, OpenError> {
     let haul = Haul::open(alloc, *job, &[range(1 << 40, 0)], 1)?;
     Ok(closed(haul))
 }
 
-/// Whether nothing is replied if nothing arrives, and nothing is missing.
+/// Checks whether the haul gives no replies if nothing arrives, and no number of the haul is missing.
 fn replies_nothing(alloc: Global, haul: &mut Haul) -> Result<bool, Fail> {
     let replies = keep_book(alloc, haul, Vec::new(alloc))?;
     let missing = haul.missing()?;

@@ -20,7 +20,7 @@ fn reads_an_empty_list(rt: HostRuntime) -> Result<(), Fail> {
     Ok(())
 }
 
-/// A list of 2^18 + 1 ranges, each of one number: 2^20 + 3 bytes.
+/// Returns a list of 2^18 + 1 ranges of one number each. The text has 2^20 + 3 bytes.
 fn long_list(alloc: Global) -> Result<String, OutOfMemory> {
     let mut text = String::from_str(alloc, "0+1")?;
     for _ in 0..262_144u32 {

@@ -1,4 +1,4 @@
-//! Hauls that aren't opened, and reports that aren't made.
+//! Tests the errors for hauls that aren't opened, and for reports that aren't made.
 
 use crate::setup::quick_job;
 use haul_core::book::haul::{Haul, OpenError};
@@ -8,7 +8,7 @@ use std::alloc::Global;
 use std::test::Fail;
 use survey_core::job::Job;
 
-/// A range of one number: the first that no soup has.
+/// A range of one number, 2^40, which is one more than the highest number of a soup.
 const PAST: Range = Range {
     first: 1 << 40,
     count: 1,
@@ -19,7 +19,7 @@ const MOST: Range = Range {
     count: 1 << 24,
 };
 
-/// The number after those of `MOST`: together they are one too many.
+/// A range of the one number that follows those of `MOST`. Both ranges together have one number too many for a haul.
 const ONE_MORE: Range = Range {
     first: 1 << 24,
     count: 1,
@@ -27,7 +27,8 @@ const ONE_MORE: Range = Range {
 
 const FIRST: Range = Range { first: 0, count: 1 };
 
-/// Ranges and a number of workers, and why no haul is opened. The first reason counts.
+/// Each row has ranges and a number of workers for which no haul is opened, and the error. If several errors apply, it
+/// is the one that `OpenError` lists first.
 const NOT_OPENED: [(&[Range], u8, OpenError); 8] = [
     (&[FIRST], 0, OpenError::BadWorkers),
     (&[FIRST], 17, OpenError::BadWorkers),
@@ -39,7 +40,7 @@ const NOT_OPENED: [(&[Range], u8, OpenError); 8] = [
     (&[FIRST, ONE_MORE, FIRST], 1, OpenError::Overlap),
 ];
 
-/// Why no haul is opened.
+/// Returns why no haul is opened, or `None` if a haul is opened.
 fn error_of(alloc: Global, job: &Job, ranges: &[Range], workers: u8) -> Option<OpenError> {
     match Haul::open(alloc, *job, ranges, workers) {
         Ok(haul) => {

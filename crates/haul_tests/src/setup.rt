@@ -1,5 +1,6 @@
-//! Jobs, hauls and texts, for all files. The proof of a function pays for each exit at which a haul is dropped, so a
-//! haul is made by a function that gives it back, and dropped by a call before the next exit.
+//! What the tests share: jobs, hauls and texts. The proof of a function takes longer with each exit at which a haul is
+//! dropped. That is why a test gets each haul from a function that returns it, and drops it by a call before the next
+//! exit.
 
 use haul_core::book::census::Census;
 use haul_core::book::haul::Haul;
@@ -14,8 +15,8 @@ use survey_core::job::Job;
 use survey_core::profile::Profile;
 use survey_core::seed::Seed;
 
-/// A job of Life. Under its profile a soup is settled only if it is a still life at once, which none of the soups in
-/// these tests is.
+/// Returns a job of Life, with a profile under which a soup settles only if the soup itself is a still life. None of
+/// the soups in these tests is a still life.
 pub(crate) fn quick_job(seed: &str) -> Result<Job, Fail> {
     Ok(Job {
         seed: Seed::new(seed)?,
@@ -24,7 +25,7 @@ pub(crate) fn quick_job(seed: &str) -> Result<Job, Fail> {
     })
 }
 
-/// The job of Life, the standard profile and the empty seed.
+/// Returns the job of Life with the standard profile and the empty seed.
 pub(crate) fn standard_job() -> Result<Job, Fail> {
     Ok(Job {
         profile: Profile::standard(),
@@ -32,7 +33,7 @@ pub(crate) fn standard_job() -> Result<Job, Fail> {
     })
 }
 
-/// A job under whose rule nothing is born or dies, so that each soup is at rest at once, with some tens of objects.
+/// Returns a job under whose rule nothing is born or dies. Each soup is at rest at once, with some tens of objects.
 pub(crate) fn still_job() -> Result<Job, Fail> {
     Ok(Job {
         rule: Rule::read("bs012345678")?,
@@ -44,7 +45,7 @@ pub(crate) fn range(first: u64, count: u64) -> Range {
     Range { first, count }
 }
 
-/// Offers worker 1's report on the soup with this number, and returns whether it is taken.
+/// Offers worker 1's report on the soup with this number, and returns whether the haul takes it.
 pub(crate) fn offer(alloc: Global, haul: &mut Haul, number: u32) -> bool {
     match Report::make(alloc, &haul.job(), 1, u64::from(number)) {
         Ok(report) => haul.offer(report).is_ok(),
@@ -52,20 +53,21 @@ pub(crate) fn offer(alloc: Global, haul: &mut Haul, number: u32) -> bool {
     }
 }
 
-/// The haul, closed.
+/// Closes a haul, and returns it.
 pub(crate) fn closed(haul: Haul) -> Haul {
     let mut haul = haul;
     let _reply = haul.close();
     haul
 }
 
-/// The haul text of what a haul has taken.
+/// Returns the haul text of what a haul has taken.
 pub(crate) fn text_of(alloc: Global, haul: &Haul) -> Result<Vec<u8>, Fail> {
     let census = haul.census()?;
     written(alloc, &census)
 }
 
-/// The haul text. There is room for it, so that no write fails because memory ran out.
+/// Returns the haul text of a census. There is room for 65,536 bytes from the beginning, so that no write of a shorter
+/// text fails because memory ran out.
 fn written(alloc: Global, census: &Census) -> Result<Vec<u8>, Fail> {
     let mut out = Out::new(Vec::with_capacity(alloc, 65_536)?);
     write_haul(census, &mut out)?;

@@ -1,5 +1,5 @@
-//! Whichever allocation is refused, each of these tests passes, or fails only because memory ran out.
-//! `checks/program/memory` refuses each in turn.
+//! Tests without enough memory. `checks/program/memory` runs each of them many times, and refuses another allocation
+//! each time. A test must pass, or fail only because memory ran out.
 
 use crate::setup::{quick_job, range, still_job, text_of};
 use haul_core::book::haul::Haul;
@@ -10,7 +10,7 @@ use haul_core::report::claim::check::CheckError;
 use std::alloc::Global;
 use std::test::Fail;
 
-/// Takes a soup, or fails for the reason for which it is refused.
+/// Offers worker 1's report on a soup to the haul. Fails with the haul's reason if the report is refused.
 fn take(alloc: Global, haul: &mut Haul, number: u32) -> Result<(), Fail> {
     let report = Report::make(alloc, &haul.job(), 1, u64::from(number))?;
     match haul.offer(report) {
@@ -19,7 +19,7 @@ fn take(alloc: Global, haul: &mut Haul, number: u32) -> Result<(), Fail> {
     }
 }
 
-/// A haul of soups 0 to 3 that has taken soup 1.
+/// Returns a haul of soups 0 to 3 that has taken only soup 1.
 fn haul_of_one(alloc: Global) -> Result<Haul, Fail> {
     let mut haul = Haul::open(alloc, still_job()?, &[range(0, 4)], 1)?;
     if let Err(fail) = take(alloc, &mut haul, 1) {
@@ -29,18 +29,18 @@ fn haul_of_one(alloc: Global) -> Result<Haul, Fail> {
     Ok(haul)
 }
 
-/// Whether the haul has taken only soup 1, and its text is as before.
+/// Checks whether the haul has taken only soup 1, and its haul text is `before`.
 fn is_as_before(alloc: Global, haul: &Haul, before: &[u8]) -> Result<bool, Fail> {
     let text = text_of(alloc, haul)?;
     Ok(haul.taken() == [(1, 1)].as_slice() && text.as_slice() == before)
 }
 
-/// Whether the report on soup 0 was refused because memory ran out.
+/// Checks whether the refused report is the one on soup 0, and was refused because memory ran out.
 fn lacks_memory(refused: &Refused) -> bool {
     matches!(refused.reason, OfferError::Memory(_)) && refused.report.number() == 0
 }
 
-/// Whether a haul takes soup 0, or is as before.
+/// Checks whether a haul that has taken soup 1 takes soup 0 too or, if memory runs out, is unchanged.
 fn takes_or_leaves(alloc: Global, haul: &mut Haul) -> Result<bool, Fail> {
     let before = text_of(alloc, haul)?;
     let report = Report::make(alloc, &haul.job(), 1, 0)?;
@@ -59,7 +59,7 @@ fn without_memory_an_offer_changes_nothing(rt: HostRuntime) -> Result<(), Fail> 
     Ok(())
 }
 
-/// Whether a census and a list of the missing numbers can be made, or the haul is unchanged.
+/// Checks whether a census and a list of the missing numbers can be made or, if not, the haul is unchanged.
 fn stays(alloc: Global, haul: &Haul) -> Result<bool, Fail> {
     let before = text_of(alloc, haul)?;
     if haul.census().is_ok() && haul.missing().is_ok() {
@@ -79,12 +79,12 @@ fn without_memory_a_census_changes_nothing(rt: HostRuntime) -> Result<(), Fail> 
 
 const LINE: &[u8] = b"report 2 rule=b3s23 profile=1,1,1,0 seed= worker=2 soup=3 unsettled";
 
-/// Whether this is the claim of the line.
+/// Checks whether this is the claim of `LINE`.
 fn is_claim(claim: &Claim) -> bool {
     claim.version() == 2 && claim.worker() == 2 && claim.number() == 3 && claim.settled().is_none()
 }
 
-/// Whether a claim becomes its report, or is returned as it was because memory ran out.
+/// Checks whether the claim of `LINE` becomes its report or, if memory runs out, is returned unchanged.
 fn is_checked_or_kept(alloc: Global) -> Result<bool, Fail> {
     let claim = Claim::read_line(alloc, LINE)?;
     let job = quick_job("")?;

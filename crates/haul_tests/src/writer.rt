@@ -1,4 +1,4 @@
-//! A writer that fails in the middle.
+//! Tests of writing a haul text and a report line to a writer that fails in the middle.
 
 ghost use Rattle.std.specs.Prelude.{◌≡◌, false};
 
@@ -14,7 +14,7 @@ use std::io;
 use std::io::{ErrorKind, Write};
 use std::test::Fail;
 
-// A writer that takes a number of bytes, and then fails.
+// A writer that takes `room` bytes, and then fails.
 #[derive(Drop)]
 struct Short {
     taken: Vec<u8>,
@@ -36,7 +36,7 @@ impl Write for Short {
     }
 }
 
-/// An `Out` around such a writer.
+/// Returns an `Out` whose writer takes `room` bytes, and then fails.
 fn out_with_room(alloc: Global, room: usize) -> Out<Short>
     ensures { result.failed ≡ false }
 {
@@ -44,7 +44,7 @@ fn out_with_room(alloc: Global, room: usize) -> Out<Short>
     Out::new(Short { taken, room })
 }
 
-/// Checks whether exactly the first `room` bytes of the text were taken.
+/// Checks whether the writer has taken exactly the first `room` bytes of the text.
 fn has_prefix(out: Out<Short>, room: usize, text: &[u8]) -> bool {
     let taken = out.into_inner().taken;
     taken.len() == room && text.starts_with(taken.as_slice())
@@ -66,7 +66,7 @@ const TWO_OF_FOUR: &[u8] = b"@VERSION 2
 @SAMPLE_SOUPIDS
 ";
 
-/// The census of soups 0 and 3 of four.
+/// Returns the census of a haul of soups 0 to 3 that has taken soups 3 and 0.
 fn two_of_four(alloc: Global) -> Result<Census, Fail> {
     let mut haul = Haul::open(alloc, quick_job("")?, &[range(0, 4)], 1)?;
     offer(alloc, &mut haul, 3);
@@ -76,7 +76,8 @@ fn two_of_four(alloc: Global) -> Result<Census, Fail> {
     Ok(census?)
 }
 
-/// Checks whether the haul text of a census stops after `room` bytes.
+/// Checks whether writing the haul text of the census fails if the writer takes only `room` bytes, and whether these
+/// are the first `room` bytes of `TWO_OF_FOUR`.
 fn haul_stops(alloc: Global, census: &Census, room: usize) -> bool {
     let mut out = out_with_room(alloc, room);
     let stopped = write_haul(census, &mut out).is_err();
@@ -94,7 +95,8 @@ fn a_haul_text_stops_where_the_writer_does(rt: HostRuntime) -> Result<(), Fail> 
 
 const UNSETTLED: &[u8] = b"report 2 rule=b3s23 profile=1,1,1,0 seed= worker=2 soup=0 unsettled\n";
 
-/// Checks whether the line of a report stops after `room` bytes.
+/// Checks whether writing the line of the report fails if the writer takes only `room` bytes, and whether these are the
+/// first `room` bytes of `UNSETTLED`.
 fn line_stops(alloc: Global, report: &Report, room: usize) -> bool {
     let mut out = out_with_room(alloc, room);
     let stopped = write_report_line(report, &mut out).is_err();

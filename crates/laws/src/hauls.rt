@@ -5,39 +5,40 @@ ghost use Rattle.laws.specs.Censuses.{CompleteHaulsPrintTheSame, JoinedHaulsAddU
 ghost use Rattle.laws.specs.HaulTexts.{HaulCensusesAreShort, HaulTextsAreFaithful};
 ghost use Rattle.laws.specs.ReportLines.{FaultyLinesHaveNoClaim, LinesHaveOneClaim, LinesHaveOneFault};
 
-/// The law that a number is taken if and only if some eligible offer has it, and that the worker of the first such
-/// offer is credited. An offer is eligible if no closing came before it, and if it is of the haul's job, of one of its
-/// workers, and of a number of its set.
+/// The law that a number is taken if and only if some eligible offer has it, and then from the worker of the first such
+/// offer. An offer is eligible if no closing came before it, its job is the haul's, its worker is one of the haul's
+/// workers, and its number is in the haul's set.
 pub fn first_offers_are_taken()
     ensures { FirstOffersAreTaken }
 {}
 
-/// The law that the reports taken from a worker are some of those that it offered before any closing, in its order,
-/// each number at most once and in the set.
+/// The law that the reports taken from a worker are some of those that it offered before any closing, in the same
+/// order. Each number is taken at most once, and is in the set.
 pub fn workers_are_taken_in_order()
     ensures { WorkersAreTakenInOrder }
 {}
 
-/// The laws that the text doesn't depend on the order in which the soups arrived: censuses of one job and set have the
-/// same text if they are over the same soups, and complete hauls of one job and set have the same text.
+/// The laws that a haul text doesn't depend on the order in which the soups arrived: censuses of one job and set have
+/// the same text if they are over the same soups, and complete hauls of one job and set have the same text.
 pub fn complete_hauls_print_the_same()
     ensures same { SameSoupsPrintTheSame }
     ensures complete { CompleteHaulsPrintTheSame }
 {}
 
-/// The law that the census of a joined haul has the sums of the two censuses: of soups, of unsettled ones, of those
-/// that stay for good, of objects, and of the total of each code. The samples of a code are the three lowest of both.
+/// The law that the census of a joined haul has the sums of the two hauls' censuses: of soups, of unsettled soups, of
+/// soups whose objects stay for good, of objects, and of each code's total. A code's samples are the three lowest of
+/// its samples in the two censuses.
 pub fn joined_hauls_add_up()
     ensures { JoinedHaulsAddUp }
 {}
 
-/// The law that the census of the union of two sets, which share no number, is the sum of the two censuses.
+/// The law that the census of the union of two sets is the sum of their censuses, if the two sets share no number.
 pub fn split_sets_add_up()
     ensures { SplitSetsAddUp }
 {}
 
 /// The laws that two censuses with the same haul text are equal, if their jobs are valid, their ranges are in normal
-/// form and their numbers are below 10^64, and that the census of every haul is so.
+/// form and their numbers are below 10^64, and that the census of every haul meets these conditions.
 pub fn haul_texts_are_faithful()
     ensures faithful { HaulTextsAreFaithful }
     ensures hauls { HaulCensusesAreShort }

@@ -1,7 +1,7 @@
 //! Laws that people would quote, as theorems. Each is a function with an empty body, whose contract is the law.
 //!
 //! Nothing in the program needs these laws, so only `bin/test` proves them. There is a module for each crate that the
-//! laws speak of, and the laws of a crate that the crate itself needs are beside its definitions.
+//! laws are about. A law that a crate itself needs is in that crate, beside its definitions.
 #![tactic(auto)]
 
 /// Laws of apgcodes.
@@ -14,5 +14,5 @@ pub mod hauls;
 pub mod names;
 /// Laws of sets of soup numbers.
 pub mod sets;
-/// Laws of soups, and of what becomes of a pattern.
+/// Laws of soups, findings and patterns at rest.
 pub mod surveys;

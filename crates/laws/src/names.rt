@@ -2,7 +2,7 @@
 
 ghost use Rattle.laws.specs.NameTexts.{NameTextsAreFaithful};
 
-/// The law that patterns with the same lines of `name` have the same finding under one rule and profile.
+/// The law that, under one rule and profile, patterns for which `name` prints the same lines have the same finding.
 pub fn name_texts_are_faithful()
     ensures { NameTextsAreFaithful }
 {}

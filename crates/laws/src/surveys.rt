@@ -1,4 +1,4 @@
-//! Laws of soups, and of what becomes of a pattern.
+//! Laws of soups, findings and patterns at rest.
 
 ghost use Rattle.laws.specs.Findings.{CountsAddUp, FindingsMoved, FindingsOfImages, FindingsTurned};
 ghost use Rattle.laws.specs.ForGood.{AtRestForGood, EmptyIsAtRest, FindingsForGood, ForGoodComesBack};
@@ -6,7 +6,7 @@ ghost use Rattle.laws.specs.ForGood.{MarksAreInCodes, MarksMatchRecurrences};
 ghost use Rattle.laws.specs.Limits.{SettledStaySettled, UnsettledSettleLater};
 ghost use Rattle.laws.specs.Soups.{SoupsAreFaithful};
 
-/// The law that two soups are equal only if the digests of their messages are.
+/// The law that two soups are equal only if the SHA-256 digests from which they are made are equal.
 pub fn soups_are_faithful()
     ensures { SoupsAreFaithful }
 {}
@@ -24,33 +24,34 @@ pub fn counts_add_up()
 {}
 
 /// The laws of a higher limit. A pattern that settles under a limit settles at the same generation, with the same
-/// objects, under every higher limit. A pattern that is unsettled under a limit settles later, if at all.
+/// objects, under every higher limit. A pattern that is unsettled under a limit settles after that limit, if at all.
 pub fn higher_limits_settle_no_less()
     ensures settled { SettledStaySettled }
     ensures unsettled { UnsettledSettleLater }
 {}
 
-/// The laws of patterns at rest: the empty pattern is at rest, and a pattern whose clusters stay for good keeps them
-/// apart in every later generation, and recurs after the least common multiple of their periods.
+/// The laws of patterns at rest. The empty pattern is at rest. If the clusters of a pattern at rest stay for good, they
+/// keep apart in every later generation, and the pattern recurs after the least common multiple of their periods.
 pub fn at_rest_for_good()
     ensures empty { EmptyIsAtRest }
     ensures forever { AtRestForGood }
 {}
 
-/// The law that objects that stay for good do so forever: the clusters, each run alone, keep apart and make up the
-/// whole in every later generation, and the pattern recurs after the least common multiple of their periods.
+/// The law that objects stay for good if a finding says so: in every later generation, the clusters, each run alone,
+/// keep apart and make up the whole pattern, and the pattern recurs after the least common multiple of their periods.
 pub fn findings_for_good()
     ensures { FindingsForGood }
 {}
 
-/// The law that a pattern that is at rest for good at generation t is the same pattern, at rest with the same objects,
-/// at t + k * L for every k, where L is the least common multiple of the periods.
+/// The law that if a pattern settles at generation t with objects that stay for good, then for every k, generation
+/// t + k * L is equal to generation t, and is settled with the same objects. L is the least common multiple of the
+/// periods.
 pub fn for_good_comes_back()
     ensures { ForGoodComesBack }
 {}
 
-/// The laws of the mark *for good*, which is defined by the recurrences of the clusters: the kinds and numbers in the
-/// codes say the same, so a reader of a finding can tell its mark from the codes.
+/// The laws of the mark *for good*, which is defined by the recurrences of the clusters. The kinds and numbers in the
+/// codes of the objects agree with these recurrences, so they agree with the mark too.
 pub fn marks_match_recurrences()
     ensures codes { MarksMatchRecurrences }
     ensures mark { MarksAreInCodes }

@@ -42,7 +42,7 @@ impl From<AllocError> for OutOfMemory {
     }
 }
 
-/// Returns the witness that there was no memory for a value. The value is dropped.
+/// Makes the witness that there was no memory for a value. The value is dropped.
 impl<T: Drop> From<AllocFailed<T>> for OutOfMemory {
     ghost from_gives = { λ _ e. e ≡ out_of_memory };
 
@@ -54,7 +54,7 @@ impl<T: Drop> From<AllocFailed<T>> for OutOfMemory {
 }
 
 impl OutOfMemory {
-    /// Returns the witness for the error of a stream, whose kind has to be `OutOfMemory`.
+    /// Returns the witness for the error of a stream. The error's kind has to be `OutOfMemory`.
     pub fn of_stream(error: &io::Error) -> OutOfMemory
         requires { error_kind error.now ≡ ErrorKind.OutOfMemory }
         ensures { result ≡ out_of_memory }

@@ -39,8 +39,8 @@ pub fn end_command<E: Write>(outcome: Result<u64, Complaint>, errors: &mut Out<E
     }
 }
 
-/// Ends a command that prints only a text, as [`end_command`] does. No soups can be missing. No earlier write to
-/// `errors` may have failed.
+/// Ends a command for which no soups can be missing, in the same way as [`end_command`]. No earlier write to `errors`
+/// may have failed.
 pub fn end_text_command<E: Write>(outcome: Result<(), Complaint>, errors: &mut Out<E>) -> Status
     requires { errors.old.failed ≡ false }
     ensures status { result ≡ status_after (none_missing outcome) }

@@ -15,10 +15,10 @@ use plane_core::plane::pattern::Pattern;
 use std::alloc::Global;
 use std::io::{self, ErrorKind, Read};
 
-/// The most bytes that a command reads of a pattern: 2^24.
+/// The most bytes that an input with a pattern may have: 2^24.
 pub const INPUT_LIMIT: usize = 16_777_216;
 
-/// The bytes that one read asks for: 2^16.
+/// The number of bytes that one read asks for: 2^16.
 pub const READ_LENGTH: usize = 65_536;
 
 /// Why an input was not read to its end.
@@ -28,7 +28,7 @@ pub enum InputError {
     Unreadable(ReadError),
     /// The input is longer than the limit.
     TooLong,
-    /// Memory ran out, for a read or for what was read.
+    /// Memory ran out, for a read or for the bytes that were read.
     Memory(OutOfMemory),
 }
 

@@ -15,7 +15,7 @@ pub mod input;
 pub mod name;
 /// Output that is buffered until a command has ended.
 pub mod output;
-/// A pattern in one of its forms.
+/// Writing a pattern in one of its two forms.
 mod pattern_text;
 /// The profile with four given numbers.
 pub mod profile;

@@ -43,9 +43,9 @@ use survey_core::finding::{Finding, survey_pattern};
 ///
 /// # Errors
 ///
-/// The status is `Refused` if the horizon is below the period, or for a text that isn't a rule or an input that isn't a
-/// pattern; `Memory` if memory runs out; and `Failed` if the input can't be read or the output can't be written. In
-/// these cases, a line is written to `errors`. A failure to write that line is not reported.
+/// The status is `Refused` if the horizon is below the period, the text isn't a rule or the input isn't a pattern;
+/// `Memory` if memory runs out; and `Failed` if the input can't be read or the output can't be written. In these cases,
+/// a line is written to `errors`. A failure to write that line is not reported.
 pub fn do_name<R: Read, W: Write, E: Write>(
     alloc: Global,
     profile: ProfileNumbers,
@@ -70,7 +70,7 @@ pub fn do_name<R: Read, W: Write, E: Write>(
     end_text_command(outcome, errors)
 }
 
-/// Reads the pattern, surveys it, and writes its finding.
+/// Reads the profile, the rule and the pattern, surveys the pattern, and writes its finding.
 fn name<R: Read, W: Write>(
     alloc: Global,
     profile: ProfileNumbers,
@@ -119,7 +119,7 @@ fn put_finding<W: Write>(output: &mut Out<W>, finding: &Finding) -> Result<(), W
     }
 }
 
-/// Writes the line about the checkpoint.
+/// Writes the line with the checkpoint at which the pattern settled.
 fn put_settled<W: Write>(output: &mut Out<W>, checkpoint: u32) -> Result<(), WriteError>
     requires { output.old.failed ≡ false }
     ensures { Writes W.contents output.old output.new result (codes "settled " ++ decimal checkpoint ++ codes "\n") }
@@ -128,7 +128,7 @@ fn put_settled<W: Write>(output: &mut Out<W>, checkpoint: u32) -> Result<(), Wri
     output.put(b"\n")
 }
 
-/// Writes a line for each object.
+/// Writes a line for each code of the objects.
 fn put_objects<W: Write>(output: &mut Out<W>, objects: &[(Apgcode, u64)]) -> Result<(), WriteError>
     requires { output.old.failed ≡ false }
     ensures { Writes W.contents output.old output.new result (flat_map object_line objects.now) }
@@ -139,7 +139,7 @@ fn put_objects<W: Write>(output: &mut Out<W>, objects: &[(Apgcode, u64)]) -> Res
     Ok(())
 }
 
-/// Writes the line of an object: its code, and how many objects have it.
+/// Writes the line of a code: the code, and how many objects have it.
 fn put_object<W: Write>(output: &mut Out<W>, object: &(Apgcode, u64)) -> Result<(), WriteError>
     requires { output.old.failed ≡ false }
     ensures { Writes W.contents output.old output.new result (object_line object.now) }

@@ -1,4 +1,5 @@
-//! Buffers: for the output of a command until it has ended, and for a line of standard error until it is complete.
+//! Buffers: one for the output of a command until the command has ended, and one for a line of standard error until the
+//! line is complete.
 
 ghost use Rattle.std.specs.Prelude.{◌≡◌, ◌≢◌, true, false, []};
 ghost use Rattle.std.specs.Io.Buffered.{writer_buffer, writer_contents};
@@ -21,8 +22,9 @@ pub type LineBuffer = ArrayVec<u8, 128>;
 /// Flushes what a command has left in the buffer, and returns the status with which the process ends. This is the
 /// command's own `status`, or `Failed` if the command printed its text and the flush fails.
 ///
-/// If `status` is neither `Done` nor `Incomplete`, nothing is written, and the buffer isn't touched. The line about a
-/// failure goes to `errors`. A failure to write that line is not reported.
+/// If `status` is neither `Done` nor `Incomplete`, nothing is written, and the buffer isn't touched. If the flush
+/// fails, a line is written to `errors`, unless an earlier write to `errors` failed. A failure to write that line is
+/// not reported.
 pub fn send_buffered<W: Write + Drop, E: Write>(
     status: Status,
     buffered: &mut BufWriter<W, Global>,

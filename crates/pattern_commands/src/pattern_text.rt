@@ -10,7 +10,7 @@ use plane_core::plane::pattern::Pattern;
 use requests::form::PatternForm;
 use std::io::Write;
 
-/// Writes the pattern in this form. It takes no memory.
+/// Writes the pattern in this form. This takes no memory.
 pub(crate) fn put_pattern<W: Write>(
     pattern: &Pattern,
     form: PatternForm,

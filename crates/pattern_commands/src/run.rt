@@ -97,7 +97,7 @@ fn run<R: Read, W: Write>(
 }
 
 /// Returns the pattern after `generations` generations. This fails only if memory runs out, because the pattern is too
-/// far from the edge of the plane to reach it in that time.
+/// far from the edge of the plane to reach the edge in these generations.
 pub(crate) fn generation_after(
     alloc: Global,
     pattern: &Pattern,

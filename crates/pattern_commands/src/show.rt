@@ -36,9 +36,9 @@ use std::io::Write;
 ///
 /// # Errors
 ///
-/// The status is `Refused` if the part before the first `_` isn't such a prefix, or the text isn't in extended Wechsler
-/// format; `Memory` if memory runs out; and `Failed` if the output can't be written. In these cases, a line is written
-/// to `errors`. A failure to write that line is not reported.
+/// The status is `Refused` if the code has a `_` and the part up to the first one isn't a prefix, or if the text isn't
+/// in extended Wechsler format; `Memory` if memory runs out; and `Failed` if the output can't be written. In these
+/// cases, a line is written to `errors`. A failure to write that line is not reported.
 pub fn do_show<W: Write, E: Write>(
     alloc: Global,
     code: &str,
@@ -99,7 +99,7 @@ fn parted(code: &str) -> Option<(&str, &str)>
     code.split_once('_')
 }
 
-/// Checks whether this part may precede the `_` of a code.
+/// Checks whether this part of a code may precede its first `_`: `xs`, `xp` or `xq`, and a number.
 #[tactic(auto, unfolding(crate::specs::Show::is_prefix))]
 fn is_prefix(prefix: &[u8]) -> bool
     ensures { result ≡ is_prefix prefix.now }
@@ -110,21 +110,21 @@ fn is_prefix(prefix: &[u8]) -> bool
     }
 }
 
-/// Checks whether this is the letter of a kind.
+/// Checks whether this is the letter of a kind: `s`, `p` or `q`.
 fn is_kind(byte: u8) -> bool
     ensures { result ≡ is_kind byte }
 {
     matches!(byte, b's' | b'p' | b'q')
 }
 
-/// Checks whether these are only digits, at least one.
+/// Checks whether these bytes are a number: only digits, and at least one.
 fn is_number(bytes: &[u8]) -> bool
     ensures { result ≡ is_number bytes.now }
 {
     !bytes.is_empty() && are_digits(bytes)
 }
 
-/// Checks whether these are only digits.
+/// Checks whether these bytes are only digits.
 fn are_digits(bytes: &[u8]) -> bool
     ensures { result ≡ list_all is_ascii_digit bytes.now }
 {

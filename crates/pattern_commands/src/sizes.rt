@@ -43,8 +43,8 @@ const STRETCH: u32 = 16;
 /// row and column are 0.
 ///
 /// `from` is at most `last`, which is at most 100,000. No earlier write to either writer may have failed. The rule is
-/// read first. If it is refused, nothing of the input is read. The lines are written while the pattern runs, so the
-/// memory doesn't depend on their number. `census run N --sizes FROM` is this call with the standard streams.
+/// read first. If it is refused, nothing of the input is read. The lines are written while the pattern runs, so they
+/// aren't kept in memory. `census run N --sizes FROM` is this call with the standard streams.
 ///
 /// # Errors
 ///

@@ -1,4 +1,4 @@
-//! Divides a pattern into clusters: each tree of its [forest](crate::clusters::union_find) is one.
+//! Divides a pattern into clusters: each tree of its [forest](crate::clusters::union_find) is a cluster.
 //!
 //! ```text
 //! O . O . . . O          place    0  1  2  3  4
@@ -6,9 +6,9 @@
 //! . . . O . . .          cluster  0  0  1  1  0
 //! ```
 //!
-//! The places are visited in order. A root begins the next cluster. Any other place belongs to the cluster of the
-//! earlier place to which it leads, which by then has the number of its cluster instead. So the clusters are in the
-//! order of their first cells, and the cells of each cluster are in order.
+//! The places are visited in order. A root begins the next cluster. Any other place leads to an earlier place, and
+//! belongs to the cluster of that place. When a place has been visited, its link is replaced by the number of its
+//! cluster. So the clusters are in the order of their first cells, and the cells of each cluster are in order.
 ghost use Rattle.std.specs.Prelude.{◌+◌, ◌<◌, length, All, IfOk, OnOk};
 ghost use Rattle.plane_core.specs.plane.Cells.{IsPattern};
 ghost use Rattle.plane_core.specs.clusters.Clusters.{AreClusters};
@@ -24,13 +24,14 @@ use crate::plane::pattern::Pattern;
 use memory::OutOfMemory;
 use std::alloc::Global;
 
-/// The number of cells for which a new cluster has room. Few clusters of a soup have more.
+/// The number of cells for which a new cluster has room. Few clusters of a soup have more cells.
 const COMMON_SIZE: usize = 8;
 
 impl Pattern {
     /// Returns the clusters, ordered by their first cells.
     ///
-    /// Two cells share a cluster if steps over live cells, each at most two cells in any direction, join them.
+    /// Two cells share a cluster if they are joined by a chain of live cells in which each cell is at most two columns
+    /// and two rows away from the next.
     ///
     /// # Errors
     ///
@@ -67,7 +68,7 @@ pub fn clusters_lie_apart()
     ensures { ClustersLieApart }
 {}
 
-/// The law that a pattern has one list of clusters.
+/// The law that a pattern has only one list of clusters.
 pub fn clusters_are_determined()
     ensures { ClustersAreDetermined }
 {}
@@ -77,8 +78,8 @@ pub fn clusters_move_along()
     ensures { ClustersMoveAlong }
 {}
 
-/// Returns each tree of a forest as the pattern of its cells. The forest is used up: each place gets the number of its
-/// cluster.
+/// Returns each tree of a forest as the pattern of its cells. The forest is overwritten: each place gets the number of
+/// its cluster.
 fn gathered(
     alloc: Global,
     cells: &[Cell],
@@ -97,7 +98,7 @@ fn gathered(
     Ok(clusters)
 }
 
-/// Puts the cell at a place into the cluster of the place to which it leads, and replaces the link of the place by the
+/// Puts the cell at `place` into the cluster of the earlier place to which `place` leads, and replaces the link by the
 /// number of that cluster. A root begins a new cluster.
 fn gather(
     alloc: Global,

@@ -1,4 +1,4 @@
-//! Computes the next generation of a pattern, or one many generations later.
+//! Computes the next generation of a pattern, or a generation much later.
 //!
 //! ```text
 //! run:  stretch (at most 256 generations)  ->  stretch  ->  ..
@@ -59,8 +59,8 @@ impl fmt::Debug for StepError {
 }
 
 impl StepError {
-    /// Returns the witness of an error that isn't `Edge`. This is for callers whose cells are too far from the edge of
-    /// the plane to reach it.
+    /// Returns the witness of an error that isn't `Edge`. This is for callers whose pattern can't reach the edge of the
+    /// plane.
     pub fn refusal(self) -> OutOfMemory
         requires inland { self ≢ StepError.Edge }
     {
@@ -71,11 +71,12 @@ impl StepError {
     }
 }
 
-/// The most generations that are run on one board. Then the pattern is read back and a new board is made, so that the
-/// board never is much wider than the pattern.
+/// The most generations that are run on one board. After them, the pattern is read back and a new board is made, so
+/// that the board never is much wider than the pattern.
 const STRETCH: u32 = 256;
 
-/// The most cuts that lead to one part of a pattern. Each cut is near the middle, so there may be very many parts.
+/// The most cuts, one within the other, that lead to one part of a pattern. Each cut is near the middle, so there may
+/// be very many parts.
 const CUTS: u32 = 40;
 
 impl<E: Into<OutOfMemory>> From<E> for StepError {
@@ -96,10 +97,10 @@ impl Pattern {
     /// # Errors
     ///
     /// `Edge` if a cell has a coordinate of -1,000,000 or 1,000,000, whether there is memory or not, and even if no
-    /// cell would be born past it. Otherwise `Memory` if memory runs out.
+    /// cell would be born past the edge of the plane. Otherwise `Memory` if memory runs out.
     pub fn step(&self, alloc: Global, rule: &Rule) -> Result<Pattern, StepError>
         ensures next { IfOk result (λ pattern. pattern ≡ next rule.now self.now) }
-        // For every cell of the plane: it is alive exactly if the rule's numbers say so.
+        // Each cell of the plane is alive in the next generation exactly if the rule's numbers say so.
         ensures every_cell { IfOk result (λ pattern. (c : Cell) → has pattern c ≡ lives rule.now self.now c) }
         ensures inside { OnOk result (touches_edge self.now ≡ false) }
         ensures refused { IfErr result (RefusesStep self.now) }
@@ -117,7 +118,7 @@ impl Pattern {
     }
 
     /// Checks whether a cell has a coordinate of -1,000,000 or 1,000,000. In that case, there is no next generation,
-    /// because a neighbour is off the plane.
+    /// because a neighbour of the cell is off the plane.
     pub fn touches_edge(&self) -> bool
         ensures { result ≡ touches_edge self.now }
     {
@@ -136,7 +137,7 @@ impl Pattern {
     /// The generations are made one after another, and the first failure is returned.
     ///
     /// - `Edge` if a generation before the last has a cell with a coordinate of -1,000,000 or 1,000,000. If the pattern
-    ///   itself has one, the error is `Edge` whether there is memory or not.
+    ///   itself has such a cell, the error is `Edge` whether there is memory or not.
     /// - `Memory` if memory runs out.
     ///
     /// # Examples
@@ -145,7 +146,7 @@ impl Pattern {
     pub fn run(&self, alloc: Global, rule: &Rule, generations: u32) -> Result<Pattern, StepError>
         ensures after { IfOk result (λ pattern. pattern ≡ after rule.now self.now generations) }
         ensures inside { OnOk result ((g : ℕ) → g < generations → touches_edge (after rule.now self.now g) ≡ false) }
-        // No pattern moves towards the edge faster than one cell per generation.
+        // The error isn't `Edge` if the pattern is too far from the edge to reach it at one cell per generation.
         ensures never_edge { (reach : ℕ) → lies_within reach self.now ≡ true → reach + generations ≤ plane_bound
             → result ≢ Err StepError.Edge }
         // If the pattern touches the edge from the start, the error is `Edge`, whether there is memory or not.
@@ -174,8 +175,8 @@ impl Pattern {
         Ok(pattern)
     }
 
-    /// Returns the pattern after `generations` generations, or `None` if a board isn't worth it, or is too small, for
-    /// some part. Each part that is far from the others is run on a board of its own. At most `cuts` cuts lead to a
+    /// Returns the pattern after `generations` generations. Each part that is far from the others is run on a board of
+    /// its own. Returns `None` if, for some part, a board isn't worth it or is too small. At most `cuts` cuts lead to a
     /// part.
     #[cycle(run_in_parts)]
     fn run_in_parts(
@@ -249,8 +250,8 @@ impl Pattern {
         side.run_in_parts(alloc, rule, generations, cuts)
     }
 
-    /// Returns the pattern after `generations` generations on a board with the frame `at`. `None` if there is no frame,
-    /// because a board isn't worth it, or if the pattern comes too near to the border of the board.
+    /// Returns the pattern after `generations` generations on a board with the frame `at`. Returns `None` if there is
+    /// no frame, because a board isn't worth it, or if the pattern comes too near to the border of the board.
     #[tactic(auto, using(crate::proofs::lemmas::plane::PartLemmas::ran_on_board))]
     fn run_on(
         &self,
@@ -274,7 +275,8 @@ impl Pattern {
     }
 }
 
-/// The law of the next generation: a cell is alive in it exactly if the rule's numbers say so, whatever the pattern.
+/// The law of the next generation: a cell is alive in the next generation of any pattern exactly if the rule's numbers
+/// say so.
 pub fn cells_follow_the_rule()
     ensures { CellsFollowTheRule }
 {}
@@ -292,14 +294,15 @@ pub fn far_patterns_run_alone()
     ensures { FarPatternsRunAlone }
 {}
 
-/// The laws of isotropy: the next generation of a moved or turned pattern is its next generation, moved or turned.
+/// The laws of isotropy: the next generation of a moved or turned pattern is the next generation of the pattern, moved
+/// or turned in the same way.
 pub fn isotropy()
     ensures moved { NextMoved }
     ensures turned { NextTurned }
 {}
 
 /// Returns the pattern that the board shows after `generations` generations, or `None` if the board has no room for
-/// them.
+/// these generations.
 fn shown_after(
     alloc: Global,
     board: &mut Board,

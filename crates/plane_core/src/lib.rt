@@ -6,7 +6,7 @@
 //! Each folder knows only the folders below it:
 //!
 //! ```text
-//! generation     step and run: which representation is the cheapest
+//! generation     step and run, with the cheapest representation
 //! one_sided      quick tests whose `true` is a proof and whose `false` says nothing
 //! engine         boards: leaps of up to four generations in windows
 //! windows        64 columns of cells in vectors, and a rule as operations on them

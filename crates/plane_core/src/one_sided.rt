@@ -4,12 +4,12 @@
 pub(crate) mod active_cells;
 pub(crate) mod crop;
 pub(crate) mod diverges;
-/// A checkpoint of a board that is rejected by one cluster.
+/// Rejecting a checkpoint of a board because of one cluster.
 pub mod early_reject;
 pub(crate) mod flood;
 pub(crate) mod follow;
 pub(crate) mod never_recurs;
-/// Tests on a small pattern, which is run in one window.
+/// Tests on a small pattern, which is run alone in windows.
 pub mod quick_test;
 pub(crate) mod rules_out_rest;
 /// Clusters that may be spaceships on their way out.

@@ -1,4 +1,4 @@
-//! A writer that remembers whether a write has failed, and the error for that.
+//! A writer that remembers whether a write has failed, and the error of a failed write.
 ghost use Rattle.std.specs.Prelude.{◌≡◌, ◌<◌, [], false};
 ghost use Rattle.plane_core.specs.Outputs.{Writes};
 
@@ -7,10 +7,11 @@ use std::io::{self, ErrorKind, Write};
 use std::marker::Model;
 use thiserror::Error;
 
-/// The witness that a write failed or took no byte. It is made only from a writer's error, or by a write that failed.
+/// The witness that a write failed or took no byte. It is made only from a writer's error, or by a write that took no
+/// byte.
 #[derive(Clone, Copy, PartialEq, Eq, Error)]
 pub struct WriteError {
-    /// The writer's kind of error, or `None` if it took no byte.
+    /// The kind of the writer's error, or `None` if the writer took no byte.
     kind: Option<ErrorKind>,
 }
 
@@ -28,7 +29,7 @@ impl fmt::Debug for WriteError {
 }
 
 impl WriteError {
-    /// Returns the witness that a writer's error carries.
+    /// Returns the witness for a writer's error.
     pub fn of_stream(error: &io::Error) -> WriteError {
         WriteError {
             kind: Some(error.kind()),
@@ -84,8 +85,8 @@ impl<V: Write> Out<V> {
     ///
     /// # Errors
     ///
-    /// [`WriteError`] if a write fails, for whatever reason, or takes no byte of what is left. A prefix of the piece
-    /// may have been written, and the `Out` is marked as failed.
+    /// [`WriteError`] if a write fails, for whatever reason, or takes none of the remaining bytes. A prefix of the
+    /// piece may have been written, and the `Out` is marked as failed.
     pub fn put(&mut self, piece: &[u8]) -> Result<(), WriteError>
         requires { self.old.failed ≡ false }
         ensures { Writes V.contents self.old self.new result piece.now }

@@ -108,10 +108,10 @@ impl fmt::Debug for PlaintextError {
 impl Pattern {
     /// Reads a plaintext pattern file (LifeWiki, "Plaintext").
     ///
-    /// Lines end with a line feed, which the last may lack. A carriage return at the end of a line is dropped. A line
-    /// that begins with `!` is a comment. Each other line is the next row, from y = 0 on, and its bytes are the cells
-    /// from x = 0 on: `.` is dead, `O` and `*` are alive. There may be up to 1,000 columns and 1,000 rows, including
-    /// dead cells. More empty rows may follow.
+    /// Lines end with a line feed, which the last line may lack. A carriage return at the end of a line is dropped. A
+    /// line that begins with `!` is a comment. Each other line is the next row, from y = 0 on, and its bytes are the
+    /// cells from x = 0 on: `.` is dead, `O` and `*` are alive. There may be up to 1,000 columns and 1,000 rows,
+    /// including dead cells. More empty rows may follow.
     ///
     /// # Errors
     ///
@@ -135,8 +135,8 @@ impl Pattern {
     }
 
     /// Writes the pattern as plaintext (LifeWiki, "Plaintext"): the rows of its smallest box from the top, each from
-    /// the box's left column to its right column with `.` and `O`, and a line feed after each. Nothing is written for
-    /// the empty pattern. No earlier write to the `Out` may have failed.
+    /// the box's left column to its right column with `.` and `O`, and a line feed after each row. Nothing is written
+    /// for the empty pattern. No earlier write to the `Out` may have failed.
     ///
     /// This takes no memory. Each live cell is a write of one byte, so the writer should be buffered, for example by a
     /// `BufWriter`.
@@ -160,8 +160,8 @@ impl Pattern {
     }
 }
 
-/// The law of patterns whose box is at most 1,000 by 1,000: what is written is read as the same pattern, moved to the
-/// corner.
+/// The law that the plaintext of a pattern is read as the same pattern, moved to the corner (0, 0), if the pattern's
+/// box is at most 1,000 by 1,000.
 #[tactic(auto, using(crate::proofs::lemmas::plaintext::PlaintextRoundTrip::round_trip))]
 pub fn round_trip()
     ensures { (cells : List Cell) → IsPattern cells → IfSome (box_of cells) FitsThousandSquare
@@ -199,8 +199,8 @@ fn is_live(byte: u8) -> bool
     byte == LIVE || byte == STAR
 }
 
-/// Returns the first fault of a row, which is row `y` of the pattern, counted from 0, and line `line` of the text,
-/// counted from 1.
+/// Returns the first fault of a row, or `None` if it has no fault. The row is row `y` of the pattern, counted from 0,
+/// and line `line` of the text, counted from 1.
 fn fault_in_row(line: usize, y: usize, row: &[u8]) -> Option<PlaintextFault>
     ensures { result ≡ first_fault (places_of_row (y, (line, row.now))) }
 {
@@ -220,7 +220,7 @@ fn fault_in_row(line: usize, y: usize, row: &[u8]) -> Option<PlaintextFault>
     None
 }
 
-/// Returns the first fault of a text.
+/// Returns the first fault of a text, or `None` if it has no fault.
 fn fault_in(text: &[u8]) -> Option<PlaintextFault>
     ensures { result ≡ first_fault (places text.now) }
 {
@@ -239,7 +239,7 @@ fn fault_in(text: &[u8]) -> Option<PlaintextFault>
     None
 }
 
-/// Appends the live cells of row `y`, whose bytes are all in the first 1,000 columns and rows, to the list.
+/// Appends the live cells of row `y` to the list. All bytes of the row are in the first 1,000 columns and rows.
 #[tactic(auto, using(crate::proofs::lemmas::plaintext::PlaintextRows::live_here, crate::proofs::lemmas::plaintext::PlaintextRows::dead_here, crate::proofs::lemmas::plaintext::PlaintextRows::no_cell_past))]
 fn push_row(cells: &mut Vec<Cell>, y: usize, row: &[u8]) -> Result<(), OutOfMemory>
     requires { (x : ℕ) → x < length row.now → (x < side_limit) × (y < side_limit) }
@@ -302,7 +302,7 @@ fn row_len(cells: &[Cell], y: i32) -> usize
     len
 }
 
-/// Returns the list without the cells of row `y` at its beginning.
+/// Returns the rest of the list, after the cells of row `y` with which it begins.
 fn below(cells: &[Cell], y: i32) -> &[Cell]
     ensures { result.now ≡ drop (prefix_len (λ c. int_eq c.y y) cells.now) cells.now }
 {

@@ -9,7 +9,7 @@ pub mod coordinate;
 /// How fast patterns grow in diagonal directions.
 pub mod frontier_speed;
 mod list_generation;
-/// Locality: how far influence reaches in a number of generations.
+/// Locality: how far the influence of a cell reaches in a number of generations.
 pub mod locality;
 /// The eight orientations.
 pub mod orientation;

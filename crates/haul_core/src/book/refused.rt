@@ -5,7 +5,8 @@ use memory::OutOfMemory;
 use std::fmt;
 use thiserror::Error;
 
-/// Why a report is refused. `census gather` has words of its own for these, some of which also name the soup.
+/// Why a report is refused. `census gather` prints texts of its own for these reasons, and some of its texts also name
+/// the soup.
 #[derive(Clone, Copy, PartialEq, Eq, Error)]
 pub enum OfferError {
     /// The haul is closed.
@@ -14,9 +15,9 @@ pub enum OfferError {
     OtherJob,
     /// The number of the report's worker is higher than the haul's number of workers.
     UnknownWorker,
-    /// The number isn't in the haul's set.
+    /// The number of the report's soup isn't in the haul's set.
     OutOfRange,
-    /// A report of this soup was taken before, from this worker.
+    /// The haul has already taken a report on this soup, by `worker`.
     Double { worker: u8 },
     /// Memory ran out.
     Memory(OutOfMemory),

@@ -1,4 +1,4 @@
-//! The samples of a code: the three lowest numbers of soups that left such an object.
+//! The samples of a code: the three lowest numbers of soups that left an object with this code.
 //!
 //! ```text
 //! 5 12 40   and then 7     7 goes before 12, and 40 falls out
@@ -101,8 +101,8 @@ pub fn least_three_are_determined()
     ensures { LeastThreeAreDetermined }
 {}
 
-/// Inserts a number among the first `count`, which keep their order, and returns the highest of them all, which is left
-/// over.
+/// Inserts a number into the first `count` numbers of the array, which stay ascending. Returns the highest of these
+/// `count` + 1 numbers, for which there is no room among the first `count`.
 fn put(numbers: &mut [u64; MOST_SAMPLES], count: usize, number: u64) -> u64
     requires few { count ≤ 3 }
     requires ascending { IsAscending (take count numbers.old) }

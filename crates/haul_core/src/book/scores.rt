@@ -27,14 +27,14 @@ use survey_core::finding::Finding;
 pub(crate) struct Score {
     /// The number of objects that have the code.
     pub(crate) total: u128,
-    /// The three lowest numbers of soups that left such an object.
+    /// The three lowest numbers of soups that left an object with the code.
     pub(crate) samples: Samples,
 }
 
 /// The totals over the surveyed soups.
 #[derive(Drop)]
 pub(crate) struct Totals {
-    /// A score for each code of an object that one of the soups left, and perhaps further scores with total 0.
+    /// A score for each code of the objects that the soups left. Further codes may have a blank score.
     pub(crate) scores: IndexMap<Apgcode, Score>,
     /// The number of unsettled soups.
     pub(crate) unsettled: u64,
@@ -43,7 +43,7 @@ pub(crate) struct Totals {
 }
 
 impl Totals {
-    /// Returns the totals over no soup.
+    /// Returns the totals before any soup is added.
     pub(crate) fn none(alloc: Global) -> Totals
         ensures scores { result.scores.entries ≡ [] }
         ensures unsettled { result.unsettled ≡ 0 }
@@ -144,7 +144,7 @@ impl Score {
         }
     }
 
-    /// Returns the score after one more soup, number `number`, with `count` objects.
+    /// Returns the score after one more soup, number `number`, which left `count` objects with the code.
     fn with(&self, count: u64, number: u64) -> Score
         requires { self.now.total + count < 2 ^ 128 }
         ensures { result ≡ added (Some count) number self.now }
@@ -157,7 +157,7 @@ impl Score {
     }
 }
 
-/// Adds the scores of other totals. If there is no memory, some of them have been added.
+/// Adds each of the other scores to the score of its code. If memory runs out, only some of them have been added.
 fn add_scores(
     alloc: Global,
     scores: &mut IndexMap<Apgcode, Score>,
@@ -176,7 +176,7 @@ fn add_scores(
     Ok(())
 }
 
-/// Adds another score to the score of its code, which is made if there is none.
+/// Adds another score to the score of its code. If the code has no score yet, a blank score is made first.
 fn add_score(
     alloc: Global,
     scores: &mut IndexMap<Apgcode, Score>,
@@ -194,7 +194,7 @@ fn add_score(
     Ok(())
 }
 
-/// Adds another score to the score of its code, which has to have one.
+/// Adds another score to the score of its code. The code has to have a score.
 fn put_together(scores: &mut IndexMap<Apgcode, Score>, code: &Apgcode, score: &Score)
     requires score { HasScore scores.old.entries code.now }
     requires room { (score_in scores.old.entries code.now).total + score.now.total < 2 ^ 128 }
@@ -209,7 +209,8 @@ fn put_together(scores: &mut IndexMap<Apgcode, Score>, code: &Apgcode, score: &S
     scores[index] = joined;
 }
 
-/// Makes a blank score for each code that doesn't have a score yet. If there is no memory, the scores are unchanged.
+/// Makes a blank score for each code of these objects that doesn't have a score yet. If there is no memory, the scores
+/// are unchanged.
 pub(crate) fn make_scores(
     alloc: Global,
     scores: &mut IndexMap<Apgcode, Score>,
@@ -227,7 +228,8 @@ pub(crate) fn make_scores(
     made
 }
 
-/// Makes a blank score for each code that doesn't have a score yet. If there is no memory, some of them have been made.
+/// Makes a blank score for each code of these objects that doesn't have a score yet. If memory runs out, only some of
+/// these scores have been made.
 fn make_each_score(
     alloc: Global,
     scores: &mut IndexMap<Apgcode, Score>,
@@ -242,7 +244,7 @@ fn make_each_score(
     Ok(())
 }
 
-/// Makes a score for a code, unless it has one.
+/// Makes a blank score for a code, unless the code has a score already.
 fn make_score(
     alloc: Global,
     scores: &mut IndexMap<Apgcode, Score>,
@@ -277,7 +279,7 @@ pub(crate) fn add(scores: &mut IndexMap<Apgcode, Score>, objects: &[(Apgcode, u6
     }
 }
 
-/// Adds the objects of one code, which has to have a score.
+/// Adds the `count` objects with this code that soup `number` left. The code has to have a score.
 fn add_one(scores: &mut IndexMap<Apgcode, Score>, code: &Apgcode, count: u64, number: u64)
     requires score { HasScore scores.old.entries code.now }
     requires room { (score_in scores.old.entries code.now).total + count < 2 ^ 128 }

@@ -18,7 +18,8 @@ mod read_start;
 
 /// What a worker claims about a soup: the job, the worker, the soup's number, and the finding.
 ///
-/// Its numbers and texts are within the limits of report lines. What it says about the soup may be wrong.
+/// The claim's numbers and texts are within the limits of report lines. What the claim says about the soup may be
+/// wrong.
 #[derive(Debug, Drop)]
 pub struct Claim {
     version: u8,
@@ -72,7 +73,7 @@ impl Claim {
         self.number
     }
 
-    /// Returns what the claim says about a soup that settled, or `None` if it says that the soup didn't settle.
+    /// Returns what the claim says about a soup that settled, or `None` if the claim says that the soup didn't settle.
     pub fn settled(&self) -> Option<&SettledClaim>
         ensures found { option_map (λ said. said.now) result ≡ self.now.found }
         ensures claim { IsClaim self.now }
@@ -98,8 +99,8 @@ impl Model for SettledClaim {
 }
 
 impl SettledClaim {
-    /// Returns each code with the number of objects that are said to have it. By `IsClaim`, the codes of a claim are in
-    /// ASCII order, each once, and the numbers are at least 1.
+    /// Returns the codes, each with the number of objects that have it according to the claim. By `IsClaim`, the codes
+    /// of a claim are in ASCII order, each once, and the numbers are at least 1.
     pub fn counts(&self) -> &[(ClaimedCode, u64)]
         ensures { result.now ≡ self.now.counts }
     {

@@ -1,4 +1,4 @@
-//! Writes report lines, with which workers on other machines report what they found.
+//! Writes report lines, in which workers on other machines report what they found.
 //!
 //! ```text
 //! report 2 rule=b3s23 profile=64,512,101,30300 seed= worker=1 soup=5 at=404 good=no xp2_7*3 xs4_33*2
@@ -21,8 +21,8 @@ use survey_core::profile::Profile;
 /// Writes the line of a report, in version 2, with the line feed that ends it. No earlier write to the `Out` may have
 /// failed.
 ///
-/// This takes no memory. Each name and number is a write, so the writer should be buffered, for example by a
-/// `BufWriter`.
+/// This takes no memory. Each name and each number is a write of its own, so the writer should be buffered, for example
+/// by a `BufWriter`.
 ///
 /// # Errors
 ///
@@ -36,7 +36,7 @@ pub fn write_report_line<W: Write>(report: &Report, out: &mut Out<W>) -> Result<
     out.put(b"\n")
 }
 
-/// Writes the fields before the finding.
+/// Writes the head of the line: the fields before the finding.
 fn put_head<W: Write>(out: &mut Out<W>, report: &Report) -> Result<(), WriteError>
     requires { out.old.failed ≡ false }
     ensures { Writes W.contents out.old out.new result
@@ -63,7 +63,7 @@ fn put_profile<W: Write>(out: &mut Out<W>, profile: &Profile) -> Result<(), Writ
     put_number(out, b",", profile.limit())
 }
 
-/// Writes the fields of a finding, with a space before each.
+/// Writes the fields of a finding, with a space before each field.
 fn put_finding<W: Write>(out: &mut Out<W>, finding: &Finding) -> Result<(), WriteError>
     requires { out.old.failed ≡ false }
     ensures { Writes W.contents out.old out.new result (flat_map spaced (found_fields (said_of 2 finding.now))) }
@@ -95,7 +95,7 @@ fn put_mark<W: Write>(out: &mut Out<W>, for_good: bool) -> Result<(), WriteError
     }
 }
 
-/// Writes a field for each code, with a space before each.
+/// Writes a field for each code, with a space before each field.
 fn put_counts<W: Write>(out: &mut Out<W>, counts: &[(Apgcode, u64)]) -> Result<(), WriteError>
     requires { out.old.failed ≡ false }
     ensures { Writes W.contents out.old out.new result (flat_map (λ object. spaced (count_field object)) counts.now) }
@@ -106,7 +106,7 @@ fn put_counts<W: Write>(out: &mut Out<W>, counts: &[(Apgcode, u64)]) -> Result<(
     Ok(())
 }
 
-/// Writes a code and how many objects have it, with a space before them.
+/// Writes the field of a code, with a space before it: the code, `*` and the number of objects that have the code.
 fn put_count<W: Write>(out: &mut Out<W>, object: &(Apgcode, u64)) -> Result<(), WriteError>
     requires { out.old.failed ≡ false }
     ensures { Writes W.contents out.old out.new result (spaced (count_field object.now)) }

@@ -19,7 +19,7 @@ use ranges::range_list::ListError;
 use std::io::Write;
 use survey_core::seed::SeedFault;
 
-/// Why a command didn't do all that was asked. It determines the line on standard error and the status.
+/// Why a command didn't do all that was asked. A complaint determines the last line on standard error and the status.
 #[derive(Clone, Copy)]
 pub enum Complaint {
     /// A text was refused.
@@ -48,7 +48,7 @@ impl Complaint {
         }
     }
 
-    /// Writes the line in one write. No earlier write to `errors` may have failed. This takes no memory.
+    /// Writes the complaint's line in one write. No earlier write to `errors` may have failed. This takes no memory.
     ///
     /// # Errors
     ///
@@ -60,7 +60,7 @@ impl Complaint {
         ErrorText::Complaint(self).write_line(errors)
     }
 
-    /// Writes the text of the line piece by piece.
+    /// Writes the text of the complaint's line piece by piece.
     pub(crate) fn put_text<E: Write>(self, errors: &mut Out<E>) -> Result<(), WriteError>
         requires { errors.old.failed ≡ false }
         ensures { Writes E.contents errors.old errors.new result (complaint_text self) }
@@ -73,7 +73,7 @@ impl Complaint {
         }
     }
 
-    /// Writes the line and returns the status. A failure to write the line is not reported.
+    /// Writes the complaint's line and returns the complaint's status. A failure to write the line is not reported.
     pub fn end_command<E: Write>(self, errors: &mut Out<E>) -> Status
         requires { errors.old.failed ≡ false }
         ensures status { result ≡ status_of self }

@@ -1,4 +1,4 @@
-//! The last line of standard error: `census: `, its text, and a line feed.
+//! The last line of standard error: `census: `, a text, and a line feed.
 
 ghost use Rattle.std.specs.Prelude.{◌≡◌, false};
 ghost use Rattle.plane_core.specs.Outputs.{Writes};
@@ -10,7 +10,7 @@ use code_core::decimal::put_number;
 use plane_core::output::{Out, WriteError};
 use std::io::Write;
 
-/// What the line says.
+/// What the last line of standard error says.
 #[derive(Clone, Copy)]
 pub(crate) enum ErrorText {
     /// Why a command didn't do all that was asked.
@@ -46,7 +46,7 @@ impl ErrorText {
         errors.put(b"\n")
     }
 
-    /// Writes the text piece by piece.
+    /// Writes the text of the line piece by piece.
     fn put_text<E: Write>(self, errors: &mut Out<E>) -> Result<(), WriteError>
         requires { errors.old.failed ≡ false }
         ensures { Writes E.contents errors.old errors.new result (text_of_error self) }
@@ -58,7 +58,7 @@ impl ErrorText {
     }
 }
 
-/// Writes how many soups are missing.
+/// Writes the text that says how many soups are missing.
 fn put_missing_text<E: Write>(missing: u64, errors: &mut Out<E>) -> Result<(), WriteError>
     requires { errors.old.failed ≡ false }
     ensures { Writes E.contents errors.old errors.new result (text_of_error (ErrorText.Missing missing)) }

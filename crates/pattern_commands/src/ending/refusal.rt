@@ -1,4 +1,4 @@
-//! Why a text or an input is refused, and the words that say so. `error_line` makes a line of them.
+//! Why a text or an input is refused, and the text that says so. `error_line` makes a line of this text.
 
 ghost use Rattle.std.specs.Prelude.{◌≡◌, false};
 ghost use Rattle.plane_core.specs.Outputs.{Writes};
@@ -15,23 +15,23 @@ pub enum Refusal {
     BadByte { line: usize, column: usize },
     /// A plaintext pattern with more than 1,000 columns or rows.
     PatternTooLarge,
-    /// A rule whose byte at `place` isn't allowed there, or that ends there too early. Places count bytes from 0.
+    /// A rule text whose byte at `place` isn't allowed there, or that ends there too early. Places count bytes from 0.
     BadRule { place: usize },
     /// A rule with birth on zero neighbours.
     BirthZero,
-    /// A code whose part before the `_` isn't a valid prefix.
+    /// A code whose part before the first `_` isn't a valid prefix.
     NotACode,
     /// A code whose text has more than 10,000 bytes.
     CodeTooLong,
-    /// A byte of a code's text that isn't allowed there. Places count bytes of the text from 0.
+    /// A byte of a code's text, at `place`, that isn't allowed there. Places count bytes of the text from 0.
     CodeBadByte { place: usize },
-    /// A `y` in a code's text without the length of its run.
+    /// A `y` in a code's text, at `place`, that isn't followed by the length of its run.
     CodeShortRun { place: usize },
     /// A code whose text has no live cell.
     CodeEmpty,
     /// A seed of more than 64 bytes.
     SeedTooLong,
-    /// A byte of a seed that isn't a visible ASCII character. Places count bytes from 0.
+    /// A byte of a seed, at `place`, that isn't a visible ASCII character. Places count bytes from 0.
     SeedBadByte { place: usize },
     /// A profile whose horizon is below its period.
     HorizonBelowPeriod,

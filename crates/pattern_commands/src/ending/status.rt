@@ -16,12 +16,12 @@ pub enum Status {
     Memory,
     /// Reading or writing failed.
     Failed,
-    /// The haul was printed, and soups of its set are missing.
+    /// The haul was printed, but soups of its set are missing.
     Incomplete,
 }
 
 impl Status {
-    /// Returns the number that the process ends with.
+    /// Returns the number with which the process ends: 0, or 2 to 6.
     pub fn exit_code(self) -> u8
         ensures { result ≡ exit_code self }
     {

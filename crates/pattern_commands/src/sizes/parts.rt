@@ -49,7 +49,7 @@ pub(crate) fn boards_for(
 }
 
 /// Returns the end of the part that begins at place `from`: the first later place whose cell is more than `far` rows
-/// below the cell before it, or the number of cells if there is none.
+/// below the cell before it, or the number of cells if there is no such place.
 fn part_end(cells: &[Cell], from: usize, far: u32) -> usize
     requires order { InOrder cells.now }
     requires from { from < length cells.now }
@@ -65,7 +65,7 @@ fn part_end(cells: &[Cell], from: usize, far: u32) -> usize
     cells.len()
 }
 
-/// Appends a board for a part of a pattern. Returns `false` if a board isn't worth it.
+/// Appends a board for a part of a pattern. Returns `false` if [`Board::around`] makes no board for the part.
 fn push_board(
     alloc: Global,
     rule: &Rule,
@@ -97,7 +97,7 @@ fn pattern_of(alloc: Global, cells: &[Cell]) -> Result<Pattern, OutOfMemory>
     }
 }
 
-/// Advances each board by one generation. Returns `false` if some board has no room for it.
+/// Advances each board by one generation. Returns `false` if some board has no room for the next generation.
 pub(crate) fn advance_each(boards: &mut [Board]) -> Result<bool, OutOfMemory>
     ensures { IfOk result (λ all. all ≡ true → boards.new ≡ map advanced boards.old) }
 {

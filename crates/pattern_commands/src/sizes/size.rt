@@ -1,4 +1,4 @@
-//! The size of a pattern, and its line.
+//! The size of a pattern, and the line that `run --sizes` writes for it.
 
 ghost use Rattle.std.specs.Prelude.{◌≡◌, ◌++◌, [], false, IfSome, List};
 ghost use Rattle.plane_core.specs.Outputs.{Writes};
@@ -13,7 +13,7 @@ use plane_core::plane::bounds::Bounds;
 use plane_core::plane::pattern::Pattern;
 use std::io::Write;
 
-/// The size of a pattern.
+/// The size of a pattern: its population and its bounding box.
 #[derive(Clone, Copy)]
 pub(crate) struct Size {
     /// The number of live cells.
@@ -56,7 +56,7 @@ impl Size {
         })
     }
 
-    /// Writes the line of this size at a generation.
+    /// Writes the line of a generation with this size.
     pub(crate) fn put_line<W: Write>(
         self,
         generation: u32,

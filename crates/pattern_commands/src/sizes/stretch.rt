@@ -17,8 +17,8 @@ use plane_core::plane::rule::Rule;
 use std::alloc::Global;
 use std::io::Write;
 
-/// Writes the lines of the next generations of a pattern, and returns their number, which is at most `most`, and 0 if
-/// boards aren't worth it. `pattern` is generation `generation`.
+/// Writes the lines of the next generations of a pattern, and returns their number, which is at most `most`. The number
+/// is 0 if some part of the pattern gets no board. `pattern` is generation `generation`.
 pub(crate) fn put_stretch<W: Write>(
     alloc: Global,
     rule: &Rule,
@@ -67,8 +67,8 @@ fn put_board_sizes<W: Write>(
     Ok(made)
 }
 
-/// Advances each board by one generation, and returns the size of all together. Returns `None` if some board has no
-/// room for it, or if there are more cells than can be counted.
+/// Advances each board by one generation, and returns the size of all boards' cells together. Returns `None` if some
+/// board has no room for the next generation, or if there are more cells than can be counted.
 fn next_size(alloc: Global, boards: &mut [Board]) -> Result<Option<Size>, OutOfMemory>
     ensures { IfOk result (λ found. IfSome found (λ size. (boards.new ≡ map advanced boards.old)
         × (size ≡ pattern_size (flat_map (λ board. board.cells) boards.new)))) }

@@ -1,4 +1,4 @@
-//! Finds which cells of a pattern share a cluster, with a forest over the places of its cells.
+//! Finds which cells of a pattern share a cluster, with a forest over the places of the cells.
 //!
 //! ```text
 //! O . O . . . O          0 . 1 . . . 2          place    0  1  2  3  4
@@ -7,13 +7,15 @@
 //! ```
 //!
 //! Each place leads to an earlier place of its tree, or to itself if it is a root. At first, all places are roots. Then
-//! each place, in order, is joined with the earlier places whose cells are near, which means at most two columns and
-//! two rows away: the later one of the two roots then leads to the earlier one. At the end, each tree is a cluster.
+//! each place, in order, is joined with the earlier places whose cells are near: at most two columns and two rows away.
+//! When two places are joined, the later one of their roots is made to lead to the earlier one. At the end, each tree
+//! is a cluster.
 //!
-//! Near cells that come earlier are in the cell's own row or in the two rows above. Which places these rows have is
-//! found once for each row, so that only columns are compared. What is too far to the left of a cell is skipped for the
-//! rest of its row. In its own row, a cell is joined with the cell just before it. If that cell is near, it has been
-//! joined with everything that is near both, so in the rows above at most one cell is usually left.
+//! The earlier cells near a cell are in its own row or in the two rows above. The places of the two rows above are
+//! found once for each row, so that only columns are compared. Cells above that are too far to the left of a cell are
+//! skipped for the rest of the cell's row. In its own row, a cell is joined with the cell just before it, if that is
+//! near. The cell before has already been joined with each cell that is near both. So in the rows above, there is
+//! usually at most one cell left to join.
 ghost use Rattle.std.specs.Prelude.{◌≡◌, ◌≢◌, ◌+◌, ◌<◌, ◌<ℤ◌, ◌≤◌, ◌≤ℤ◌, ◌-◌, ℕ, ℤ, true, IfOk, List, length, nat_le};
 ghost use Rattle.std.specs.declared.cmp.Ordering.TheVariants.{Less};
 ghost use Rattle.plane_core.specs.plane.Cells.{IsPattern, cell_cmp, king_distance, on_plane};
@@ -28,16 +30,15 @@ use crate::plane::coordinate::{along, apart};
 use memory::OutOfMemory;
 use std::alloc::Global;
 
-/// Places from `from` to before `end`, whose cells are in one row. What comes before them in the row is too far to the
-/// left.
+/// Places from `from` to before `end`, whose cells are in one row. Earlier cells of the row are too far to the left.
 #[derive(Clone, Copy)]
 struct RowPlaces {
     from: usize,
     end: usize,
 }
 
-/// The places of the row above a cell and of the row above that one (`top`). All cells at places before `begin` are
-/// further up.
+/// The places of the row just above a cell (`above`) and of the row above that (`top`). All cells at places before
+/// `begin` are further up.
 #[derive(Clone, Copy)]
 struct RowsAbove {
     begin: usize,
@@ -167,8 +168,9 @@ fn first_from<A: Axis>(cells: &[Cell], from: usize, end: usize, least: i32) -> u
     at
 }
 
-/// Joins `place` with the place before it, if the cell there is in the same row and near. Returns the first column
-/// whose cells in the rows above still have to be joined with `place`. Cells that are near both are joined already.
+/// Joins `place` with the place before it, if the cell there is in the same row and near. Returns the first column in
+/// which cells of the rows above may still have to be joined with `place`. Near cells to the left of this column are
+/// also near the cell before, so they are joined already.
 #[inline(always)]
 fn join_before(cells: &[Cell], parents: &mut [usize], place: usize) -> i32
     requires pattern { IsPattern cells.now }
@@ -189,9 +191,9 @@ fn join_before(cells: &[Cell], parents: &mut [usize], place: usize) -> i32
     along(before.x, 3)
 }
 
-/// Joins `place` with the earlier places whose cells are in the range from `from` to `to`, both included, and not to
-/// the left of column `fresh`. The range is a part of a row with these places, and all its cells are near. Returns the
-/// first place of the row that isn't to the left of `from`.
+/// Joins `place` with the places of `row` whose cells are in the columns from `from` to `to`, both included, and not to
+/// the left of column `fresh`. `from` and `to` are in that row, and all cells between them are near. Returns the first
+/// place of the row whose cell isn't to the left of `from`.
 #[inline(always)]
 fn join_row(
     cells: &[Cell],
@@ -228,7 +230,7 @@ fn join_row(
     first
 }
 
-/// Joins the trees of two places: the later root then leads to the earlier one.
+/// Joins the trees of two places: the later one of their roots then leads to the earlier one.
 #[inline(always)]
 fn join(parents: &mut [usize], one: usize, other: usize)
     requires one { one < length parents.old }

@@ -1,7 +1,7 @@
-//! Active boxes: outside of them, every cell is the same two generations later.
+//! Active boxes: each cell of a board that differs two generations later is in a box, or within 2 of a box.
 //!
 //! When a board is loaded, there is a box for each group of cells that are close together. After a leap, there is a box
-//! for each window in which something still changes. So a part that is at rest or alternates costs nothing:
+//! for each window in which something still changes. So a part of the pattern with period 1 or 2 costs nothing:
 //!
 //! ```text
 //! +-----+
@@ -21,11 +21,11 @@ use crate::plane::bounds::Bounds;
 use crate::plane::cell::Cell;
 use memory::OutOfMemory;
 
-/// The number of boxes, counted from the last, that may be widened by a new part.
+/// The number of boxes, counted from the end of the list, that may be widened by a new part.
 const LAST_BOXES: usize = 16;
 
-/// Widens boxes of the list, and adds others, so that they contain these cells too. If memory runs out, they contain at
-/// least what they did.
+/// Widens boxes of the list, and adds new boxes, so that the boxes contain these cells too. If memory runs out, the
+/// boxes contain at least what they contained before.
 pub(crate) fn put_in_boxes(cells: &[Cell], boxes: &mut Vec<Bounds>) -> Result<(), OutOfMemory>
     ensures wider { AreWider boxes.old.items boxes.new.items }
     ensures held { OnOk result (HoldAll boxes.new.items cells.now) }
@@ -38,15 +38,16 @@ pub(crate) fn put_in_boxes(cells: &[Cell], boxes: &mut Vec<Bounds>) -> Result<()
     Ok(())
 }
 
-/// Widens the last box that is near the part, if one of the last sixteen is, so that it contains the part. Otherwise
-/// the part becomes a box. If memory runs out, the boxes contain at least what they did.
+/// Puts a part into a box. The last one of the last sixteen boxes that is near the part is widened, so that it contains
+/// the part. If none of them is near, the part becomes a new box. If memory runs out, the boxes contain at least what
+/// they contained before.
 pub(crate) fn put_in_box(part: Bounds, boxes: &mut Vec<Bounds>) -> Result<(), OutOfMemory>
     ensures wider { AreWider boxes.old.items boxes.new.items }
     ensures held { OnOk result ((c : Cell) → IsWithin part c → IsInOne boxes.new.items c) }
     ensures sides { (n : ℕ) → AreSidesWithin n part → All (AreSidesWithin n) boxes.old.items
         → All (AreSidesWithin n) boxes.new.items }
 {
-    // Usually it is the last one.
+    // Usually the last box is near.
     let mut i = boxes.len();
     let earliest = i.saturating_sub(LAST_BOXES);
     while i > earliest {
@@ -61,8 +62,8 @@ pub(crate) fn put_in_box(part: Bounds, boxes: &mut Vec<Bounds>) -> Result<(), Ou
     Ok(())
 }
 
-/// Checks whether the part is at most eight columns and rows from the box, and both together fit one window. The sides
-/// are near the plane, so no difference wraps around.
+/// Checks whether the part is at most eight columns and rows from the box, and both together fit one window. All sides
+/// are on the plane or close to it, so no difference wraps around.
 #[inline(always)]
 fn is_near(bounds: Bounds, part: Bounds) -> bool {
     part.left.wrapping_sub(bounds.right) <= 8

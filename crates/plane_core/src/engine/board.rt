@@ -4,12 +4,12 @@
 //! a leap runs windows that cover the boxes, and everything else stays as it is:
 //!
 //! ```text
-//! +--------+                     the box of what changes
+//! +--------+                     a box of cells that change
 //! | .OO    |   +-----------+
 //! | OO.    |   |  window   |     Only the inner part of a window is right after four generations, and is put back.
 //! |  O     |   | +-------+ |
 //! +--------+   | | inner | |     The boxes for the next leap are where the last generation of this leap differs from
-//!              | +-------+ |     the one two before it.
+//!              | +-------+ |     the generation two before it.
 //!              +-----------+
 //! ```
 ghost use Rattle.std.specs.Prelude.{◌≡◌, [], IfOk, IfSome, true, false};
@@ -38,35 +38,36 @@ use memory::OutOfMemory;
 use std::alloc::Global;
 use std::marker::Model;
 
-/// The word columns of a large board: 64, and one more, because a window needs a word column to its right.
+/// The number of word columns of a large board: 64, and one more, because a window needs a word column to its right.
 const LARGE_WORD_COLUMNS: usize = 65;
 
-/// The rows of a large board: 4,096, and 72 more. If the number of rows were a multiple of 512, the same row of several
-/// word columns would share a place in the processor's cache.
+/// The number of rows of a large board: 4,096, and 72 more. If the number of rows were a multiple of 512, the same row
+/// of several word columns would share a place in the processor's cache.
 const LARGE_ROWS: usize = 4168;
 
-/// The first column of a large board whose word columns, without the last one, are around the origin.
+/// The first column of a large board. The word columns, without the last one, are centred on the origin.
 const LARGE_LEFT: i32 = -32 * (LARGE_WORD_COLUMNS as i32 - 1);
 
-/// The first row of a large board around the origin.
+/// The first row of a large board. The rows are centred on the origin.
 const LARGE_TOP: i32 = -(LARGE_ROWS as i32) / 2;
 
-/// The word columns of a small board, whose words are cleared quickly: 8, and one more.
+/// The number of word columns of a small board, whose words are cleared quickly: 8, and one more.
 const SMALL_WORD_COLUMNS: usize = 9;
 
-/// The rows of a small board: 512, and 72 more.
+/// The number of rows of a small board: 512, and 72 more.
 const SMALL_ROWS: usize = 584;
 
-/// The first column of a small board around the origin.
+/// The first column of a small board. The word columns, without the last one, are centred on the origin.
 const SMALL_LEFT: i32 = -32 * (SMALL_WORD_COLUMNS as i32 - 1);
 
-/// The first row of a small board around the origin.
+/// The first row of a small board. The rows are centred on the origin.
 const SMALL_TOP: i32 = -(SMALL_ROWS as i32) / 2;
 
-/// The most generations for which a board gets room around a pattern.
+/// The most generations for which [`Board::around`] makes a board.
 const MOST_AROUND: u32 = 1000;
 
-/// The number of cells for which a list has room from the start when a pattern is read. They take a kilobyte.
+/// The number of cells for which a list has room from the start when the pattern of a board is listed. They take a
+/// kilobyte.
 const ROOM: usize = 128;
 
 /// A pattern on a board, and a rule.
@@ -74,7 +75,7 @@ pub struct Board {
     at: Frame,
     logic: RuleLogic,
     words: Vec<u64>,
-    /// The rows of each word column that may have a live cell.
+    /// For each word column, the rows that may have a live cell.
     spans: Vec<RowSpan>,
     boxes: Vec<Bounds>,
     /// Whether the boxes hold all live cells.
@@ -142,8 +143,8 @@ impl Board {
         Board::blank(alloc, rule, at)
     }
 
-    /// Makes an empty board as `large` does, with 512 columns, one more word column, and 584 rows. This is fifty times
-    /// as fast.
+    /// Makes an empty board as `large` does, but with 512 columns, one more word column, and 584 rows. This takes a
+    /// fiftieth of the time.
     ///
     /// # Errors
     ///
@@ -266,7 +267,8 @@ impl Board {
         Ok(true)
     }
 
-    /// Returns the active boxes. Tests use them only to choose where to look, so no contract says anything about them.
+    /// Returns the active boxes. One-sided tests use them only to choose where to look, so no contract says anything
+    /// about them.
     pub(crate) fn active_boxes(&self) -> &[Bounds] {
         self.boxes.as_slice()
     }

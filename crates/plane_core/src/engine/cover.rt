@@ -1,12 +1,12 @@
 //! Covers the boxes, and a margin of four columns and rows around each, with the inner parts of windows.
 //!
 //! First, boxes that are close together are united into rectangles, if that is cheaper. Then windows are laid side by
-//! side over each rectangle, so that their inner parts leave no gap. They have as few rows as possible:
+//! side over each rectangle, so that their inner parts leave no gap. The windows have as few rows as possible:
 //!
 //! ```text
-//! +-------+-------+        The rectangle is 90 columns by 80 rows. Two inner parts of 56 columns side by side,
-//! | +-----+-----+ |        and two of 40 rows below one another, cover it. They reach as far past it on one side
-//! | |     |     | |        as on the other.
+//! +-------+-------+        The inner rectangle is 90 columns by 80 rows. Four inner parts of 56 columns and 40
+//! | +-----+-----+ |        rows cover it, two side by side and two below one another. They reach as far past it
+//! | |     |     | |        on one side as on the other.
 //! +-------+-------+
 //! | |     |     | |
 //! | +-----+-----+ |
@@ -27,36 +27,36 @@ use crate::plane::bounds::Bounds;
 use crate::windows::geometry::{self, LEAST_ROWS, MOST_ROWS};
 use memory::OutOfMemory;
 
-/// The number of rectangles, counted from the last, with which a box may be united.
+/// The number of rectangles, counted from the end of the list, with which a box may be united.
 const UNITED_AT_ONCE: usize = 16;
 
-/// The columns and rows on each side of a window that may be wrong after four generations.
+/// The number of columns and rows on each side of a window that may be wrong after four generations.
 const MARGIN: i32 = geometry::MARGIN as i32;
 
-/// The columns of a window that are right after four generations.
+/// The number of columns of a window that are right after four generations.
 const INNER_COLUMNS: u32 = geometry::INNER_COLUMNS as u32;
 
-/// The columns from one window to the next, if they are side by side.
+/// The number of columns from the first column of a window to that of the next window beside it.
 const SPACING: i32 = INNER_COLUMNS as i32;
 
 /// The most rows of a window that are right after four generations.
 const MOST_INNER_ROWS: u32 = geometry::MOST_INNER_ROWS as u32;
 
-/// The rows of a window that are above and below its inner rows.
+/// The number of rows of a window that are above or below its inner rows.
 const OUTER_ROWS: u32 = 2 * geometry::MARGIN as u32;
 
-/// The largest result of `slack`.
+/// The most rows that a union may cost more than its two rectangles.
 const MOST_SLACK: u64 = 64;
 
-/// Spans of one length, side by side: where the first begins, and how many there are.
+/// Spans of equal length, side by side: where the first span begins, and how many spans there are.
 #[derive(Clone, Copy)]
 struct Spans {
     first: i32,
     count: u32,
 }
 
-/// Replaces the list by windows over the boxes, so that each cell within 4 of a box is in the inner part of a window.
-/// `rectangles` is used only during the call.
+/// Replaces the list `windows` by windows over the boxes, so that each cell within 4 of a box is in the inner part of a
+/// window. `rectangles` is used only during the call.
 pub(crate) fn cover(
     boxes: &[Bounds],
     rectangles: &mut Vec<Bounds>,
@@ -73,7 +73,7 @@ pub(crate) fn cover(
     Ok(())
 }
 
-/// Replaces the list by rectangles around the boxes, with a margin of four columns and rows.
+/// Replaces the list `rectangles` by rectangles around the boxes, with a margin of four columns and rows.
 fn unite(boxes: &[Bounds], rectangles: &mut Vec<Bounds>) -> Result<(), OutOfMemory>
     requires { All (AreSidesWithin box_bound) boxes.now }
     ensures near { OnOk result ((c : Cell) → IsNearOne 4 boxes.now c → IsInOne rectangles.new.items c) }
@@ -94,8 +94,8 @@ fn unite(boxes: &[Bounds], rectangles: &mut Vec<Bounds>) -> Result<(), OutOfMemo
     Ok(())
 }
 
-/// Returns the rectangle, united with each of the last sixteen of the list for which that is cheaper. Rectangles that
-/// were united with it are removed from the list.
+/// Returns the rectangle, united with those of the last sixteen rectangles of the list for which a union is cheaper.
+/// These rectangles are removed from the list.
 fn absorbed(rectangles: &mut Vec<Bounds>, rectangle: Bounds, slack: u64) -> Bounds
     requires all_sides { All (AreSidesWithin rectangle_bound) rectangles.old.items }
     requires sides { AreSidesWithin rectangle_bound rectangle }
@@ -118,16 +118,16 @@ fn absorbed(rectangles: &mut Vec<Bounds>, rectangle: Bounds, slack: u64) -> Boun
     all
 }
 
-/// Returns how much more a union may cost than its two rectangles, in rows. If there are many boxes, the pattern is
-/// dense, and rectangles that overlap would grow into each other from leap to leap, so that more and more windows run
-/// the same cells.
+/// Returns how much more a union may cost than its two rectangles, in rows. The result grows with the number of boxes.
+/// If there are many boxes, the pattern is dense, and rectangles that overlap without being united would grow into each
+/// other from leap to leap, so that more and more windows run the same cells.
 fn slack(boxes: usize) -> u64 {
     (boxes as u64 / 8).saturating_mul(4).min(MOST_SLACK)
 }
 
 /// Checks whether the smallest rectangle that contains both costs at most as much as the two together, plus `slack`.
-/// Usually the two are far apart: if a column or a row of windows fits between them, nothing is saved. The sides are
-/// near the plane, so no difference wraps around.
+/// Usually the two are far apart: if a column or a row of windows fits between them, a union saves nothing. All sides
+/// are on the plane or close to it, so no difference wraps around.
 #[inline(always)]
 fn pays(one: Bounds, other: Bounds, slack: u64) -> bool {
     let rows = MOST_INNER_ROWS as i32;
@@ -141,9 +141,9 @@ fn pays(one: Bounds, other: Bounds, slack: u64) -> bool {
                 .saturating_add(slack)
 }
 
-/// Returns about the cost, in rows, of running the windows that cover the rectangle. A window has about 12 rows more
-/// than it covers, and costs another 8 by itself. No branch depends on the rectangle. The product is far below 2^64, so
-/// it doesn't wrap around.
+/// Returns the approximate cost, in rows, of running the windows that cover the rectangle. A window has about 12 rows
+/// more than it covers, and each window costs as much as 8 more rows. No branch depends on the rectangle. The product
+/// is far below 2^64, so it doesn't wrap around.
 #[inline(always)]
 fn cost_of(rectangle: Bounds) -> u64 {
     let across = rectangle.left.abs_diff(rectangle.right) / INNER_COLUMNS + 1;
@@ -171,7 +171,7 @@ fn window_rows(length: u32) -> u32
         .min(MOST_ROWS as u32)
 }
 
-/// Lays windows over a rectangle. Usually one is enough.
+/// Lays windows over a rectangle. Usually one window is enough.
 #[inline(always)]
 fn lay(rectangle: Bounds, windows: &mut Vec<LeapWindow>) -> Result<(), OutOfMemory>
     requires { AreSidesWithin rectangle_bound rectangle }
@@ -188,7 +188,7 @@ fn lay(rectangle: Bounds, windows: &mut Vec<LeapWindow>) -> Result<(), OutOfMemo
 }
 
 /// Returns a window over a rectangle of `across + 1` columns and `down + 1` rows. It reaches as far past the rectangle
-/// on one side as on the other, or one further on the right and below.
+/// on one side as on the other, or one column further on the right, and one row further below.
 #[inline(always)]
 fn one_window(rectangle: Bounds, across: u32, down: u32) -> LeapWindow
     requires sides { AreSidesWithin rectangle_bound rectangle }
@@ -251,7 +251,7 @@ fn lay_row(
 }
 
 /// Returns spans of `size` numbers each, side by side, that cover the numbers from `first` to `last`. They reach as far
-/// past one end as past the other, or one further past `last`.
+/// past one end as past the other, or one number further past `last`.
 #[inline(always)]
 #[tactic(auto, using(crate::proofs::lemmas::engine::CoverLemmas::beside_few))]
 fn side_by_side(first: i32, last: i32, size: u32) -> Spans
@@ -278,7 +278,7 @@ fn spans_needed(length: u32, size: u32) -> u32
     requires size { 1 ≤ size }
     ensures { result ≡ length / size + 1 }
 {
-    // Usually one is enough, and a division would take longer than all the rest.
+    // Usually one span is enough, and a division would take longer than all the rest.
     if length < size {
         return 1;
     }

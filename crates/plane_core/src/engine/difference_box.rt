@@ -1,4 +1,4 @@
-//! Where two windows differ, and the box around it.
+//! The box around the cells in which two windows differ.
 //!
 //! ```text
 //!   rows         columns   0011010...

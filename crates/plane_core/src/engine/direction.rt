@@ -27,7 +27,8 @@ pub(crate) struct Direction {
 }
 
 impl Orientation {
-    /// Returns the direction that the orientation turns to the right and down. There are two orientations for each.
+    /// Returns the direction that the orientation turns to the right and down. Each direction belongs to two
+    /// orientations.
     pub(crate) fn direction(self) -> Direction
         ensures { (c : Cell) → depth_in result c ≡ depth (turned_cell self c) }
     {
@@ -84,7 +85,7 @@ impl Direction {
     }
 }
 
-/// Returns `at` if coordinates are counted forwards, and `-at` otherwise.
+/// Returns the coordinate `at` if it is counted forwards, and `-at` if it is counted backwards.
 fn counted(forwards: bool, at: i32) -> i32
     requires { unsigned_abs at ≤ plane_bound }
     ensures counted { result ≡ counted forwards at }

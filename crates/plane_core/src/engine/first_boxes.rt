@@ -1,10 +1,10 @@
 //! The first boxes of a board, which contain all cells of a pattern. Cells that are close together in a row form a run,
-//! which is put in a box at once, because a dense pattern has many more cells than runs:
+//! which is put in a box as a whole, because a dense pattern has many more cells than runs:
 //!
 //! ```text
 //! +-------------+
-//! | OOO.O.OO... |      Three rows, and a run in each. A run is put in the box of those above it, if
-//! | .O.OO.OOOO. |      it is near them and the box stays small enough for one window.
+//! | OOO.O.OO... |      Three rows, and a run in each. A run is put in the box of the runs above it, if
+//! | .O.OO.OOOO. |      the run is near the box and the box stays small enough for one window.
 //! | ..OO..O.O.. |
 //! +-------------+
 //! ```
@@ -19,14 +19,14 @@ use crate::plane::bounds::Bounds;
 use crate::plane::cell::Cell;
 use memory::OutOfMemory;
 
-/// The largest distance between neighbouring cells of a run.
+/// The most columns from one cell of a run to the next.
 const GAP: u32 = 8;
 
-/// The most columns of a run. With a margin of four, it fits the inner part of a window.
+/// The most columns of a run. With a margin of four columns on each side, the run fits the inner part of a window.
 const LENGTH: u32 = 48;
 
 /// Replaces the list by boxes that contain all cells, one for each group of cells that are close together. With a
-/// margin of four columns and rows, each fits the inner part of a window. So a trail across the plane gets several
+/// margin of four columns and rows, each box fits the inner part of a window. So a trail across the plane gets several
 /// boxes along it instead of one large box.
 pub(crate) fn boxes_round(cells: &[Cell], boxes: &mut Vec<Bounds>) -> Result<(), OutOfMemory>
     ensures held { OnOk result (HoldAll boxes.new.items cells.now) }
@@ -48,7 +48,7 @@ pub(crate) fn boxes_round(cells: &[Cell], boxes: &mut Vec<Bounds>) -> Result<(),
     put_in_box(run, boxes)
 }
 
-/// Checks whether the cell is in the row of the run and near its end, and the run stays short with it.
+/// Checks whether the cell is in the row of the run and near the run's end, and the run with the cell is short enough.
 #[inline(always)]
 fn is_at_end(run: Bounds, cell: Cell) -> bool {
     cell.y == run.top && cell.x.abs_diff(run.right) <= GAP && cell.x.abs_diff(run.left) < LENGTH

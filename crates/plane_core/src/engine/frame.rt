@@ -34,8 +34,8 @@ pub(crate) struct Frame {
     pub(crate) rows: usize,
 }
 
-/// The margin of a board: the number of columns and rows on each side of the box that its pattern may reach. A window
-/// that covers a cell begins at most 36 columns or rows before the cell, and ends at most as far past it.
+/// The margin of a board: the number of columns and rows on each side of the box that the board's pattern may reach. A
+/// window that covers a cell begins at most 36 columns or rows before the cell, and ends at most 36 past it.
 const BOARD_MARGIN: u32 = 40;
 
 /// The fewest columns and rows on each side of a pattern that is shown in the middle of a board.
@@ -106,7 +106,7 @@ impl Frame {
     }
 
     /// Returns the frame of the same size with the pattern in its middle, or `None` if the pattern has no room there or
-    /// the frame would be off the plane. For the empty pattern, it is the same frame.
+    /// the frame would be off the plane. For the empty pattern, the frame stays where it is.
     pub(crate) fn centred(self, pattern: &Pattern) -> Option<Frame>
         requires frame { IsFrame self }
         requires plane { AreSidesWithin plane_bound (bounds_of self) }
@@ -170,7 +170,7 @@ impl Frame {
         count > 262_144 && (count - 262_144) / 256 > population
     }
 
-    /// Returns the number of words.
+    /// Returns the number of words of the board.
     pub(crate) fn count(self) -> usize
         requires { IsFrame self }
         ensures count { result ≡ self.word_columns * self.rows }
@@ -179,7 +179,7 @@ impl Frame {
         self.word_columns * self.rows
     }
 
-    /// Returns the place in the list of words of row `row` of word column `word_column`.
+    /// Returns the place of a word in the list of words: the word of row `row` of word column `word_column`.
     pub(crate) fn index(self, word_column: usize, row: usize) -> usize
         requires frame { IsFrame self }
         requires word_column { word_column < self.word_columns }
@@ -191,7 +191,7 @@ impl Frame {
         word_column * self.rows + row
     }
 
-    /// Returns the first cell of a row of a word column.
+    /// Returns the leftmost cell of a row of a word column.
     pub(crate) fn corner(self, word_column: usize, row: usize) -> Cell
         requires frame { IsFrame self }
         requires word_column { word_column < self.word_columns }

@@ -1,6 +1,6 @@
 //! Leaps: one to four generations of a board at once.
 //!
-//! All windows are read from the board and run by themselves, and then all inner parts are put back:
+//! All windows are read from the board and run, each by itself, and then all inner parts are put back:
 //!
 //! ```text
 //! board  ->  window 0  ->  ..  ->  window 0  ->
@@ -8,7 +8,7 @@
 //!        ->  window 2  ->  ..  ->  window 2  ->
 //! ```
 //!
-//! So windows may overlap: what two of them put back is the same.
+//! So windows may overlap: where the inner parts of two windows overlap, both windows put back the same.
 ghost use Rattle.std.specs.Prelude.{◌≡◌, ◌*◌, ◌<◌, ◌≤◌, [], All, IfOk, IfSome, OnOk, length, true};
 ghost use Rattle.plane_core.specs.windows.RuleLogic.{rule_of};
 ghost use Rattle.plane_core.specs.engine.Frames.{FillsFrame, IsFrame};
@@ -55,7 +55,7 @@ fn run<const N: usize, A: CellLogic>(
     difference_of(window, &earlier)
 }
 
-/// Runs a window of N vectors, and stores its rows in `held`.
+/// Runs a window of N vectors, and stores its rows in `held`. Returns what [`run`] returns.
 fn run_vectors<const R: usize, const N: usize, A: CellLogic>(
     words: &[u64],
     at: Frame,
@@ -81,7 +81,8 @@ fn run_vectors<const R: usize, const N: usize, A: CellLogic>(
     Some(change)
 }
 
-/// Runs a window, and stores its rows in `held`. Returns `None` if there is no function for its number of rows.
+/// Runs a window, and stores its rows in `held`. Returns what [`run`] returns, or `None` if there is no function for
+/// the window's number of rows.
 fn run_window<A: CellLogic>(
     words: &[u64],
     at: Frame,
@@ -125,8 +126,9 @@ fn make_room(held: &mut Vec<[u64; 64]>, count: usize) -> Result<(), OutOfMemory>
 /// Runs all windows, and returns whether all are on the board. Life has functions of its own, which hold no code for
 /// other rules.
 ///
-/// The rows of each window are stored, and `boxes` is replaced by a box for each window in which something has changed
-/// or, after an odd number of generations, is alive. So all memory is allocated before the first word is written.
+/// The rows of each window are stored in `held`, and `boxes` is replaced by a box for each window in which a cell
+/// differs from what it was two generations earlier or, if `count` is odd, is alive. So all memory is allocated before
+/// the first word is written.
 pub(crate) fn run_all(
     words: &[u64],
     at: Frame,
@@ -153,7 +155,7 @@ pub(crate) fn run_all(
     }
 }
 
-/// Runs one window after another. There is room in `held` for the rows of each.
+/// Runs one window after another, as [`run_all`] does. There is room in `held` for the rows of each window.
 fn run_each<A: CellLogic>(
     words: &[u64],
     at: Frame,
@@ -189,7 +191,7 @@ fn run_each<A: CellLogic>(
     Ok(true)
 }
 
-/// Puts all inner parts back, and widens the spans by them. An inner part may be in two word columns.
+/// Puts all inner parts back, and widens the spans by their rows. An inner part may be in two word columns.
 pub(crate) fn put_all(
     words: &mut [u64],
     spans: &mut [RowSpan],

@@ -1,7 +1,7 @@
 //! A window of a leap: where it is on the plane, and how many rows it has.
 //!
-//! A window has 64 columns and 20 to 56 rows, and everything outside is taken for dead. So after four generations, only
-//! its inner part is right, four cells inside its border:
+//! A window has 64 columns and 20 to 56 rows, and all cells outside of it are taken for dead. So after four
+//! generations, only its inner part is right, which begins four cells inside the border:
 //!
 //! ```text
 //! +--------------------+

@@ -1,8 +1,8 @@
 //! Lists the cells of a board in order: row by row, and each row from the left.
 //!
-//! The rows are read in bands of eight, from the first that a span reaches to the last. Most word columns have no live
-//! cell in a band. Either their span doesn't reach the band, or its eight words are tested at once. What is read of a
-//! band, in brackets, reaches from the first word column with a live cell to the last:
+//! The rows are read in bands of eight, from the first band that a span reaches to the last. Most word columns have no
+//! live cell in a band: either the word column's span doesn't reach the band, or one test of its eight words shows it.
+//! In each band, the word columns from the first to the last one with a live cell are read. They are in brackets here:
 //!
 //! ```text
 //! word column   0     1     2     3     4
@@ -31,7 +31,7 @@ use memory::OutOfMemory;
 use std::alloc::Global;
 
 /// Returns the pattern that a board on the plane shows. Its live cells are all in the spans. The list of cells has room
-/// for `room` of them from the start. The cells are listed in order, so `in_order` doesn't sort them.
+/// for `room` cells from the start. The cells are listed in order, so `in_order` doesn't sort them.
 pub(crate) fn list(
     alloc: Global,
     at: Frame,
@@ -76,7 +76,7 @@ pub(crate) fn read_word(word: u64, first: Cell, cells: &mut Vec<Cell>) -> Result
     Ok(())
 }
 
-/// Returns the cell `columns` columns to the right, at most 63.
+/// Returns the cell that is `columns` columns, at most 63, to the right of `cell`.
 pub(crate) fn along(cell: Cell, columns: usize) -> Cell
     requires cell { unsigned_abs cell.x ≤ 2 ^ 24 }
     requires columns { columns < 64 }
@@ -134,8 +134,8 @@ fn read_band(
     Ok(())
 }
 
-/// Returns the word columns from the first to the last that have a live cell in a band. They are among `word_columns`.
-/// If no cell of the band is alive, the span is empty.
+/// Returns the word columns from the first to the last one with a live cell in a band. They are among `word_columns`.
+/// If no cell of the band is alive, the result is an empty span.
 fn word_columns_of_band(
     at: Frame,
     words: &[u64],

@@ -2,9 +2,9 @@
 //!
 //! ```text
 //!  cells             window               cells
-//! (3, 1)         . . . . . . .           (1, 2)
-//! (3, 2)    ->   . . . O . . .     ->    (2, 2)
-//! (3, 3)         . . . O . . .           (3, 2)
+//! (3, 1)         . . . . . . .           (2, 2)
+//! (3, 2)    ->   . . . O . . .     ->    (3, 2)
+//! (3, 3)         . . . O . . .           (4, 2)
 //!                . . . O . . .
 //! ```
 ghost use Rattle.std.specs.Prelude.{◌≡◌, IfOk, IfSome, true};
@@ -32,7 +32,7 @@ use memory::OutOfMemory;
 use std::alloc::Global;
 use std::simd::u64x4;
 
-/// The largest distance of the sides of a pattern's box from the origin: far from the edge of the plane.
+/// The largest distance from the origin that a side of a pattern's box may have: far from the edge of the plane.
 const INLAND: u32 = 900_000;
 
 /// The number of cells for which there is room from the start when a pattern is listed.
@@ -45,7 +45,8 @@ pub(crate) struct WindowOrigin {
     pub(crate) top: i32,
 }
 
-/// Returns the next generation of a pattern, or `None` if it is empty, too large for a window, or too far out.
+/// Returns the next generation of a pattern, or `None` if the pattern is empty, too large for a window, or too far from
+/// the origin.
 pub(crate) fn next_in_window(
     alloc: Global,
     rule: &Rule,
@@ -84,8 +85,8 @@ pub(crate) fn pattern_of(alloc: Global, at: Frame, rows: &[u64; 64]) -> Result<P
     list(alloc, at, rows, &spans, ROOM)
 }
 
-/// Returns the origin of a window that has the pattern in its middle, far from the edge of the plane. `None` if the
-/// pattern is empty, larger than 62 by 62 cells, or too far out.
+/// Returns the origin of a window that has the pattern in its middle, far from the edge of the plane. Returns `None` if
+/// the pattern is empty, larger than 62 by 62 cells, or too far from the origin of the plane.
 pub(crate) fn origin_round(pattern: &Pattern) -> Option<WindowOrigin>
     ensures inland { IfSome result IsInland }
     ensures inside { IfSome result

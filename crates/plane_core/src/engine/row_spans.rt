@@ -1,11 +1,11 @@
-//! The rows of each word column of a board that may have a live cell. They make it cheap to read and clear a large
-//! board that is nearly empty:
+//! The spans of a board: for each word column, the rows that may have a live cell. They make it cheap to read and clear
+//! a large board that is nearly empty:
 //!
 //! ```text
 //! word column   0     1     2     3
 //! row 0         .     .     .     .
-//! row 1         .     #     .     .      The rows from the first that was written in a word column to the last.
-//! row 2         .     #     #     .      Outside of them, everything is dead.
+//! row 1         .     #     .     .      The span of a word column has the rows from the first that was written in it
+//! row 2         .     #     #     .      to the last. Outside of the spans, everything is dead.
 //! row 3         .     .     #     .
 //! ```
 ghost use Rattle.std.specs.Prelude.{◌≡◌, ◌+◌, ◌/◌, ◌<◌, ◌≤◌, ◌⊎◌};
@@ -17,7 +17,7 @@ ghost use Rattle.plane_core.specs.engine.RowSpans.{HasRow, IsInSpan, LieInSpans}
 
 use crate::engine::frame::Frame;
 
-/// The numbers from `from` to before `end`: usually rows.
+/// The numbers from `from` to before `end`, usually of rows.
 #[derive(Clone, Copy)]
 pub(crate) struct RowSpan {
     pub(crate) from: usize,
@@ -35,7 +35,7 @@ impl RowSpan {
         }
     }
 
-    /// Returns the smallest span that contains both.
+    /// Returns the smallest span that contains both spans.
     pub(crate) fn joined(self, other: RowSpan) -> RowSpan
         ensures first { (n : ℕ) → HasRow self n → HasRow result n }
         ensures second { (n : ℕ) → HasRow other n → HasRow result n }
@@ -46,7 +46,8 @@ impl RowSpan {
         }
     }
 
-    /// Returns the part of the span that is below `limit`. It is never reversed: `from` is at most `end`.
+    /// Returns the part of the span that is below `limit`. The result is never reversed: its `from` is at most its
+    /// `end`.
     pub(crate) fn below(self, limit: usize) -> RowSpan
         ensures order { result.from ≤ result.end }
         ensures most { result.end ≤ limit }
@@ -69,8 +70,8 @@ pub(crate) fn widen(spans: &mut [RowSpan], word_column: usize, rows: RowSpan)
     spans[word_column] = spans[word_column].joined(rows);
 }
 
-/// The hull of some spans: the word columns from the first that has rows to the last, and the rows from the first to
-/// the last.
+/// The hull of the spans of a board: the word columns from the first to the last one whose span has rows, and the rows
+/// from the first to the last row of these spans.
 #[derive(Clone, Copy)]
 pub(crate) struct Hull {
     pub(crate) word_columns: RowSpan,

@@ -28,7 +28,8 @@ fn inner_if(inside: bool) -> u64
     if inside { INNER_COLUMN_MASK } else { 0 }
 }
 
-/// Returns where two windows differ in vector `k`, within their inner parts. `one` and `other` are this vector of each.
+/// Returns where two windows differ in vector `k`, within their inner parts. `one` and `other` are vector `k` of the
+/// two windows.
 #[inline(always)]
 fn differing<const N: usize>(one: u64x4, other: u64x4, k: usize) -> u64x4
     requires low { k < N }
@@ -45,8 +46,8 @@ fn differing<const N: usize>(one: u64x4, other: u64x4, k: usize) -> u64x4
         ])
 }
 
-/// Returns, in each lane, a word with the bit of the lane's row of the window if `places` has a 1 in the lane, or 0
-/// otherwise.
+/// Returns a word in each lane. If the lane of `places` isn't 0, the word has the bit of the lane's row of the window.
+/// Otherwise the word is 0.
 #[inline(always)]
 fn marked<const N: usize>(places: u64x4, k: usize) -> u64x4
     requires low { k < N }

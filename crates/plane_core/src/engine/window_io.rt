@@ -74,8 +74,8 @@ pub(crate) fn read_rows<const R: usize>(words: &[u64], at: Frame, x: usize, y: u
     rows
 }
 
-/// Returns four rows: each consists of the end of a word of `first`, from column `shift` on, and the beginning of one
-/// of `second`.
+/// Returns four rows: each consists of the end of a word of `first`, from column `shift` on, and the beginning of a
+/// word of `second`.
 #[inline(always)]
 fn joined(first: [u64; 4], second: [u64; 4], shift: usize) -> [u64; 4]
     requires { shift < 64 }
@@ -89,7 +89,7 @@ fn joined(first: [u64; 4], second: [u64; 4], shift: usize) -> [u64; 4]
     (ends | beginnings).to_array()
 }
 
-/// Returns the part of `word` that is in the first word column, if the word begins in column `shift` of it.
+/// Returns the part of `word` that is in the first word column, if the word begins in column `shift` of the first.
 #[inline(always)]
 fn in_first(word: u64, shift: usize) -> u64
     requires { shift < 64 }
@@ -121,8 +121,8 @@ fn put_word(words: &mut [u64], i: usize, mask: u64, value: u64)
     words[i] = old ^ ((old ^ value) & mask);
 }
 
-/// Replaces the bits of four words, from word `i` on, with those of the values wherever the mask has a 1. All four are
-/// read before one is written, so that the compiler can do it with vectors.
+/// Replaces the bits of four words, from word `i` on, with those of the values wherever the mask has a 1. All four
+/// words are read before one is written, so that the compiler can use vectors.
 #[inline(always)]
 fn put_words(words: &mut [u64], i: usize, mask: u64, values: [u64; 4])
     requires { i + 4 ≤ length words.old }
@@ -135,8 +135,8 @@ fn put_words(words: &mut [u64], i: usize, mask: u64, values: [u64; 4])
     set_words(words, i, new.to_array());
 }
 
-/// Does what `in_first` does, for the four rows from row `r` on: each is a word that begins in column `shift` of the
-/// first word column.
+/// Returns, for each of the four rows from row `r` on, the part of its word that is in the first word column. The words
+/// begin in column `shift` of the first word column.
 #[inline(always)]
 fn in_first_of(rows: &[u64; 64], r: usize, shift: usize) -> [u64; 4]
     requires rows { r + 4 ≤ 64 }
@@ -151,7 +151,8 @@ fn in_first_of(rows: &[u64; 64], r: usize, shift: usize) -> [u64; 4]
     values
 }
 
-/// Returns, for each of the four rows from row `r` on, the part of its word that is in the second word column.
+/// Returns, for each of the four rows from row `r` on, the part of its word that is in the second word column. The
+/// words begin in column `shift` of the first word column.
 #[inline(always)]
 fn in_second_of(rows: &[u64; 64], r: usize, shift: usize) -> [u64; 4]
     requires rows { r + 4 ≤ 64 }
@@ -166,7 +167,7 @@ fn in_second_of(rows: &[u64; 64], r: usize, shift: usize) -> [u64; 4]
     values
 }
 
-/// Puts the inner columns of a window's row back. The row begins in column `x` and row `y` of the board.
+/// Puts back the inner columns of a window's row. The row begins in column `x` and row `y` of the board.
 #[inline(always)]
 fn write_row(words: &mut [u64], at: Frame, x: usize, y: usize, word: u64)
     requires long { FillsFrame at words.old }
@@ -190,8 +191,8 @@ fn write_row(words: &mut [u64], at: Frame, x: usize, y: usize, word: u64)
     );
 }
 
-/// Puts the inner columns of the four rows of a window from row `r` on back. Row `r` begins in column `x` and row `y`
-/// of the board.
+/// Puts back the inner columns of four rows of a window, from row `r` on. Row `r` begins in column `x` and row `y` of
+/// the board.
 #[inline(always)]
 fn write_rows(words: &mut [u64], at: Frame, x: usize, y: usize, rows: &[u64; 64], r: usize)
     requires long { FillsFrame at words.old }
@@ -213,7 +214,7 @@ fn write_rows(words: &mut [u64], at: Frame, x: usize, y: usize, rows: &[u64; 64]
     );
 }
 
-/// Puts the inner part of a window back: the inner columns of its rows from 4 to before `end`. The window begins in
+/// Puts back the inner part of a window: the inner columns of its rows from 4 to before `end`. The window begins in
 /// column `x` and row `y` of the board. Four rows are put back at a time, and the remaining rows one by one.
 #[inline(always)]
 pub(crate) fn write(words: &mut [u64], at: Frame, x: usize, y: usize, end: usize, rows: &[u64; 64])

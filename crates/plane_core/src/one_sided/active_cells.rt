@@ -1,10 +1,10 @@
-//! The live cells in the middle of a window that are dead two generations later. A part that is at rest or alternates
-//! has none:
+//! The live cells in the middle of a window that are dead two generations later. A part with period 1 or 2 has no such
+//! cells:
 //!
 //! ```text
 //! . . . . . . . .      . . . . . . . .
-//! . O O . . . O .      . . . . . . 1 .      Two cells of the glider are dead two generations later. Those of the block
-//! . O O . . . . O      . . . . . . . .      are alive.
+//! . O O . . . O .      . . . . . . 1 .      Two cells of the glider are dead two generations later. The cells of the
+//! . O O . . . . O      . . . . . . . .      block are alive.
 //! . . . . . O O O      . . . . . . 1 .
 //! ```
 use crate::one_sided::crop::{crop, uncrop};
@@ -37,7 +37,8 @@ pub(crate) fn changing_cells(rows: &[u64; 64], rule: &RuleLogic) -> [u64; 64] {
     uncrop::<32, 8>(&cells, 16)
 }
 
-/// Returns a cell of rows 18 to 45, or `None` if there is none. The rows in the middle come first.
+/// Returns a cell whose bit is 1 in rows 18 to 45, or `None` if there is no such cell. The rows in the middle come
+/// first.
 pub(crate) fn first_cell(rows: &[u64; 64]) -> Option<Spot> {
     for d in 0..14 {
         if rows[31 - d] != 0 {
@@ -50,7 +51,7 @@ pub(crate) fn first_cell(rows: &[u64; 64]) -> Option<Spot> {
     None
 }
 
-/// Returns the leftmost cell of a row, among those in the middle columns if there are any. `cells` isn't 0.
+/// Returns the leftmost cell of a row, among the cells in the middle columns if there are any. `cells` isn't 0.
 fn spot_in(row: usize, cells: u64) -> Spot {
     let middle = cells & MIDDLE;
     let found = if middle == 0 { cells } else { middle };

@@ -1,9 +1,9 @@
-//! The rows of a window that contain a cluster, as a smaller window, in which tests take less time.
+//! Crops: the rows of a window that contain a cluster, as a smaller window, in which tests take less time.
 //!
 //! ```text
 //!  0  . . . . . . . .
 //!  1  . . . . . . . .     . . . . . . . .   0
-//!  2  . . O O . . . .     . . O O . . . .   1     The crop begins with row 1. No live cell is in a row outside of it.
+//!  2  . . O O . . . .     . . O O . . . .   1     The crop begins with row 1. No live cell is outside of the crop.
 //!  3  . . . O O . . .     . . . O O . . .   2
 //!  4  . . . . . . . .     . . . . . . . .   3
 //!  5  . . . . . . . .
@@ -14,10 +14,11 @@ ghost use Rattle.plane_core.specs.one_sided.Crops.{IsCrop, LiesInCrop};
 use crate::windows::row_packing::{packed, unpacked};
 use std::simd::u64x4;
 
-/// The fewest empty rows of a crop, above and below its live rows together. With fewer, live cells soon reach its rim.
+/// The fewest empty rows of a crop: those above its live rows and those below them together. With fewer empty rows,
+/// live cells soon reach the crop's rim.
 const ROOM: usize = 8;
 
-/// The first and the last row with a live cell. They only decide which crops are tried.
+/// The first and the last row of a window with a live cell. They only decide which crops are tried.
 #[derive(Clone, Copy)]
 pub(crate) struct LiveRows {
     pub(crate) first: usize,
@@ -25,7 +26,7 @@ pub(crate) struct LiveRows {
 }
 
 impl LiveRows {
-    /// Returns the live rows of a window. If it has no live cell, the row numbers mean nothing.
+    /// Returns the live rows of a window. If the window has no live cell, the row numbers mean nothing.
     pub(crate) fn of(rows: &[u64; 64]) -> LiveRows {
         LiveRows {
             first: first_live(rows),
@@ -81,7 +82,7 @@ pub(crate) fn crop<const R: usize, const N: usize>(rows: &[u64; 64], from: usize
     packed(&part)
 }
 
-/// Returns 64 rows: those of the window from row `from` on, and empty rows elsewhere.
+/// Returns 64 rows: from row `from` on, they are the R rows of the window, and all other rows are empty.
 pub(crate) fn uncrop<const R: usize, const N: usize>(window: &[u64x4; N], from: usize) -> [u64; 64]
     requires some { 0 < N }
     requires rows { R ≡ 4 * N }
@@ -108,7 +109,7 @@ pub(crate) fn lies_in_crop<const R: usize>(rows: &[u64; 64], from: usize) -> boo
     are_dark(rows, 0, from) && are_dark(rows, from + R, 64)
 }
 
-/// Checks whether no cell is alive in the rows from `first` up to `end`, which is excluded.
+/// Checks whether no cell is alive in the rows from `first` to before `end`.
 fn are_dark(rows: &[u64; 64], first: usize, end: usize) -> bool
     requires { end ≤ 64 }
     ensures { IsTrue result → (r : ℕ) → first ≤ r → r < end → slice_index rows.now r ≡ 0 }

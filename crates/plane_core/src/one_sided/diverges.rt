@@ -1,14 +1,16 @@
-//! A one-sided test that a cluster, run alone, gets a cell that the whole pattern doesn't have in that generation:
+//! A one-sided test that a cluster, run alone, gets a live cell that the whole pattern doesn't have in that generation:
 //!
 //! ```text
-//! the whole              one cluster alone
-//! . . . . . . . .        . . . . . . . .
-//! . . x . . O O .        . . x . . . . .     In the whole, something else keeps cell x from being born. So the cluster
-//! . . O O . O O .        . . O O . . . .     isn't one of the objects of a pattern at rest.
-//! . . O . . . . .        . . O . . . . .
+//! the whole            in generation 3      a cluster alone,
+//!                                           in generation 3
+//! . . . . . . . .      . . . O O . . .      . . . . . . . .
+//! . . O . . O . .      . . O . . O . .      . . . . . . . .     Run alone, the blinker on the left has the cells x in
+//! . . O . . O . .      . O . . . . O .      . O x x . . . .     generation 3, but the whole doesn't. So the blinker
+//! . . O . . O . .      . . O . . O . .      . . . . . . . .     isn't one of the objects of a pattern at rest.
+//! . . . . . . . .      . . . O O . . .      . . . . . . . .
 //! ```
 //!
-//! Both are run in windows. With each generation, a window is right only one cell further inside.
+//! Both are run in windows. With each generation, the part of a window that is right begins one cell further inside.
 ghost use Rattle.std.specs.Prelude.{◌+◌, ◌≤◌, ◌<◌, IsTrue};
 ghost use Rattle.plane_core.specs.windows.RuleLogic.{rule_of};
 ghost use Rattle.plane_core.specs.one_sided.RestlessClusters.{HasDivergingCell, DivergesFromWhole};
@@ -24,7 +26,7 @@ use std::simd::u64x4;
 const LIMIT: u32 = 11;
 
 /// The distance, in columns and rows, within which another cell is near the cluster. Of a hundred clusters that
-/// diverge, 97 have one.
+/// diverge, 97 have another cell within this distance.
 const NEAR: usize = 4;
 
 /// Returns `true` only if the cluster that `alone` shows diverges within `most` generations from the pattern that

@@ -1,13 +1,14 @@
 //! Grows a cluster of a window of 64 rows from one of its cells:
 //!
 //! ```text
-//! . O . . O      . 1 . . O      . 2 . . O     S is the start. Cells within 2 of it are found next, then cells within 2
-//! . O . . O      . 1 . . O      . 2 . . O     of those. When nothing new is found, one pass over all rows checks
-//! . S . . O      . S . . O      . S . . O     whether this is the whole cluster.
+//! . O . . O      . O . . O      . 2 . . O     S is the start. Cells within 2 of it are found next, then cells within 2
+//! . . . . O      . . . . O      . . . . O     of those. When nothing new is found, one pass over all rows checks
+//! . O . . O      . 1 . . O      . 1 . . O     whether this is the whole cluster.
+//! . S . . O      . S . . O      . S . . O
 //! ```
 //!
-//! Near the border of the window, not all cells may be right, and what is outside isn't known. So a flood that comes
-//! within four cells of the border is rejected.
+//! Near the border of the window, some cells may be wrong, and the cells outside of the window aren't known. So a flood
+//! that comes within four cells of the border is rejected.
 ghost use Rattle.std.specs.Prelude.{◌≡◌, ◌<◌, ◌≤◌, ℕ, IsTrue};
 ghost use Rattle.std.specs.Int.{bit_at};
 ghost use Rattle.plane_core.specs.one_sided.Floods.{AreNear, HasGrown, IsClosed, IsFlooded, IsWellInside, LiesInside};
@@ -15,22 +16,22 @@ ghost use Rattle.plane_core.specs.windows.Rows.{bit_in};
 
 use crate::windows::geometry::{INNER_COLUMN_MASK, MARGIN};
 
-/// The columns and rows between two cells of a cluster, at most.
+/// Live cells that are at most this number of columns and rows apart are in the same cluster.
 const REACH: usize = 2;
 
-/// The rows of the window.
+/// The number of rows of the window.
 const ROWS: usize = 64;
 
-/// The end of the rows that have a row at distance `REACH` below them.
+/// The end of the rows that have `REACH` more rows below them.
 const END: usize = ROWS - REACH;
 
-/// The end of the rows and columns that are well inside the window.
+/// The end of the rows and columns that are well inside the window: at least four cells inside its border.
 const INNER_END: usize = ROWS - MARGIN;
 
-/// A bit for each of the columns that have a column at distance `REACH` on both sides, 2 to 61.
+/// A bit for each of the columns that have `REACH` more columns on both sides: columns 2 to 61.
 const COLUMN_MASK: u64 = 0x3fff_ffff_ffff_fffc;
 
-/// The most passes over the rows. A cluster that winds more is rejected.
+/// The most passes over the rows. A cluster that winds so much that it needs more passes is rejected.
 const ROUNDS: usize = 64;
 
 /// Grows the cluster of the cell in row `row` and column `column`, and stores it in `flood`. Returns `true` only if the
@@ -60,8 +61,8 @@ pub(crate) fn flood(rows: &[u64; 64], flood: &mut [u64; 64], row: usize, column:
     false
 }
 
-/// Grows the flood downwards from row `first` to the row before `end`, and on as long as it grows further. Returns the
-/// row before which it stopped.
+/// Grows the flood downwards from row `first` to the row before `end`, and further down as long as the flood is near
+/// the next row. Returns the row before which this stopped.
 fn grow_down(rows: &[u64; 64], flood: &mut [u64; 64], first: usize, end: usize) -> usize
     requires { 2 ≤ first }
     ensures grown { HasGrown rows.now flood.old flood.new }
@@ -84,7 +85,8 @@ struct Grown {
     first: usize,
 }
 
-/// Grows the flood upwards from the row before `end` to row `first`, and on as long as it grows further.
+/// Grows the flood upwards from the row before `end` to row `first`, and further up as long as the flood is near the
+/// next row.
 fn grow_up(rows: &[u64; 64], flood: &mut [u64; 64], first: usize, end: usize) -> Grown
     requires { end ≤ 62 }
     ensures grown { HasGrown rows.now flood.old flood.new }

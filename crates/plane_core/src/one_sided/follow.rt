@@ -6,7 +6,7 @@
 //! |                |    counted from the first ones with a live cell. Usually the columns with a live cell already
 //! |    OO.         |    differ.
 //! |     OO.        |
-//! |      O         |    If a generation equals an earlier one, all later generations have been there before.
+//! |      O         |    If a generation equals an earlier one, all later generations repeat earlier ones.
 //! +----------------+
 //! ```
 ghost use Rattle.std.specs.Prelude.{◌≡◌, ◌+◌, ◌-◌, ◌*◌, ◌/◌, ◌^◌, ◌<◌, ◌≤◌, ℕ, ℤ, IfSome, IsTrue, List, max};
@@ -37,8 +37,9 @@ pub(crate) enum Followed {
     Outgrown(u32),
 }
 
-/// Follows the pattern that `start` shows from generation `made`, which `now` shows, up to generation `most`. If it
-/// outgrows the window, `now` shows the last generation that was made. All of the pattern is in the window.
+/// Follows a pattern up to generation `most`. `start` shows the pattern, and `now` shows generation `made` of it, with
+/// which the run begins. All of the pattern is in the window. If the pattern outgrows the window, `now` shows the last
+/// generation that was made.
 pub(crate) fn follow<const N: usize>(
     start: &[u64x4; N],
     now: &mut [u64x4; N],
@@ -71,8 +72,8 @@ pub(crate) fn follow<const N: usize>(
         if columns == kept_columns && are_alike(now, &kept) {
             return Followed::NeverAgain;
         }
-        // Most clusters that settle end up alternating. So every fourth generation is kept and compared with the next
-        // ones.
+        // Most clusters that settle end up with period 1 or 2. So every fourth generation is kept and compared with the
+        // next ones.
         if age % 4 == 1 {
             kept = *now;
             kept_columns = columns;
@@ -91,9 +92,9 @@ fn row_or_none<const N: usize>(window: &[u64x4; N], r: usize) -> u64
     if r < 4 * N { row(window, r) } else { 0 }
 }
 
-/// Checks whether `now` may show a translate of what `start` shows. `from` and `columns` are the columns of `start` and
-/// of `now` that have a live cell. If these are alike, the rows are compared, counted from the first row and the first
-/// column with a live cell.
+/// Checks whether `now` may show a translate of the pattern that `start` shows. `from` and `columns` are the columns of
+/// `start` and of `now` that have a live cell. If these columns are the same, counted from the first of them, the rows
+/// are compared, counted from the first row and the first column with a live cell.
 fn may_be_again<const N: usize>(
     start: &[u64x4; N],
     from: u64,

@@ -32,7 +32,7 @@ pub(crate) fn never_recurs(start: &[u64; 64], rule: &RuleLogic, most: u32) -> bo
     let live = LiveRows::of(start);
     let mut now = *start;
     let mut made = 0;
-    // In windows of 16, 24, 32 rows, and so on.
+    // In windows of 16, 24, 32 rows, and so on, up to 64.
     for size in 2..9 {
         match follow_by_size(size, start, &mut now, live, made, rule, most) {
             Followed::NeverAgain => return true,
@@ -67,8 +67,8 @@ fn follow_by_size(
     }
 }
 
-/// Follows the pattern in a window of R rows, from generation `made`, which `now` shows. If it outgrows the window,
-/// `now` shows the last generation that was made. A pattern with too many rows outgrows it at once.
+/// Follows the pattern in a window of R rows, from generation `made`, which `now` shows. If the pattern outgrows the
+/// window, `now` shows the last generation that was made. A pattern with too many rows outgrows the window at once.
 fn follow_in<const R: usize, const N: usize>(
     start: &[u64; 64],
     now: &mut [u64; 64],

@@ -1,13 +1,13 @@
 //! Candidates for spaceships: clusters of a few cells that change.
 //!
-//! In the view of each box, the cells are found that change within two generations, and their clusters are grown, one
+//! In the view of each box, the cells that change within two generations are found, and their clusters are grown, one
 //! after another:
 //!
 //! ```text
 //! . . . . . . . . . .      . . . . . . . . . .
-//! . . O . . . . O . .      . . x . . . . . . .     Two cells change. The cluster of the first has five cells. The
-//! . . . O . . . O . .      . . . . . . . . . .     second cell is one of them, so no cluster is grown from it. A part
-//! . O O O . . . O . .      . . x . . . . . . .     that alternates has no cell that changes in two generations.
+//! . . O . . . . O . .      . . x . . . . . . .     Two cells change. The cluster of the first cell has five cells. The
+//! . . . O . . . O . .      . . . . . . . . . .     second cell is one of them, so no cluster is grown from it. The
+//! . O O O . . . O . .      . . x . . . . . . .     blinker has no cell that differs two generations later.
 //! . . . . . . . . . .      . . . . . . . . . .
 //! ```
 //!
@@ -34,7 +34,7 @@ use std::alloc::Global;
 const BOXES: u32 = 32;
 
 /// The most columns and rows of a spaceship's active box: a heavyweight spaceship's has nine. A spaceship that has just
-/// left a larger group shares its box, and soon gets one of its own.
+/// left a larger group shares the group's box, and soon gets a box of its own.
 const SPACESHIP: u32 = 10;
 
 /// The most clusters that are grown for each box.
@@ -44,7 +44,8 @@ const FLOODS: u32 = 8;
 const MOST: u32 = 20;
 
 impl Board {
-    /// Returns some clusters of the pattern that change, each with a few cells. Which ones isn't specified.
+    /// Returns some clusters of the pattern that change, each with a few cells. It isn't specified which clusters these
+    /// are.
     ///
     /// # Errors
     ///
@@ -74,21 +75,21 @@ impl Board {
     }
 }
 
-/// Checks whether the box is ahead of all others in some diagonal direction. Otherwise, nothing in it can be ahead of
-/// everything else, until what is ahead of it has been removed.
+/// Checks whether the box is ahead of all others in some diagonal direction. If it isn't, no cluster in the box can be
+/// ahead of the rest of the pattern before the clusters ahead of the box have been removed.
 fn leads_somewhere(boxes: &[Bounds], bounds: Bounds) -> bool {
     let mut right_down = true;
     let mut right_up = true;
     let mut left_down = true;
     let mut left_up = true;
     for other in boxes {
-        // How far the box is to the right of the other one, to the left, below and above. A number that isn't positive
-        // means that it isn't.
+        // How far the box is to the right of the other one, to its left, below it and above it. If such a number isn't
+        // positive, the box isn't on that side.
         let right = bounds.left.saturating_sub(other.right);
         let left = other.left.saturating_sub(bounds.right);
         let down = bounds.top.saturating_sub(other.bottom);
         let up = other.top.saturating_sub(bounds.bottom);
-        // Boxes that touch it don't count, because a spaceship has boxes from more than one window.
+        // Boxes that touch the box don't count, because a spaceship may have boxes from more than one window.
         if right.max(left).max(down).max(up) <= 1 {
             continue;
         }
@@ -103,8 +104,9 @@ fn leads_somewhere(boxes: &[Bounds], bounds: Bounds) -> bool {
     true
 }
 
-/// Grows the clusters of the cells that change in a window, and appends those that are small and not in the list yet
-/// (two boxes may be near each other). The cells of each cluster are removed from `changing`.
+/// Grows clusters from the cells of a view that change, and appends the small clusters that aren't in the list yet. A
+/// cluster may be in the list already, because two boxes may be near each other. The cells of each cluster that is
+/// grown are removed from `changing`.
 fn add_grown(
     alloc: Global,
     at: Frame,
@@ -140,7 +142,7 @@ fn strike_out(cells: &mut [u64; 64], cluster: &[u64; 64]) -> u32 {
     let mut count = 0u32;
     for row in 0..64 {
         cells[row] &= !cluster[row];
-        // At most 4,096, so nothing wraps around.
+        // The count is at most 4,096, so nothing wraps around.
         count = count.wrapping_add(cluster[row].count_ones());
     }
     count

@@ -1,10 +1,11 @@
-//! The arithmetic of coordinates. Each call limits the size of its arguments, so that nothing overflows.
+//! The arithmetic of coordinates. Each call limits the size of its arguments, so that nothing overflows. A coordinate
+//! is within the bound if its absolute value is at most 1,000,000.
 ghost use Rattle.std.specs.Prelude.{◌≡◌, ◌+◌, ◌≤◌, ◌+ℤ◌, ◌-ℤ◌, neg_ℤ, pos};
 ghost use Rattle.std.specs.Prelude.{unsigned_abs};
 ghost use Rattle.plane_core.specs.plane.Cells.{distance, plane_bound};
 
 /// Returns `at + step`. `step` is from -2 to 2, and `at` is at most one cell past the bound, so the result is at most
-/// three cells past it.
+/// three cells past the bound.
 pub fn stepped(at: i32, step: i32) -> i32
     requires at { unsigned_abs at ≤ plane_bound + 1 }
     requires step { unsigned_abs step ≤ 2 }

@@ -32,8 +32,9 @@ pub enum CheckError {
 }
 
 impl Claim {
-    /// Surveys the soup that the claim is about, and turns the claim into a report if it is of this job and agrees with
-    /// the finding. A claim of version 1 doesn't say whether the objects stay for good, so only the rest is compared.
+    /// Turns the claim into a report if the claim is of this job and agrees with the finding of its soup, which is
+    /// surveyed for this. A claim of version 1 doesn't say whether the objects stay for good, so only the rest of the
+    /// finding is compared.
     ///
     /// # Errors
     ///
@@ -49,8 +50,8 @@ impl Claim {
         self.check_with_surveyor(alloc, &mut surveyor, job)
     }
 
-    /// Checks the claim as [`check`](Claim::check) does, using a surveyor, which is faster. The surveyor may have
-    /// surveyed other soups before.
+    /// Checks the claim as [`check`](Claim::check) does, using a surveyor that may have surveyed other soups before.
+    /// Using one surveyor for many claims is faster.
     ///
     /// # Errors
     ///
@@ -66,7 +67,8 @@ impl Claim {
         if !is_same_job(&self.job, job) {
             return Err((self, CheckError::OtherJob));
         }
-        // For the prover: a soup has only one finding, so a claim that disagrees with it is wrong.
+        // For the prover: a soup has only one finding, so a claim that disagrees with it agrees with no finding of the
+        // soup.
         findings_are_determined();
         let report = match Report::make_with_surveyor(
             alloc,
@@ -129,7 +131,7 @@ fn agrees_on_settled(
         && are_same_counts(said.counts.as_slice(), objects.as_slice())
 }
 
-/// Checks whether the counts have the codes and numbers of the objects, in the same order.
+/// Checks whether the counts of a claim have the same codes and numbers as the objects of a finding, in the same order.
 fn are_same_counts(counts: &[(ClaimedCode, u64)], objects: &[(Apgcode, u64)]) -> bool
     ensures { IsTrue result ↔ (counts.now ≡ objects.now) }
 {
@@ -145,15 +147,15 @@ fn are_same_counts(counts: &[(ClaimedCode, u64)], objects: &[(Apgcode, u64)]) ->
     true
 }
 
-/// Checks whether a count has the object's code and number.
+/// Checks whether a count of a claim has the same code and the same number as an entry of a finding's objects.
 fn is_same_count(count: &(ClaimedCode, u64), object: &(Apgcode, u64)) -> bool
     ensures { IsTrue result ↔ (count.now ≡ object.now) }
 {
     count.0.bytes() == object.0.text().as_bytes() && count.1 == object.1
 }
 
-/// The law that a report's line is the line of a lawful claim, and that checking this claim gives the report back, if
-/// there is memory.
+/// The law that a report's line is the line of a lawful claim, and that checking this claim gives the report back,
+/// unless memory runs out.
 pub fn reports_are_claims(report: &Report)
     ensures claim { IsClaim (claim_of 2 report.now) }
     ensures confirmed { IsConfirmed (claim_of 2 report.now) report.now.job report.now }

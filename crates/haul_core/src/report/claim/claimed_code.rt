@@ -1,4 +1,4 @@
-//! The codes that a claim names, whether or not there are such objects.
+//! The codes that a claim names, whether or not objects with these codes exist.
 
 ghost use Rattle.std.specs.Prelude.{◌≡◌, IfOk};
 ghost use Rattle.code_core.specs.Apgcodes.{HasCodeShape};

@@ -1,5 +1,5 @@
-//! The fields of a report line. A text is cut at a byte, and each field is read from its whole text. A function that
-//! reads a field returns `None` if no lawful claim has that field.
+//! Reads the fields of a report line. `cut_at` cuts a text at its first separator, such as a space. A function that
+//! reads a field gets the whole text of the field, and returns `None` if no lawful claim has that field.
 
 ghost use Rattle.std.specs.Prelude.{◌≡◌, ◌≢◌, ◌↔◌, ◌<◌, ◌≤◌, ◌^◌, ◌++◌, ◌==◌, ℕ, IsTrue, List, MatchOption, codes};
 ghost use Rattle.std.specs.Prelude.{decimal, option_map, position};
@@ -27,7 +27,8 @@ const MOST_GENERATIONS: u64 = 100_000;
 /// The most bytes of an apgcode, by the law `codes_have_their_shape`.
 const MOST_CODE_BYTES: usize = 400;
 
-/// Returns the text before the first byte `byte`, and the text after it, if there is such a byte.
+/// Cuts a text at its first byte `byte`. Returns the text before that byte and the text after it, or the whole text and
+/// `None` if there is no such byte.
 pub(crate) fn cut_at(byte: u8, text: &[u8]) -> (&[u8], Option<&[u8]>)
     ensures { Cuts byte text.now result.0.now (option_map (λ remainder. remainder.now) result.1) }
 {
@@ -37,7 +38,7 @@ pub(crate) fn cut_at(byte: u8, text: &[u8]) -> (&[u8], Option<&[u8]>)
     }
 }
 
-/// Returns the first place of a byte in a text.
+/// Returns the first place of a byte in a text, or `None` if the text doesn't have the byte.
 fn place_of(byte: u8, text: &[u8]) -> Option<usize>
     ensures { result ≡ position (λ b. b == byte) text.now }
 {
@@ -57,14 +58,14 @@ pub(crate) fn number_in(text: &[u8]) -> Option<u64>
     }
 }
 
-/// Returns the number below 2^64 whose decimal follows the name.
+/// Returns the number below 2^64 that a field gives: the field is the name, followed by the number's decimal.
 pub(crate) fn number_after(name: &[u8], field: &[u8]) -> Option<u64>
     ensures { SpellsField IsNumber (λ n. name.now ++ decimal n) field.now result }
 {
     number_in(after(name, field)?)
 }
 
-/// Returns what follows the name, or `None` if the field doesn't begin with it.
+/// Returns what follows the name, or `None` if the field doesn't begin with the name.
 fn after<'a>(name: &[u8], field: &'a [u8]) -> Option<&'a [u8]>
     ensures { MatchOption result ((remainder : List ℕ) → field.now ≢ name.now ++ remainder)
         (λ remainder. field.now ≡ name.now ++ remainder.now) }
@@ -72,7 +73,7 @@ fn after<'a>(name: &[u8], field: &'a [u8]) -> Option<&'a [u8]>
     field.strip_prefix(name)
 }
 
-/// Returns the worker that a field gives.
+/// Returns the worker that a field `worker=W` gives, 1 to 16.
 pub(crate) fn worker_in(field: &[u8]) -> Option<u8>
     ensures { SpellsField IsWorker (λ n. codes "worker=" ++ decimal n) field.now result }
 {
@@ -81,7 +82,7 @@ pub(crate) fn worker_in(field: &[u8]) -> Option<u8>
     if known { Some(number as u8) } else { None }
 }
 
-/// Returns the version that a field gives.
+/// Returns the version that a field gives, 1 or 2.
 pub(crate) fn version_in(field: &[u8]) -> Option<u8>
     ensures { SpellsField IsVersion decimal field.now result }
 {
@@ -97,7 +98,7 @@ fn is_from_to(least: u64, most: u64, n: u64) -> bool
     least <= n && n <= most
 }
 
-/// Returns the number of a soup that a field gives.
+/// Returns the number of the soup that a field `soup=N` gives, below 2^40.
 pub(crate) fn soup_in(field: &[u8]) -> Option<u64>
     ensures { SpellsField (λ n. n < 2 ^ 40) (λ n. codes "soup=" ++ decimal n) field.now result }
 {
@@ -109,7 +110,7 @@ pub(crate) fn soup_in(field: &[u8]) -> Option<u64>
     }
 }
 
-/// Returns the checkpoint that a field gives.
+/// Returns the checkpoint that a field `at=T` gives, up to 100,000.
 pub(crate) fn checkpoint_in(field: &[u8]) -> Option<u32>
     ensures { SpellsField (λ n. n ≤ 100000) (λ n. codes "at=" ++ decimal n) field.now result }
 {
@@ -121,7 +122,8 @@ pub(crate) fn checkpoint_in(field: &[u8]) -> Option<u32>
     }
 }
 
-/// Returns what a field says about a soup: that it didn't settle, or at which checkpoint it did.
+/// Returns what a field says about a soup: `Some(None)` if it says that the soup didn't settle, and `Some(Some(t))` if
+/// it says that the soup settled at checkpoint `t`.
 #[tactic(auto, using(crate::proofs::FieldLemmas::no_state))]
 pub(crate) fn state_in(field: &[u8]) -> Option<Option<u32>>
     ensures { SpellsField IsState state_field field.now result }
@@ -132,14 +134,14 @@ pub(crate) fn state_in(field: &[u8]) -> Option<Option<u32>>
     Some(Some(checkpoint_in(field)?))
 }
 
-/// Returns the profile that a field gives.
+/// Returns the profile that a field `profile=..` gives.
 pub(crate) fn profile_in(field: &[u8]) -> Option<Profile>
     ensures { SpellsField IsProfile profile_field field.now result }
 {
     profile_of(after(b"profile=", field)?)
 }
 
-/// Returns the profile with these four numbers.
+/// Returns the profile whose four numbers are the text, with a comma between each two.
 fn profile_of(text: &[u8]) -> Option<Profile>
     ensures { SpellsField IsProfile numbers_text text.now result }
 {
@@ -153,7 +155,7 @@ fn profile_of(text: &[u8]) -> Option<Profile>
     }
 }
 
-/// Returns the number up to 100,000 at the beginning of a text, and the text after the comma that follows it.
+/// Returns the number, up to 100,000, with which a text begins, and the text after the comma that follows the number.
 fn first_number(text: &[u8]) -> Option<(u32, &[u8])>
     ensures { BeginsNumber text.now (option_map (λ first. (first.0, first.1.now)) result) }
 {
@@ -176,7 +178,7 @@ fn small_number_in(text: &[u8]) -> Option<u32>
     }
 }
 
-/// Returns the code that a field names, and how many objects have it.
+/// Returns the code and the number of objects that a field `CODE*N` gives. The number is at least 1.
 pub(crate) fn count_in(field: &[u8]) -> Option<(&[u8], u64)>
     ensures { SpellsField IsCount count_field field.now (option_map (λ object. (object.0.now, object.1)) result) }
 {
@@ -193,7 +195,7 @@ pub(crate) fn count_in(field: &[u8]) -> Option<(&[u8], u64)>
     Some((code, count))
 }
 
-/// Returns the rule that a field gives.
+/// Returns the rule that a field `rule=RULE` gives.
 pub(crate) fn rule_in(field: &[u8]) -> Option<Rule>
     ensures { SpellsField IsRule (λ rule. codes "rule=" ++ rule_text rule) field.now result }
 {
@@ -206,7 +208,7 @@ pub(crate) fn rule_in(field: &[u8]) -> Option<Rule>
     }
 }
 
-/// Returns the seed that a field gives.
+/// Returns the seed that a field `seed=SEED` gives.
 pub(crate) fn seed_in(field: &[u8]) -> Option<Seed>
     ensures { SpellsField IsSeed (λ seed. codes "seed=" ++ seed) field.now result }
 {
@@ -219,7 +221,7 @@ pub(crate) fn seed_in(field: &[u8]) -> Option<Seed>
     }
 }
 
-/// Returns what a field says about whether objects stay for good.
+/// Returns what a field says about whether objects stay for good: `good=yes` or `good=no`.
 #[tactic(auto, unfolding(crate::specs::ReportLines::mark_field), using(crate::proofs::FieldLemmas::two_marks))]
 pub(crate) fn mark_in(field: &[u8]) -> Option<bool>
     ensures { SpellsField IsAnyMark mark_field field.now result }

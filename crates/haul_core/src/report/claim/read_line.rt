@@ -1,5 +1,5 @@
-//! Reads a report line in two passes. The first looks for a fault, and needs no memory. If there is none, the second
-//! collects the counts.
+//! Reads a report line in two passes. The first pass looks for a fault, and needs no memory. If there is no fault, the
+//! second pass makes the claim.
 
 ghost use Rattle.std.specs.Prelude.{◌≡◌, ◌↔◌, ◌-◌, ℕ, IfNone, IfOk, IfSome, IsErrOf, IsTrue, MatchResult, Some, length};
 ghost use Rattle.std.specs.Prelude.{option_map};
@@ -21,7 +21,7 @@ use std::alloc::Global;
 use std::fmt;
 use thiserror::Error;
 
-/// Why a line can't be read as a claim. `census gather` has words of its own for a bad line.
+/// Why a line can't be read as a claim. `census gather` prints a text of its own for a bad line.
 #[derive(Clone, Copy, PartialEq, Eq, Error)]
 pub enum LineError {
     /// The field that begins at `place` isn't allowed there, or a field is missing at the end of the line. Places count
@@ -62,17 +62,17 @@ impl Claim {
     ///
     /// # Errors
     ///
-    /// - [`LineError::BadLine`] if the line isn't that of a claim, even if there is no memory. The place is where the
-    ///   first wrong field begins. If no field is wrong but one is missing, the place is the length of the line.
+    /// - [`LineError::BadLine`] if the line isn't the line of a claim, even if there is no memory. The place is where
+    ///   the first wrong field begins. If no field is wrong but one is missing, the place is the length of the line.
     /// - [`LineError::Memory`] if memory runs out.
     pub fn read_line(alloc: Global, line: &[u8]) -> Result<Claim, LineError>
-        // The line of the claim that is read is this line, and the line of each claim can be read.
+        // The result is a claim with this line. If a lawful claim has this line, it is read, unless memory runs out.
         ensures lawful { IfOk result IsClaim }
         ensures line { IfOk result (λ read. claim_line read ≡ line.now) }
         ensures complete { (claim : Claimed) → IsClaim claim → claim_line claim ≡ line.now
             → MatchResult result (λ read. read ≡ claim) (λ error. error ≡ Memory out_of_memory) }
 
-        // Which error it is.
+        // When each error is returned.
         ensures bad_line { (place : ℕ) → IsErrOf result (BadLine place) → IsFirstFaultOf line.now place }
         ensures memory { IsErrOf result (Memory out_of_memory) → IsClaimLine line.now }
     {
@@ -84,7 +84,7 @@ impl Claim {
     }
 }
 
-/// Returns the place of the first fault of a line, or `None` if it is the line of a claim.
+/// Returns the place of the first fault of a line, or `None` if the line is the line of a claim.
 fn fault_in(line: &[u8]) -> Option<usize>
     ensures fault { IfSome result (IsFirstFaultOf line.now) }
     ensures refused { IfSome result (λ _. ¬ IsClaimLine line.now) }
@@ -116,7 +116,7 @@ fn fault_in_counts(line: &[u8], counts: Option<&[u8]>) -> Option<usize>
     None
 }
 
-/// Returns the place in a line where this text, which ends the line, begins.
+/// Returns the place in a line at which its suffix `there` begins.
 fn place_of(line: &[u8], there: &[u8]) -> usize
     ensures { result ≡ length line.now - length there.now }
 {
@@ -135,7 +135,8 @@ fn claim_in(alloc: Global, line: &[u8]) -> Result<Claim, OutOfMemory>
     }
 }
 
-/// Returns the claim of a line that has no fault, with its counts.
+/// Returns the claim of a line that has no fault. `start` is what the line says before its counts, and `counts` is the
+/// text of the counts, from which they are read.
 fn with_counts(
     alloc: Global,
     line: &[u8],
@@ -185,7 +186,8 @@ fn claim_of(start: LineStart, counts: Vec<(ClaimedCode, u64)>) -> Claim
     }
 }
 
-/// Returns the code and the number of a count, or `None` if the field isn't a count that may follow the code `last`.
+/// Returns the code and the number of a count, or `None` if the field isn't a count, or if its code doesn't come after
+/// the code `last`.
 fn count_after<'a>(last: Option<&[u8]>, field: &'a [u8]) -> Option<(&'a [u8], u64)>
     ensures { SpellsField (MayFollow (option_map (λ own. own.now) last.entry)) count_field field.now
         (option_map (λ object. (object.0.now, object.1)) result) }
@@ -198,7 +200,7 @@ fn count_after<'a>(last: Option<&[u8]>, field: &'a [u8]) -> Option<(&'a [u8], u6
     }
 }
 
-/// Checks whether a code comes after the code `last` in ASCII order.
+/// Checks whether a code comes after the code `last` in ASCII order. Without a `last`, each code does.
 fn is_after(last: Option<&[u8]>, code: &[u8]) -> bool
     ensures { IsTrue result ↔ IsAfter (option_map (λ own. own.now) last.entry) code.now }
 {

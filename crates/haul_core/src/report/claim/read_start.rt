@@ -36,8 +36,8 @@ pub(crate) struct WhenSettled {
     pub(crate) for_good: Option<bool>,
 }
 
-/// Returns what a line says before its counts, and the text of the counts, if there are any. If no claim has a line
-/// with this start, the error is the text from the first fault on.
+/// Returns what a line says before its counts, and the text of the counts, if there are any. If one of these fields is
+/// wrong or missing, or a field follows `unsettled`, the error is the rest of the line from this fault on.
 pub(crate) fn start_in(line: &[u8]) -> Result<(LineStart, Option<&[u8]>), &[u8]>
     ensures ok { IfOk result (λ read. HasReadStart line.now read.0 (option_map (λ remainder. remainder.now) read.1)) }
     ensures err { IfErr result (λ there. IsFirstFaultOf line.now (length line.now - length there.now)) }
@@ -48,7 +48,7 @@ pub(crate) fn start_in(line: &[u8]) -> Result<(LineStart, Option<&[u8]>), &[u8]>
     }
 }
 
-/// Returns the start of a line whose head has been read.
+/// Reads the fields about the soup of a line whose head has been read, and returns what [`start_in`] returns.
 fn after_head<'a>(
     line: &'a [u8],
     head: LineStart,
@@ -74,7 +74,8 @@ fn after_head<'a>(
     }
 }
 
-/// Returns the fields of the head, and the text after them.
+/// Returns what the fields of the head say, and the text after them. If one of these fields is wrong or missing, the
+/// error is the rest of the line from this fault on.
 fn head_in(line: &[u8]) -> Result<(LineStart, Option<&[u8]>), &[u8]>
     ensures ok { IfOk result (λ read. HasHead line.now 7 read.0 (option_map (λ remainder. remainder.now) read.1)) }
     ensures err { IfErr result (λ there. IsFirstFaultOf line.now (length line.now - length there.now)) }
@@ -137,7 +138,8 @@ fn with_field(mut head: LineStart, place: usize, field: &[u8]) -> Option<LineSta
     Some(head)
 }
 
-/// Returns the start of a line whose soup settled. In version 2, the next field says whether the objects stay for good.
+/// Returns the start of a line whose soup settled at this checkpoint, and the text of the counts. In version 2, the
+/// next field says whether the objects stay for good.
 fn settled_in<'a>(
     line: &'a [u8],
     head: LineStart,
@@ -164,7 +166,7 @@ fn settled_in<'a>(
     Ok((with_state(head, checkpoint, Some(for_good)), more))
 }
 
-/// Returns the start of a line whose soup settled at this checkpoint.
+/// Returns the start of a line with this head, whose soup settled at this checkpoint.
 fn with_state(head: LineStart, checkpoint: u32, for_good: Option<bool>) -> LineStart
     ensures { result ≡ record head { settled = Some (record { checkpoint = checkpoint; for_good = for_good }) } }
 {

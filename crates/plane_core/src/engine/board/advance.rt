@@ -1,4 +1,5 @@
-//! How a board advances: by leaps of four generations, and two at the end.
+//! How a board advances: by leaps of four generations, after an odd leap if the number of generations is odd, and with
+//! a leap of two at the end if two are left.
 //!
 //! ```text
 //! advance(most: 11)    a leap of 3, while the boxes hold all live cells
@@ -7,7 +8,7 @@
 //! ```
 //!
 //! The active boxes say nothing about an odd number of generations: a blinker outside all boxes is the same after two
-//! generations and not after one. So an odd leap is made first, while the boxes hold all live cells.
+//! generations, but not after one. So an odd leap is made first, while the boxes hold all live cells.
 ghost use Rattle.std.specs.Prelude.{◌≡◌, ◌%◌, ◌≤◌, ℕ, IfOk, IsTrue, true};
 ghost use Rattle.plane_core.specs.plane.Generations.{after};
 
@@ -32,7 +33,7 @@ impl Board {
     {
         let mut made = 0;
         if most % 2 == 1 {
-            // One or three, so that an even number is left for leaps of four generations, and two at the end.
+            // A leap of one or three, so that an even number is left for leaps of four, and perhaps of two at the end.
             made = self.leap(most % 4)?;
         }
         while most - made >= 2 {
@@ -40,7 +41,7 @@ impl Board {
             if still {
                 return Ok(made + (most - made) / 2 * 2);
             }
-            // Four, or otherwise two.
+            // A leap of four, or of two if fewer than four generations are left.
             let count = (most - made).min(4) / 2 * 2;
             let leapt = self.leap(count)?;
             if leapt == 0 {
@@ -51,7 +52,7 @@ impl Board {
         Ok(made)
     }
 
-    /// A one-sided test that no even number of generations changes anything. `false` says nothing.
+    /// Returns `true` only if no even number of generations changes anything. `false` says nothing.
     pub fn is_still(&self) -> bool
         ensures { IsTrue result → (n : ℕ) → n % 2 ≡ 0 → after self.now.rule self.now.cells n ≡ self.now.cells }
     {

@@ -39,10 +39,10 @@ use std::alloc::Global;
 /// The number of cells for which the list has room from the start.
 const ROOM: usize = 128;
 
-/// The rows of a window.
+/// The number of rows of a window.
 const ROWS: usize = 40;
 
-/// The rows of a band: the inner rows of its windows.
+/// The number of rows of a band, which are the inner rows of its windows.
 const BAND_ROWS: usize = ROWS - 2 * MARGIN;
 
 /// A window after one generation: its rows, of which the inner ones are right.
@@ -54,8 +54,8 @@ pub(crate) struct NextRows {
 }
 
 impl Board {
-    /// Returns the next generation of the pattern that the board shows, or `None` if the rows and columns that may have
-    /// a live cell come near the border of the board.
+    /// Returns the next generation of the pattern that the board shows. Returns `None` if the board is known to be
+    /// empty, or if the rows and columns that may have a live cell come near its border.
     ///
     /// # Errors
     ///
@@ -72,8 +72,8 @@ impl Board {
     }
 }
 
-/// Lists the cells that are alive one generation later. Everything that is alive now is in the hull. Returns `None` if
-/// the hull, or a window that covers it, comes near the border of the board.
+/// Lists the cells that are alive one generation later. All cells that are alive now are in the hull. Returns `None` if
+/// the hull is empty, or if the hull or a window that covers it comes near the border of the board.
 fn list_next(
     alloc: Global,
     at: Frame,
@@ -107,7 +107,8 @@ fn list_next(
     Ok(Some(cells))
 }
 
-/// Checks whether the board has a word column on each side of the hull, and rows above and below it.
+/// Checks whether the hull isn't empty, and the board has a word column on each side of the hull, at least five rows
+/// above it, and at least one row below it.
 fn has_rim(at: Frame, hull: Hull) -> bool
     ensures { IsTrue result → HasRim at hull }
 {
@@ -120,8 +121,8 @@ fn has_rim(at: Frame, hull: Hull) -> bool
 }
 
 /// Runs windows side by side, from column `from` and row `y` on, so that their inner parts have all columns from `from`
-/// plus 4 to `end`. Windows without a live cell are left out. Returns whether all of them are on the board, with a word
-/// column to their right.
+/// plus 4 to `end`. Windows without a live cell are left out of the list. Returns whether all windows are on the board,
+/// with a word column to their right.
 fn run_band(
     words: &[u64],
     at: Frame,

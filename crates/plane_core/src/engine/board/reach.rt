@@ -1,14 +1,14 @@
-//! How far the pattern of a board reaches in a diagonal direction, without some of its cells.
+//! How far the pattern of a board reaches in a diagonal direction, if some of its cells are ignored.
 //!
-//! In each word column, only the rows of its span are read, from the outermost one inwards, and only as long as a row
-//! could have a cell that is deeper than the deepest so far:
+//! The depth of a cell says how far it is in the direction. In each word column, only the rows of its span are read,
+//! from the outermost row inwards, and only as long as a row could have a cell that is deeper than the deepest so far:
 //!
 //! ```text
 //! . . . . . . . O
 //! . . . . . . O .
 //! . . . O . . . .     Here the direction is right and down. The last row is read first, and has cell d. A cell of
-//! . . . . . . . .     a higher row is deeper only if it is further to the right by more than the number of rows
-//! . . . d . . . .     between the two.
+//! . . . . . . . .     a higher row is deeper only if it is more columns to the right of d than it is rows above d.
+//! . . . d . . . .
 //! ```
 ghost use Rattle.std.specs.Prelude.{◌≡◌, ◌==◌, ◌-◌, ◌<◌, ◌≤◌, ◌+ℤ◌, ℕ, IfSome, pos};
 ghost use Rattle.std.specs.Prelude.{slice_index};
@@ -54,6 +54,7 @@ impl Board {
 }
 
 /// Returns the depth of the deepest cell that was found so far or is in these rows of a word column, if there is one.
+/// The cells of `gone` are ignored.
 fn deepest_in_word_column(
     at: Frame,
     words: &[u64],
@@ -87,8 +88,8 @@ fn deepest_in_word_column(
     }
 }
 
-/// Returns how many rows of a word column, from the outermost on, could have a cell that is deeper than the deepest so
-/// far.
+/// Returns how many rows of a word column, from the outermost row on, could have a cell that is deeper than the deepest
+/// cell so far.
 fn rows_to_see(
     at: Frame,
     word_column: usize,
@@ -120,7 +121,7 @@ fn rows_to_see(
 }
 
 /// Returns the first number of steps inwards, from `from` on, that leads to a row of the word column with a live cell.
-/// If there is none below `end`, the result is `end` or more.
+/// If there is no such number below `end`, the result is `end` or more.
 fn next_live(
     at: Frame,
     words: &[u64],
@@ -165,7 +166,8 @@ fn row_inwards(rows: RowSpan, way: Direction, step: usize) -> usize
     }
 }
 
-/// Returns the depth of the deepest cell that was found so far or is in this row of a word column, if there is one.
+/// Returns the depth of the deepest cell that was found so far or is in this row of a word column, if there is one. The
+/// cells of `gone` are ignored.
 fn deepest_in_row(
     at: Frame,
     words: &[u64],

@@ -1,6 +1,6 @@
 //! Removes cells from a board.
 //!
-//! What was near them may change from now on, so the boxes are widened first:
+//! Cells near the removed ones may change from now on, so the boxes are widened first:
 //!
 //! ```text
 //! +-----+                    +-----+

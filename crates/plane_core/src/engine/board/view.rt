@@ -4,7 +4,7 @@
 //! board
 //! +-------------------------------------+
 //! |        view                         |
-//! |        +----------+                 |     Everything that changes is in a box of the board or near one, so tests
+//! |        +----------+                 |     Everything that changes is in a box of the board or near a box, so tests
 //! |        |   +--+   |        +-+      |     look there. If a box is larger than a view, the view shows its middle.
 //! |        |   +--+   |        +-+      |
 //! |        |    box   |       box       |
@@ -21,7 +21,7 @@ use crate::engine::frame::Frame;
 use crate::engine::window_io::read_rows;
 use crate::plane::bounds::Bounds;
 
-/// The rows of a view, and where they are: a board of its own with one word column.
+/// The rows of a view, and where they are: `at` is the frame of a board with one word column and 64 rows.
 #[derive(Clone, Copy)]
 pub(crate) struct View {
     pub(crate) at: Frame,
@@ -29,8 +29,8 @@ pub(crate) struct View {
 }
 
 impl Board {
-    /// Returns the view around the middle of the box, or `None` if it isn't on the board with a word column to its
-    /// right.
+    /// Returns the view around the middle of the box, or `None` if the view isn't completely on the board, or the board
+    /// has no word column to its right.
     pub(crate) fn view(&self, bounds: Bounds) -> Option<View>
         ensures frame { IfSome result (λ view. IsViewFrame view.at) }
         ensures shown { IfSome result
@@ -66,8 +66,8 @@ pub(crate) fn longer_side(bounds: Bounds) -> u32 {
     across.max(bounds.top.abs_diff(bounds.bottom))
 }
 
-/// Returns the first column (or row) of a view whose middle is halfway between `from` and `to`. It is counted from
-/// `start`, the first column (or row) of the board. `None` if the view would begin before the board.
+/// Returns the first column (or row) of a view whose middle is halfway between `from` and `to`. The result is counted
+/// from `start`, the first column (or row) of the board. Returns `None` if the view would begin before the board.
 #[tactic(auto, using(crate::proofs::lemmas::engine::FrameFits::middle_low))]
 fn first_of(from: i32, to: i32, start: i32) -> Option<usize>
     ensures { IfSome result (λ first. first < 2 ^ 32) }
