@@ -11,6 +11,14 @@ use Rattle.plane_core.proofs.lemmas.clusters.UnionFindLemmas.{bridged, fresh_fir
 use Rattle.plane_core.proofs.clusters.union_find.join_before.Goals.{then-before-cell-via-then-before-cell, then-before-cell-via-else-before-cell+then-not-are_near}
 use Rattle.plane_core.proofs.clusters.union_find.join_before.Goals as goal
 
+pub are_near-requires-clause-one : goal.are_near-requires-clause-one
+are_near-requires-clause-one c =
+    let low : c.args.place - 1 < length c.args.cells.now = omega (arith, c.requires.place.1) in
+    all_at on_plane c.args.cells.now (c.args.place - 1) _ low c.requires.pattern.on_plane
+
+pub are_near-requires-clause-other : goal.are_near-requires-clause-other
+are_near-requires-clause-other c = all_at on_plane c.args.cells.now c.args.place _ c.requires.place.1 c.requires.pattern.on_plane
+
 pub moved-requires-clause-near : goal.moved-requires-clause-near
 moved-requires-clause-near c = on_then_near _ (all_at on_plane c.args.cells.now c.args.place _ c.requires.place.1 c.requires.pattern.on_plane)
 
