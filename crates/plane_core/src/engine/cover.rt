@@ -253,7 +253,6 @@ fn lay_row(
 /// Returns spans of `size` numbers each, side by side, that cover the numbers from `first` to `last`. They reach as far
 /// past one end as past the other, or one number further past `last`.
 #[inline(always)]
-#[tactic(auto, using(crate::proofs::lemmas::engine::CoverLemmas::beside_few))]
 fn side_by_side(first: i32, last: i32, size: u32) -> Spans
     requires first { unsigned_abs first ≤ rectangle_bound }
     requires last { unsigned_abs last ≤ rectangle_bound }

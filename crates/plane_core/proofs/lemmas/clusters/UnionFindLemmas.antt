@@ -408,6 +408,11 @@ bridged cells place some o low row right k less above left near = record {
     down : distance c.y b.y ≤ 2
     down = omega (arith, ints, high, row)
 
+-- no near cell is left of the first of the columns that are near
+pub fresh_first : (cells : List Cell) (place : ℕ) (column : ℤ) → column ≡ ((cell_of cells place).x +ℤ negsuc 1) → IsFresh cells column place
+fresh_first cells place column first k less above left near =
+    let wide : distance (cell_of cells k).x (cell_of cells place).x ≤ 2 = omega (arith, near) in absurd (omega (arith, ints, wide, first, left))
+
 -- each place of a row between `from` and `to` that needs to be joined with `place` is joined with it
 abbrev pub JoinsRow : List Cell → List ℕ → ℕ → Cell → Cell → Type 0
 JoinsRow cells parents place from to = (k : ℕ) → k < place → cell_cmp (cell_of cells k) from ≢ Less → cell_cmp to (cell_of cells k) ≢ Less

@@ -14,6 +14,14 @@ use Rattle.plane_core.proofs.lemmas.Between.{IsReadAt}
 
 -- ---- reading
 
+-- `n` rows from row `y` on, in the word column of column `x` and in the next one, are on the board
+pub rows_inside : (at : Frame) (words : List ℕ) (x y n : ℕ) → FillsFrame at words → x / 64 + 1 < at.word_columns → y + n ≤ at.rows
+    → x / 64 * at.rows + y + at.rows + n ≤ length words
+rows_inside at words x y n long low few =
+    let many : at.word_columns ≡ x / 64 + 2 + (at.word_columns - (x / 64 + 2)) = omega (arith, low) in
+    let whole : at.word_columns * at.rows ≡ (x / 64 + 2 + (at.word_columns - (x / 64 + 2))) * at.rows = ap (λ (m : ℕ). m * at.rows) many in
+    omega (arith, long, whole, few)
+
 -- a row that is joined from two words of the board
 pub read_word : (at : Frame) (words : List ℕ) (x y r i word : ℕ) → i < 64
     → (i + x % 64 < 64 → bit_at word i ≡ bit_at (slice_index words (x / 64 * at.rows + y + r)) (i + x % 64))

@@ -1,8 +1,17 @@
 use Rattle.std.proofs.Common.{◌≡◌, ◌+◌, ◌-◌, ◌*◌, ◌/◌, ◌%◌, ◌^◌, ◌<◌, ℕ, Fits, ap, arith, bit_or, slice_index, rules, w64, length, length-set, ◌∙◌}
 use Rattle.std.specs.Int.{bit_at}
+use Rattle.std.proofs.lemmas.List.{length-replicate}
 use Rattle.plane_core.proofs.lemmas.windows.ShiftLemmas.{joined_left, joined_right}
-use Rattle.plane_core.proofs.lemmas.engine.WindowIoLemmas.{column_low, four_rows_read, read_word, rows_more}
+use Rattle.plane_core.proofs.lemmas.engine.WindowIoLemmas.{column_low, four_rows_read, read_word, rows_inside, rows_more}
 use Rattle.plane_core.proofs.engine.window_io.read_rows.Goals as goal
+
+pub loop-r-init : goal.loop-r-init
+loop-r-init g c = record {
+  long = length-replicate _ _;
+  most = omega arith;
+  inside = rows_inside c.args.at c.args.words.now c.args.x c.args.y g.row.R c.requires.long c.requires.word_columns c.requires.rows;
+  read = λ r i low inside. absurd (omega (arith, low));
+}
 
 pub loop-r-preserved : goal.loop-r-preserved
 loop-r-preserved g c =
@@ -12,6 +21,7 @@ loop-r-preserved g c =
     record {
       long = omega (arith, c.loop-r.invariant.long);
       most = omega (arith, c.loop-r-test.true);
+      inside = c.loop-r.invariant.inside;
       read = four_rows_read c.args.at words c.args.x c.args.y r c.loop-r.rows c.set_words.new.words c.loop-r.invariant.read c.set_words.ensures.others
           (λ j i low inside. ap (λ (w : ℕ). bit_at w i) (c.set_words.ensures.at j low)
           ∙ read_word c.args.at words c.args.x c.args.y (r + j) i (slice_index four j) inside
@@ -36,6 +46,7 @@ loop-r-2-preserved g c =
     record {
       long = length-set rows r word ∙ long;
       most = omega (arith, c.loop-r-2-test.true);
+      inside = c.loop-r-2.invariant.inside;
       read = rows_more c.args.at words c.args.x c.args.y r word rows (omega arith) c.loop-r-2.invariant.read
           (λ i inside. read_word c.args.at words c.args.x c.args.y r i word inside
           (joined_left first second shift i low) (joined_right first second shift i fits low inside));

@@ -64,3 +64,13 @@ next_cells-requires g c =
     let last : c.loop-k-2.k ≡ g.row.N - 1 = omega (arith, inv.low, c.loop-k-2-test.false) in
     subst (λ (k : ℕ). AreBeside c.loop-k-2.here (slice_index_or c.loop-k-2.window k [])) last
     (subst (AreBeside c.loop-k-2.here) (sym (inv.rest c.loop-k-2.k (omega arith))) inv.beside)
+
+pub next_vector-second-requires : goal.next_vector-second-requires
+next_vector-second-requires g c =
+    let inv = c.loop-k.invariant in
+    (search rules, (omega (arith, c.loop-k-test.true), subst (AreBeside c.loop-k.here) (sym (inv.rest c.loop-k.k (omega arith))) inv.beside))
+
+pub next_vector-down-requires : goal.next_vector-down-requires
+next_vector-down-requires g c =
+    let inv = c.loop-k-2.invariant in
+    (search rules, (omega (arith, c.loop-k-2-test.true), subst (AreBeside c.loop-k-2.here) (sym (inv.rest c.loop-k-2.k (omega arith))) inv.beside))
