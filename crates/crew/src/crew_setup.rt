@@ -41,6 +41,7 @@ impl CrewSetup {
             Err(TicketsError::BadCount | TicketsError::BadPasses) => unreachable!(),
         };
         let back = Endpoints::with_room(alloc, workers)?;
+        // The belt is opened last, because each `?` after it would drop it, which is expensive to prove.
         let (belt, senders, receiver) = Belt::open(alloc, ROOM, workers)?;
         let shared = Shared {
             job: haul.job(),
