@@ -233,6 +233,22 @@ taken_none lets workers held = record {
   in_order = λ w le ge i j d lt small. absurd (omega arith);
 }
 
+-- an observer that was handed nothing, while the haul has taken nothing
+pub crew_heard_none : (lets : ℕ → ℕ → Type 0) (workers : ℕ) (held : Held) (hears : List Reported → Type 0) → hears []
+    → HasHeardCrew lets workers held held hears
+crew_heard_none lets workers held hears nothing = record {
+  reports = [];
+  heard = nothing;
+  job = All-nil (λ (r : Reported). r.job ≡ held.terms.job);
+  by_workers = All-nil (λ (r : Reported). (1 ≤ r.worker) × (r.worker ≤ workers));
+  missing = All-nil (λ (r : Reported). Contains (was_missing held) r.number);
+  let_in = All-nil (λ (r : Reported). lets r.worker r.number);
+  once = λ n. let none : times_reported n [] ≡ 0 = refl in omega arith;
+  offers = [];
+  some = refl;
+  added = added_none held;
+}
+
 -- an observer that was handed nothing before the crew ran and nothing after it
 pub heard_between : {lets : ℕ → ℕ → Type 0} {workers : ℕ} {old new : Held} {O : Type 0} (hears : O → List Reported → O → Type 0)
     → ((s m t : O) (xs ys : List Reported) → hears s xs m → hears m ys t → hears s (xs ++ ys) t) → (begun first last ended : O)

@@ -1,12 +1,17 @@
 -- How a crew is run: the workers are started one at a time, and at the end all of them are back.
 use Rattle.std.specs.Prelude.{◌≡◌, ◌≤◌, ◌+◌, ◌++◌, ◌∷◌, [], ℕ, All, Bool, List, None, Option, Some, false, if◌then◌else◌, length, map, true, vec_capacity}
+use Rattle.std.specs.List.{range_with_len}
+use Rattle.std.specs.List.Sorted.{IsStrictlyIncreasing}
 use Rattle.memory.specs.declared.OutOfMemory.{OutOfMemory}
+use Rattle.haul_core.specs.Books.{Held}
 use Rattle.haul_core.specs.Reports.{IsWorker}
-use Rattle.handover.specs.Belts.{Presented, silent}
+use Rattle.handover.specs.Belts.{Presented, deaf, silent}
 use Rattle.handover.specs.Tickets.{Drawn, fresh}
 use Rattle.crew.specs.Crews.{Collected, Collector, collector_with}
+use Rattle.crew.specs.Takes.{was_missing}
 use Rattle.crew.specs.Workers.{Leaves, first_stopped, how_many_started, lacks_memory, sender_numbers, was_stopped}
 use Rattle.crew.specs.declared.note.Note.{Note}
+use Rattle.crew.specs.declared.crew_setup.CrewSetup.{CrewSetup}
 use Rattle.crew.specs.declared.endpoints.Endpoints.{Endpoints}
 use Rattle.crew.specs.declared.worker.End.{End}
 use Rattle.crew.specs.declared.worker.WorkerResult.{WorkerResult}
@@ -30,6 +35,21 @@ pub record HaveRoom (workers : ℕ) (endpoints : Endpoints) : Type 0 where
   pub no_senders : endpoints.senders.items ≡ []
   pub for_passes : workers ≤ vec_capacity endpoints.passes
   pub for_senders : workers ≤ vec_capacity endpoints.senders
+
+-- What this many workers need to survey what is missing in a haul: the missing numbers, a ticket for each of them, a belt,
+-- an unused pass and a silent sender for each worker, and room for the endpoints of all workers once they have ended.
+pub record IsSetUp (held : Held) (wanted : ℕ) (setup : CrewSetup) : Type 0 where
+  pub job : setup.shared.job ≡ held.terms.job
+  pub missing : setup.shared.missing.items ≡ was_missing held
+  pub ascending : IsStrictlyIncreasing setup.shared.missing.items
+  pub workers : setup.shared.belt.workers ≡ wanted
+  pub tickets : setup.shared.tickets.passes ≡ wanted
+  pub passes : All (λ p. p ≡ fresh setup.shared.tickets) setup.endpoints.passes.items
+  pub few : wanted ≤ 16
+  pub many : length setup.endpoints.passes.items ≡ wanted
+  pub senders : setup.endpoints.senders.items ≡ map (silent setup.shared.belt.name) (range_with_len 1 wanted)
+  pub receiver : setup.receiver ≡ deaf setup.shared.belt
+  pub back : HaveRoom wanted setup.back
 
 -- a pass and a sender were appended, and there is as much room as before
 pub record HasAddedEndpoint (pass : Drawn) (sender : Presented Note) (old new : Endpoints) : Type 0 where

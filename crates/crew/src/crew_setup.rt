@@ -1,11 +1,6 @@
 //! What a crew starts with: what its workers share, and the endpoints of each worker.
-ghost use Rattle.std.specs.Prelude.{◌≡◌, ◌≤◌, All, IfOk, false, length, map};
-ghost use Rattle.std.specs.List.{range_with_len};
-ghost use Rattle.std.specs.List.Sorted.{IsStrictlyIncreasing};
-ghost use Rattle.handover.specs.Belts.{deaf, silent};
-ghost use Rattle.handover.specs.Tickets.{fresh};
-ghost use Rattle.crew.specs.CrewSteps.{HaveRoom};
-ghost use Rattle.crew.specs.Takes.{was_missing};
+ghost use Rattle.std.specs.Prelude.{◌≡◌, ◌≤◌, IfOk, false};
+ghost use Rattle.crew.specs.CrewSteps.{IsSetUp};
 
 use crate::endpoints::Endpoints;
 use crate::note::Note;
@@ -36,18 +31,7 @@ impl CrewSetup {
         requires some { 1 ≤ workers }
         requires few { workers ≤ haul.now.terms.workers }
         requires open { haul.now.closed ≡ false }
-        ensures job { IfOk result (λ setup. setup.shared.job ≡ haul.now.terms.job) }
-        ensures missing { IfOk result (λ setup. setup.shared.missing.items ≡ was_missing haul.now) }
-        ensures ascending { IfOk result (λ setup. IsStrictlyIncreasing setup.shared.missing.items) }
-        ensures workers { IfOk result (λ setup. setup.shared.belt.workers ≡ workers) }
-        ensures tickets { IfOk result (λ setup. setup.shared.tickets.passes ≡ workers) }
-        ensures passes { IfOk result (λ setup. All (λ p. p ≡ fresh setup.shared.tickets) setup.endpoints.passes.items) }
-        ensures few { IfOk result (λ _. workers ≤ 16) }
-        ensures many { IfOk result (λ setup. length setup.endpoints.passes.items ≡ workers) }
-        ensures senders { IfOk result
-            (λ setup. setup.endpoints.senders.items ≡ map (silent setup.shared.belt.name) (range_with_len 1 workers)) }
-        ensures receiver { IfOk result (λ setup. setup.receiver ≡ deaf setup.shared.belt) }
-        ensures back { IfOk result (λ setup. HaveRoom workers setup.back) }
+        ensures { IfOk result (IsSetUp haul.now workers) }
     {
         haul.recall_workers_are_few();
         let missing = haul.missing()?;
@@ -56,8 +40,9 @@ impl CrewSetup {
             Err(TicketsError::Memory(error)) => return Err(error),
             Err(TicketsError::BadCount | TicketsError::BadPasses) => unreachable!(),
         };
-        let (belt, senders, receiver) = Belt::open(alloc, ROOM, workers)?;
         let back = Endpoints::with_room(alloc, workers)?;
+        // The belt is opened last, because each `?` after it would drop it, which is expensive to prove.
+        let (belt, senders, receiver) = Belt::open(alloc, ROOM, workers)?;
         let shared = Shared {
             job: haul.job(),
             tickets,

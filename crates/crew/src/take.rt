@@ -138,7 +138,6 @@ pub fn take<G: Gate + Sync, R: Threads + Wait + Sync, H: ProgressObserver>(
 
 /// Runs workers that survey what is missing in a haul. Returns the haul, and why soups may still be missing, or `None`
 /// if none are.
-#[tactic(auto, using(crate::proofs::TakeLemmas::taken_none))]
 fn complete_haul<G: Gate + Sync, R: Threads + Wait + Sync, H: ProgressObserver>(
     alloc: Global,
     rt: &R,

@@ -7,8 +7,32 @@ use Rattle.handover.specs.Belts.{Received}
 use Rattle.crew.specs.declared.note.Note.{Note}
 use Rattle.crew.proofs.EndLemmas.{crew_ends, ends_unbegun, if_some}
 use Rattle.crew.proofs.StepLemmas.{cause_none, cause_open, cause_stopped, ready_first}
-use Rattle.crew.proofs.TakeLemmas.{belts_of, crew_has_taken, crew_heard, crew_stops, crew_within, series_of_all}
+use Rattle.crew.proofs.TakeLemmas.{belts_of, crew_has_taken, crew_heard, crew_heard_none, crew_stops, crew_within, series_of_all, taken_none}
 use Rattle.crew.proofs.take.complete_haul.Goals as goal
+
+pub returns-then-is_complete-clause-taken : goal.returns-then-is_complete-clause-taken
+returns-then-is_complete-clause-taken g c = taken_none (g.G.Gate.lets c.args.gate.now) c.args.workers c.args.haul
+
+pub returns-then-is_complete-clause-complete : goal.returns-then-is_complete-clause-complete
+returns-then-is_complete-clause-complete g c _ = c.if-is_complete.ensures.complete.0 refl
+
+pub returns-then-is_complete-clause-ends : goal.returns-then-is_complete-clause-ends
+returns-then-is_complete-clause-ends g c = tt
+
+pub returns-then-is_complete-clause-heard : goal.returns-then-is_complete-clause-heard
+returns-then-is_complete-clause-heard g c =
+    crew_heard_none (g.G.Gate.lets c.args.gate.now) c.args.workers c.args.haul
+    (λ reports. g.H.ProgressObserver.hears c.args.observer.now reports c.args.observer.now)
+    (g.met.H.ProgressObserver.hears_none c.args.observer.now)
+
+pub returns-in-Err-clause-taken : goal.returns-in-Err-clause-taken
+returns-in-Err-clause-taken g c = taken_none (g.G.Gate.lets c.args.gate.now) c.args.workers c.args.haul
+
+pub returns-in-Err-clause-heard : goal.returns-in-Err-clause-heard
+returns-in-Err-clause-heard g c =
+    crew_heard_none (g.G.Gate.lets c.args.gate.now) c.args.workers c.args.haul
+    (λ reports. g.H.ProgressObserver.hears c.args.observer.now reports c.args.observer.now)
+    (g.met.H.ProgressObserver.hears_none c.args.observer.now)
 
 pub run_in_scope-crew-requires-after_bounds : goal.run_in_scope-crew-requires-after_bounds
 run_in_scope-crew-requires-after_bounds g c κs within =
