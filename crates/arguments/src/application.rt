@@ -1,8 +1,8 @@
-//! The program as `clap` knows it, made from the table.
+//! The program as `clap` knows it, made from the table of commands.
 //!
 //! ```text
-//! rows ── a row ── command ──┐
-//!           └─ arguments ────┴─ program with its commands
+//! each row of the table ──┬─ name and help texts ──┬─ command ── program with its commands
+//!                         └─ rows of arguments ────┘
 //! ```
 
 ghost use Rattle.std.specs.Prelude.{◌≡◌, ◌∷◌, [], IfOk, map, true, false};
@@ -33,7 +33,7 @@ const EXAMPLES: &str = "To begin with:\n  \
          census show xs7_178c                   draws an object\n\n\
          Run `census help take` for details of a command.";
 
-/// Returns the program as `clap` knows it.
+/// Returns the program as `clap` knows it, with all its commands.
 ///
 /// # Errors
 ///
@@ -44,8 +44,8 @@ pub fn census_command<'a>(alloc: Global) -> Result<Command<'a>, OutOfMemory>
     with_commands(alloc, program(alloc), &rows())
 }
 
-/// Returns the rows of all commands, as help lists them. The long rows have functions of their own, because one
-/// function with all rows takes twice as long to prove.
+/// Returns the rows of all commands, in the order in which help lists them. The long rows have functions of their own,
+/// because one function with all rows takes twice as long to prove.
 fn rows() -> [CommandRow; 7]
     ensures { map command_of result ≡ commands }
 {
@@ -53,7 +53,7 @@ fn rows() -> [CommandRow; 7]
     [run, name, show, soup, take_row(), work_row(), gather_row()]
 }
 
-/// Returns the rows of the commands with few options.
+/// Returns the rows of `run`, `name`, `show` and `soup`.
 fn short_rows() -> [CommandRow; 4]
     ensures { map command_of result ≡ run_command ∷ name_command ∷ show_command ∷ soup_command ∷ [] }
 {
@@ -81,7 +81,8 @@ fn gather_row() -> CommandRow
     GATHER
 }
 
-/// Returns the program without its commands. It requires a command, and shows help if no argument follows.
+/// Returns the program without its commands. The program requires a command, and shows help if it is called without
+/// arguments.
 fn program<'a>(alloc: Global) -> Command<'a>
     ensures { app_of result ≡ program }
 {
@@ -93,7 +94,7 @@ fn program<'a>(alloc: Global) -> Command<'a>
         .arg_required_else_help(true)
 }
 
-/// Adds these commands to the program.
+/// Adds the commands of these rows to the program, in this order.
 fn with_commands<'a>(
     alloc: Global,
     program: Command<'a>,
@@ -134,7 +135,7 @@ fn command<'a>(alloc: Global, row: &CommandRow) -> Result<Command<'a>, OutOfMemo
     with_parameters(alloc, command, row.parameters)
 }
 
-/// Adds these arguments to the command.
+/// Adds the arguments of these rows to the command, in this order.
 fn with_parameters<'a>(
     alloc: Global,
     command: Command<'a>,
@@ -172,7 +173,8 @@ fn parameter<'a>(alloc: Global, row: &Parameter) -> Arg<'a>
     }
 }
 
-/// Returns the argument of a row that has a value, which may be any text.
+/// Returns the argument of a row as an argument with a value, which may be any text. If the row has no default, the
+/// argument is required.
 fn with_value<'a>(alloc: Global, row: &Parameter) -> Arg<'a>
     ensures rule { rule_of result ≡ placed (entry_of row.now) }
     ensures local { result.global ≡ false }
@@ -184,7 +186,7 @@ fn with_value<'a>(alloc: Global, row: &Parameter) -> Arg<'a>
     }
 }
 
-/// Returns the argument of a row with only its name and place.
+/// Returns the argument of a row with its name, its place and its help, but without a default or a range.
 fn with_place<'a>(alloc: Global, row: &Parameter) -> Arg<'a>
     ensures rule { rule_of result ≡ named (entry_of row.now) }
     ensures local { result.global ≡ false }

@@ -30,8 +30,8 @@ use std::convert::AsStr;
 /// The usage text if the text of `clap`'s error is empty.
 const NOT_UNDERSTOOD: &str = "error: the words are not understood";
 
-/// The usage text if `clap` finds no fault, and yet there is no request. Only options of `run` can contradict each
-/// other.
+/// The usage text if `clap` finds no fault, but the arguments give no request. This happens only if options of `run`
+/// contradict each other.
 const CONTRADICTION: &str =
     "error: `--sizes` can't be used with `--coordinates`, and its FROM is at most N\n\n\
     For more information, try '--help'.";
@@ -39,9 +39,9 @@ const CONTRADICTION: &str =
 /// Why arguments give no request.
 #[derive(Debug, Drop)]
 pub enum Unasked {
-    /// They weren't understood, contradict each other, or ask for help. The text ends with a line feed.
+    /// The arguments weren't understood, contradict each other, or ask for help. The text ends with a line feed.
     Usage(String),
-    /// Memory ran out while `clap` read them.
+    /// Memory ran out while `clap` read the arguments.
     Unread(clap::Error),
     /// Memory ran out for the table of commands, or for a text.
     Memory(OutOfMemory),
@@ -84,14 +84,15 @@ pub fn request_of<'a, S: AsStr>(alloc: Global, arguments: &'a [S]) -> Result<Req
     }
 }
 
-/// The law that a command asks for the values that are given, in any order, and for the defaults of the others.
+/// The law that a command asks for the values of the arguments that are given, in any order, and for the defaults of
+/// those that aren't.
 #[tactic(auto, using(crate::proofs::LawLemmas::ask_for_their_values))]
 pub fn commands_ask_for_their_values()
     ensures { AskForTheirValues }
 {}
 
-/// The law that a missing argument, an argument given twice, a value out of its range, an unknown option and `--help`
-/// ask for nothing.
+/// The law that a call of a command asks for nothing if a required argument is missing, an argument is given twice, a
+/// value is out of its range, an option is unknown, or `--help` is given.
 #[tactic(auto, using(crate::proofs::RefuseLemmas::others_ask_for_nothing))]
 pub fn others_ask_for_nothing()
     ensures { OthersAskForNothing }
@@ -103,7 +104,8 @@ pub fn asks_for_version()
     ensures { AsksForVersion }
 {}
 
-/// The law that no command, an unknown command and `--help` ask for nothing.
+/// The law that a call asks for nothing if it has no arguments, if its first argument is an unknown command, or if its
+/// only argument is `--help`.
 #[tactic(auto, using(crate::proofs::RefuseLemmas::no_command_asks_for_nothing))]
 pub fn no_command_asks_for_nothing()
     ensures { NoCommandAsksForNothing }
@@ -147,7 +149,8 @@ fn request_named<'a>(name: &str, found: &ArgMatches<'a>) -> Option<Request<'a>>
     }
 }
 
-/// Returns the text of `clap`'s error as a usage text, or that memory ran out.
+/// Returns [`Unasked::Usage`] with the text of `clap`'s error. If memory ran out before, or runs out for the text,
+/// returns the error that says so.
 fn unasked_by(alloc: Global, error: clap::Error) -> Unasked
     ensures usage { IsUsage result → kind_of error ≢ ErrorKind.OutOfMemory }
     ensures why { SaysWhy result }
@@ -161,7 +164,7 @@ fn unasked_by(alloc: Global, error: clap::Error) -> Unasked
     }
 }
 
-/// Returns the usage error with this text, or that memory ran out.
+/// Returns [`Unasked::Usage`] with this text, or [`Unasked::Memory`] if memory runs out.
 fn usage(alloc: Global, text: &str) -> Unasked
     ensures { SaysWhy result }
 {
@@ -179,7 +182,8 @@ fn text_of(alloc: Global, error: &clap::Error) -> Result<String, OutOfMemory>
     usage_text(alloc, text.as_str())
 }
 
-/// Returns the text, with a line feed at its end if it lacks one. An empty text is replaced by [`NOT_UNDERSTOOD`].
+/// Returns the text, with a line feed added unless [`is_ended`] holds for it. An empty text is replaced by
+/// [`NOT_UNDERSTOOD`].
 fn usage_text(alloc: Global, text: &str) -> Result<String, OutOfMemory>
     ensures { IfOk result (λ text. IsUsageText (string_bytes text)) }
 {

@@ -10,11 +10,11 @@ use crate::options::{
 pub struct CommandRow {
     /// The name by which it is called.
     pub name: &'static str,
-    /// What the list of commands says about it.
+    /// What the list of commands in the program's help says about it.
     pub about: &'static str,
-    /// What its own help says about it, before its options.
+    /// What the command's own help says before its options.
     pub long_about: &'static str,
-    /// What its own help says about it, after its options.
+    /// What the command's own help says after its options.
     pub after_help: &'static str,
     /// Its options and positional arguments.
     pub parameters: &'static [Parameter],

@@ -11,7 +11,7 @@
 
 /// The commands and their arguments, as `clap` knows them.
 pub mod application;
-/// What the arguments of a call ask for.
+/// From the arguments of a call to its request, or to an error.
 pub mod calls;
 /// The table of commands.
 pub mod commands;
@@ -19,7 +19,7 @@ pub mod commands;
 pub mod options;
 /// The request of a command, from the values of its arguments.
 pub mod reading;
-/// What arguments ask for.
+/// Requests: each command with its values.
 pub mod request;
 /// The values of arguments, each looked up by its row.
 pub mod values;

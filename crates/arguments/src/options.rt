@@ -11,7 +11,7 @@ pub enum ValueKind {
     Text,
     /// No value: the argument is given or not.
     Flag,
-    /// A number from the first to the second number, in decimal digits, perhaps after a `+`.
+    /// A number from the first field to the second, both included, in decimal digits, perhaps after a `+`.
     Number(u64, u64),
     /// A number as for `Number`, or none: the option may be left out, and has no default.
     OptionalNumber(u64, u64),
@@ -22,7 +22,8 @@ pub enum ValueKind {
 pub enum Place {
     /// By itself: the first argument that isn't an option.
     Position,
-    /// After `--` and its name, in the next argument or after `=`. Help shows this word in place of the value.
+    /// After `--` and the argument's name. The value is the next argument, or follows `=`. Help shows this word in
+    /// place of the value. For a flag, which has no value, the word is empty.
     Named(&'static str),
 }
 
@@ -35,18 +36,19 @@ pub struct Parameter {
     pub place: Place,
     /// The kind of its value.
     pub kind: ValueKind,
-    /// The value if it isn't given. Without a default it is required, unless it is a flag or an optional number.
+    /// The value if the argument isn't given. An argument without a default is required, unless it is a flag or an
+    /// optional number.
     pub default: Option<&'static str>,
-    /// The heading under which help shows it, or `None` for the list of the other options.
+    /// The heading under which help shows the argument, or `None` if it is shown under no heading of its own.
     pub heading: Option<&'static str>,
     /// What help says about it.
     pub help: &'static str,
 }
 
-/// The most workers, and so the highest number of a worker: as many as a haul may have.
+/// The most workers that a haul may have. Workers are numbered from 1, so this is also the highest number of a worker.
 const MOST_WORKERS: u64 = 16;
 
-/// The highest first number of a range. Soup numbers are below it, so only an empty range may begin there.
+/// The highest number at which a range may begin. Soup numbers are lower, so only an empty range may begin at it.
 const MOST_FIRST: u64 = 1 << 40;
 
 /// The heading of the options that say when a soup has settled, which few users change.
@@ -118,7 +120,7 @@ pub const RULE: Parameter = Parameter {
          write B3/S23, is b3s23. `haul cells` says which rule an RLE has",
 };
 
-/// The seed.
+/// The seed from which the soups are made.
 pub const SEED: Parameter = Parameter {
     name: "seed",
     place: Place::Named("SEED"),
@@ -169,7 +171,7 @@ pub const PERIOD: Parameter = Parameter {
     help: "The longest period that an object may have, from 1 to 64",
 };
 
-/// For how many generations objects must keep apart.
+/// The number of generations for which objects must keep apart.
 pub const HORIZON: Parameter = Parameter {
     name: "horizon",
     place: Place::Named("HORIZON"),
@@ -212,7 +214,7 @@ pub const WORKERS: Parameter = Parameter {
          is the same for any number",
 };
 
-/// The highest number of a worker whose lines are taken.
+/// The highest number of a worker whose report lines `gather` takes.
 pub const REPORTERS: Parameter = Parameter {
     name: "workers",
     place: Place::Named("WORKERS"),
@@ -223,7 +225,7 @@ pub const REPORTERS: Parameter = Parameter {
          lines of worker 3 need `--workers 3`",
 };
 
-/// The number of the worker that reports.
+/// The number of the worker that reports in `work`.
 pub const WORKER: Parameter = Parameter {
     name: "worker",
     place: Place::Named("WORKER"),
@@ -244,7 +246,8 @@ pub const PROGRESS: Parameter = Parameter {
          line is wiped at the end",
 };
 
-/// The first generation at which a soup that settles counts as late, if late soups are to be reported.
+/// The generation from which soups count as late: those that settle at this generation or later, and unsettled ones.
+/// Late soups are reported if this option is given.
 pub const REPORT_FROM: Parameter = Parameter {
     name: "report-from",
     place: Place::Named("GENERATION"),

@@ -5,6 +5,8 @@
 //!                                           ├─ set ─────┼─ plan ── request
 //!                                           └─ rule ────┘
 //! ```
+//!
+//! In this module, a value counts as missing if `clap` found none, or if it is a number out of its row's range.
 
 ghost use Rattle.std.specs.Prelude.{◌≡◌, IfSome};
 ghost use Rattle.clap.specs.Words.{found_of, rows_of};
@@ -50,7 +52,7 @@ fn period_in(found: &ArgMatches<'_>) -> Option<u32>
     Some(period as u32)
 }
 
-/// Returns for how many generations objects must keep apart, or `None` if it is missing.
+/// Returns the number of generations for which objects must keep apart, or `None` if it is missing.
 fn horizon_in(found: &ArgMatches<'_>) -> Option<u32>
     ensures number { result ≡ number_found horizon (rows_of (found_of found.now)) }
     ensures range { IfSome result (IsInRange horizon.kind) }
@@ -247,7 +249,7 @@ pub(crate) fn take_request<'a>(found: &ArgMatches<'a>) -> Option<Request<'a>>
     })
 }
 
-/// Returns the first generation at which a soup that settles counts as late, or `None` if it isn't given.
+/// Returns the generation from which soups count as late, or `None` if it isn't given.
 fn report_from_in(found: &ArgMatches<'_>) -> Option<u32>
     ensures generation { result ≡ number_found report_from (rows_of (found_of found.now)) }
     ensures range { IfSome result (IsInRange report_from.kind) }

@@ -25,14 +25,15 @@ pub enum Request<'a> {
         code: Text<'a>,
         form: PatternForm,
     },
-    /// The soup of a seed with this number.
+    /// The soup with this number, of a seed.
     Soup {
         seed: Text<'a>,
         number: u64,
         form: PatternForm,
     },
-    /// The haul of all soups of a plan, taken with this number of workers; whether a progress line is asked for; and
-    /// the first generation at which a soup that settles counts as late, if late soups are to be reported.
+    /// The haul of all soups of a plan, taken with this number of workers. `progress` says whether a progress line is
+    /// asked for. If `report_from` is given, unsettled soups and those that settle at this generation or later are
+    /// reported.
     Take {
         plan: Plan<'a>,
         workers: u8,

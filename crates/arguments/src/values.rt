@@ -27,7 +27,8 @@ pub fn number_found(found: &ArgMatches<'_>, row: &Parameter) -> Option<u64>
     }
 }
 
-/// Returns the number that was found for the argument `id`, or `None` if there is none or it is greater than `most`.
+/// Returns the number that was found for the argument `id`, or `None` if there is none or the number is greater than
+/// `most`.
 fn number_up_to(found: &ArgMatches<'_>, id: &str, most: u64) -> Option<u64>
     ensures number { result ≡ number_up_to most id.now (rows_of (found_of found.now)) }
     ensures most { IfSome result (λ n. n ≤ most) }
@@ -35,7 +36,7 @@ fn number_up_to(found: &ArgMatches<'_>, id: &str, most: u64) -> Option<u64>
     within(most, found.get_one::<u64>(id))
 }
 
-/// Returns the number, if it is at most `most`.
+/// Returns the number, or `None` if there is none or the number is greater than `most`.
 fn within(most: u64, number: Option<u64>) -> Option<u64>
     ensures number { result ≡ option_and_then (within most) number }
     ensures most { IfSome result (λ n. n ≤ most) }

@@ -1,8 +1,8 @@
 //! The program: a census of random soups of Conway's Game of Life and other Life-like rules.
 //!
-//! `main` calls [`run_program`](program::run_program) with the arguments and streams of the process. It turns the
-//! arguments into a request with [`request_of`](arguments::calls::request_of), and passes the values of the request to
-//! the function of its command.
+//! `main` calls [`run_program`](program::run_program) with the arguments and streams of the process. `run_program`
+//! turns the arguments into a request with [`request_of`](arguments::calls::request_of), and passes the values of the
+//! request to the function of its command.
 #![tactic(auto)]
 
 mod program;

@@ -48,7 +48,7 @@ pub struct Ended<W: Write + Drop> {
 ///
 /// `arguments` are those of `std::env::args`: the first is the program's name, and arguments that aren't UTF-8 are an
 /// error. `output` is written through a buffer and given back. No earlier write to standard error may have failed. The
-/// machine's observer writes the progress line to a writer of its own, and nothing else depends on it.
+/// machine's observer writes the progress line to a writer of its own, and nothing else depends on the observer.
 pub fn run_program<
     T: Threads + Wait + Sync,
     R: Read,
@@ -64,17 +64,19 @@ pub fn run_program<
 ) -> Ended<W>
     requires { machine.old.errors.failed ≡ false }
 
-    // With code 0 the arguments are texts, what they ask for was done, and the writer has received the whole answer.
+    // With code 0, the arguments are texts, what they ask for was done, and the writer has received the whole answer.
     ensures done { result.code ≡ 0 → IsOkAnd arguments (λ list. IsSomeAnd result.output (λ writer.
         IsDone (map string_bytes list.items) (R.remaining input.old) (W.contents output) (W.contents writer)
         (stream E.contents machine.old.errors machine.new.errors) 0)) }
 
-    // After a call of `take`, `name` or `gather` with permitted options, the writer has what the call asks for.
+    // With code 0, after a call of `take`, `name` or `gather` with permitted options, the writer has what the call asks
+    // for.
     ensures headline { result.code ≡ 0 → IsOkAnd arguments (λ list. IsSomeAnd result.output (λ writer.
         PrintsWhatIsAsked (map string_bytes list.items) (R.remaining input.old) (W.contents output)
         (W.contents writer))) }
 
-    // The same after a call of `gather` that ends with code 6, because soups are missing.
+    // With code 6, after a call of `gather` with permitted options, soups are missing, and the writer has the haul of
+    // those soups for which the input has a correct line.
     ensures headline_incomplete { result.code ≡ 6 → IsOkAnd arguments (λ list. IsSomeAnd result.output (λ writer.
         GatherPrintsItsLines (map string_bytes list.items) (R.remaining input.old) (W.contents output)
         (W.contents writer) 6)) }
@@ -84,10 +86,11 @@ pub fn run_program<
         result.code output result.output (stream E.contents machine.old.errors machine.new.errors)
         (input.new ≡ input.old)) }
 
-    // With code 2 a text on standard error says why, whatever the arguments are.
+    // With code 2, a text on standard error says why, whatever the arguments are.
     ensures tells_usage { result.code ≡ 2 → TellsUsage (stream E.contents machine.old.errors machine.new.errors) }
 
-    // If the arguments aren't texts.
+    // If the arguments couldn't be read, the code is 4 if memory ran out, and otherwise 2: they aren't UTF-8. Nothing
+    // was read from the input or written to the output.
     ensures not_text { IfErr arguments (λ error. error_kind error ≢ ErrorKind.OutOfMemory → (result.code ≡ 2)
         × HasLine (stream E.contents machine.old.errors machine.new.errors) not_text_line) }
     ensures no_memory { IfErr arguments (λ error. error_kind error ≡ ErrorKind.OutOfMemory → (result.code ≡ 4)

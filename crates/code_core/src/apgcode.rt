@@ -54,11 +54,11 @@ impl Kind {
 /// The apgcode of a pattern that recurs (LifeWiki, "Apgcode").
 ///
 /// It is `xs` and the population for a still life, `xp` or `xq` and the period for an oscillator or a spaceship, then
-/// `_` and the first of the extended Wechsler texts of all generations in all orientations: shorter texts come first.
-/// An object that is too large for a text has `ov_s`, `ov_p` or `ov_q` and the number. Three examples: `xs4_33`,
-/// `xq4_153`, `ov_s56`.
+/// `_` and the least of the extended Wechsler texts of all phases in all orientations: shorter texts come first, and
+/// texts of the same length are in ASCII order. An object that is too large for a text has `ov_s`, `ov_p` or `ov_q` and
+/// the same number. Three examples: `xs4_33`, `xq4_153`, `ov_s56`.
 ///
-/// Apgcodes are compared by their texts, byte by byte, and hashed by them. Contracts see an apgcode as its text.
+/// Apgcodes are compared and hashed by their texts, byte by byte. Contracts see an apgcode as its text.
 #[derive(Drop)]
 pub struct Apgcode {
     text: String,
@@ -80,7 +80,7 @@ impl Model for Apgcode {
 }
 
 impl Apgcode {
-    /// Makes the apgcode with this kind, number and text. There is no text if the object is too large for one.
+    /// Makes the apgcode with this kind, number and text. `text` is `None` if the object is too large for a text.
     pub(crate) fn make(
         alloc: Global,
         kind: Kind,
@@ -135,7 +135,7 @@ impl Apgcode {
     }
 }
 
-/// The laws that the text of an apgcode determines its kind, and its number if that fits in 64 bits.
+/// The laws that the text of an apgcode determines its kind, and also its number if the number fits in 64 bits.
 #[tactic(auto, using(crate::proofs::ApgcodeLemmas::kind_of_name, crate::proofs::ApgcodeLemmas::number_of_name))]
 pub fn readings()
     ensures kind { (kind : Kind) (number : ℕ) (text : Option (List ℕ)) → kind_in (code_text kind number text) ≡ kind }
@@ -143,7 +143,8 @@ pub fn readings()
         → number_in (code_text kind number text) ≡ number }
 {}
 
-/// Returns the text of the apgcode with this kind, number and extended Wechsler text.
+/// Returns the text of the apgcode with this kind, number and extended Wechsler text. `text` is `None` if the object is
+/// too large for a text.
 #[tactic(auto, unfolding(crate::specs::Apgcodes::code_text))]
 fn spelled(
     alloc: Global,
@@ -208,7 +209,7 @@ impl Hash for Apgcode {
     }
 }
 
-/// Writes the text.
+/// Writes the text of the apgcode.
 impl fmt::Display for Apgcode {
     ghost output = { λ code. Some code };
 
@@ -217,7 +218,7 @@ impl fmt::Display for Apgcode {
     }
 }
 
-/// Writes the text, as `Display` does.
+/// Writes the text of the apgcode, as `Display` does.
 impl fmt::Debug for Apgcode {
     fn fmt<W: fmt::Write>(&self, f: &mut fmt::Formatter<W>) -> fmt::Result {
         f.write_str(self.text())

@@ -1,4 +1,4 @@
-//! The images of a small pattern, as rows of bits. No list of an image's cells is made:
+//! The images of a small pattern in the eight orientations, as rows of bits. No list of an image's cells is made:
 //!
 //! ```text
 //! pattern      distances of one cell from       its image
@@ -9,7 +9,7 @@
 //!                                               O O .  <-- column 1 (bottom), row 2 (left)
 //! ```
 //!
-//! In each orientation, two of the four distances are the column and the row.
+//! In each orientation, two of the four distances are the column and the row of the cell's image.
 ghost use Rattle.std.specs.Prelude.{◌≡◌, ◌<◌, Some, pos};
 ghost use Rattle.plane_core.specs.plane.Bounds.{box_of};
 ghost use Rattle.plane_core.specs.plane.Cells.{cell_at, distance};
@@ -39,7 +39,8 @@ pub(crate) fn image_rows(cells: &[Cell], bounds: Bounds, orientation: Orientatio
     rows
 }
 
-/// Returns the box of the image of a pattern, whose own box is `bounds`.
+/// Returns the box of a pattern's image in an orientation, moved to the corner (0, 0). `bounds` is the box of the
+/// pattern.
 pub(crate) fn image_box(bounds: Bounds, orientation: Orientation) -> Bounds
     requires width { distance bounds.left bounds.right < CODE_SIDE_LIMIT }
     requires height { distance bounds.top bounds.bottom < CODE_SIDE_LIMIT }
@@ -70,14 +71,14 @@ fn box_to(right: i32, bottom: i32) -> Bounds
     }
 }
 
-/// A column and a row of an image.
+/// A place in an image: its column and its row, counted from 0.
 #[derive(Clone, Copy)]
 struct Place {
     column: u32,
     row: u32,
 }
 
-/// Returns the place in the image of a cell of the pattern, whose own box is `bounds`.
+/// Returns where a cell of a pattern is in the pattern's image. `bounds` is the box of the pattern.
 #[inline(always)]
 fn place_in_image(cell: Cell, bounds: Bounds, orientation: Orientation) -> Place
     ensures { cell_at (pos result.column) (pos result.row) ≡ image_cell orientation bounds cell }

@@ -3,7 +3,7 @@
 
 /// Apgcodes as values: their texts, kinds and numbers.
 pub mod apgcode;
-/// Numbers in decimal.
+/// Writing numbers in decimal.
 pub mod decimal;
 mod image_rows;
 /// The name of a pattern that recurs.

@@ -1,6 +1,6 @@
 //! Names a pattern, in two steps. First the pattern is followed until it recurs, which gives its kind, its number and
-//! its phases. Then the texts of all phases in the eight orientations are compared, and the least one ends the apgcode.
-//! A shorter text is less than a longer one, and texts of the same length are in ASCII order.
+//! its phases. Then the texts of all phases in the eight orientations are compared, and the apgcode ends with the least
+//! one. A shorter text is less than a longer one, and texts of the same length are in ASCII order.
 //!
 //! ```text
 //! generation 0    generation 1    generation 2
@@ -11,7 +11,7 @@
 //! lying: 111      upright: 7                    two texts, of which 7 is the shorter one: xp2_7
 //! ```
 //!
-//! Each phase is made once and kept, and no text is made of a pattern that doesn't recur.
+//! The phases are kept, so they aren't made again for their texts. No text is made of a pattern that doesn't recur.
 
 ghost use Rattle.std.specs.Prelude.{Option, ℕ, ◌≡◌, ◌≢◌, ◌<◌, ◌≤◌, [], Some, Err, length, option_map};
 ghost use Rattle.std.specs.Prelude.{string_bytes, IfOk};
@@ -46,7 +46,7 @@ use std::cmp::Ordering;
 ///   has such a cell, the error is returned before any memory is asked for.
 /// - [`StepError::Memory`] if memory runs out.
 ///
-/// The generations are made in order until one is the pattern again, and the first error ends the search.
+/// The generations are made in order until one of them is the pattern again. The first error ends the search.
 ///
 /// # Examples
 ///
@@ -86,7 +86,7 @@ pub fn codes_have_their_shape()
     ensures { CodesHaveTheirShape }
 {}
 
-/// Returns the apgcode of a pattern whose phases are known. It is the one that [`name`] finds.
+/// Returns the apgcode of a pattern that recurs as `cycle` says. It is the same apgcode that [`name`] finds.
 ///
 /// # Errors
 ///
@@ -123,7 +123,7 @@ fn kind_of(recurrence: Recurrence) -> Kind
     }
 }
 
-/// Returns the least text of the phases in all orientations, or `None` if they have no text.
+/// Returns the least text of the phases in all orientations, or `None` if no phase has a text.
 fn least_text(alloc: Global, phases: &[Pattern]) -> Result<Option<String>, OutOfMemory>
     ensures { IfOk result
         (λ found. IsLeastOf (Among (IsImageOf phases.now) (length phases.now)) (option_map string_bytes found)) }
@@ -154,7 +154,7 @@ fn least_image(
     Ok(least)
 }
 
-/// Returns the earlier of two texts, or the only one, if any.
+/// Returns the earlier of two texts, the only one if just one is given, or `None` if none is given.
 fn earlier(one: Option<String>, other: Option<String>) -> Option<String>
     ensures { option_map string_bytes result
         ≡ earlier_text (option_map string_bytes one) (option_map string_bytes other) }

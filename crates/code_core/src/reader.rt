@@ -1,8 +1,8 @@
 //! Reads texts in extended Wechsler format (LifeWiki, "Apgcode") back to patterns.
 //!
 //! ```text
-//! 0ccz11   ->   strip 0: columns 0, c, c      Each column of a strip has five cells, the top one counting 1.
-//!               strip 1: columns 1, 1
+//! 0ccz11   ->   strip 0: columns 0, c, c      Each column of a strip has five cells, which count
+//!               strip 1: columns 1, 1         1, 2, 4, 8 and 16, from the top.
 //! ```
 ghost use Rattle.std.specs.Prelude.{◌≡◌, ◌≢◌, ◌↔◌, ◌<◌, ◌≤◌, ◌+◌, ◌*◌, ◌++◌, ◌∷◌, [], ℕ, List, Some, None, Ok, Err};
 ghost use Rattle.std.specs.Prelude.{true, length, pos, IfOk, IfErr, OnOk, IsErrOf, MatchResult, IfSome, IfNone};
@@ -28,8 +28,8 @@ use std::alloc::Global;
 use std::fmt;
 use thiserror::Error;
 
-/// The longest text that is read, in bytes. The cells of such a text fit on the plane, because a byte moves at most 39
-/// columns to the right or begins a strip of five rows.
+/// The longest text that is read, in bytes. The cells of such a text fit on the plane, because each byte either moves
+/// on by at most 39 columns to the right, or begins a new strip of five rows.
 pub const TEXT_LIMIT: usize = 10_000;
 
 /// What is wrong with a text. `place` counts bytes from 0.
@@ -131,7 +131,8 @@ pub fn read_wechsler(alloc: Global, text: &str) -> Result<Pattern, WechslerError
     ensures fault { (fault : WechslerFault) →
         IsErrOf result (WechslerError.Fault fault) ↔ (wechsler_read text.now ≡ Err fault) }
 
-    // What is read is the text's pattern, and every text of a pattern is read.
+    // The result is the pattern that the text describes. Each text of at most 10,000 bytes that describes a pattern
+    // with a live cell is read, unless memory runs out.
     ensures says { IfOk result (Says text.now) }
     ensures complete { (cells : List Cell) → Says text.now cells → cells ≢ [] → length text.now ≤ 10000
         → MatchResult result (λ read. read ≡ cells) (λ error. error ≡ Memory out_of_memory) }
@@ -148,13 +149,13 @@ pub fn read_wechsler(alloc: Global, text: &str) -> Result<Pattern, WechslerError
     read(alloc, text.as_bytes())
 }
 
-/// The law that the text of each pattern is read again, as the pattern moved to the corner.
+/// The law that reading the text of a pattern gives the pattern again, moved to the corner (0, 0).
 #[tactic(auto, using(crate::proofs::RoundTrip::texts_are_read))]
 pub fn texts_are_read()
     ensures { TextsAreRead }
 {}
 
-/// Returns the pattern of a text.
+/// Returns the pattern of a text, as [`read_wechsler`] does.
 fn read(alloc: Global, text: &[u8]) -> Result<Pattern, WechslerError>
     ensures pattern { IfOk result (λ read. wechsler_read text.now ≡ Ok read) }
     ensures fault { (fault : WechslerFault) →
@@ -169,7 +170,7 @@ fn read(alloc: Global, text: &[u8]) -> Result<Pattern, WechslerError>
     pattern_in(alloc, text)
 }
 
-/// Returns the fault of a text that isn't too long, or `None` if it has no fault.
+/// Returns the fault of a text, or `None` if it has no fault. The length of the text isn't checked.
 #[tactic(auto, using(crate::proofs::TokenReading::shorter, crate::proofs::ReaderLoops::Passed_none, crate::proofs::ReaderLoops::Passed_more))]
 fn fault_in(text: &[u8]) -> Option<WechslerFault>
     ensures { result ≡ result_err (wechsler_pattern text.now) }
@@ -205,7 +206,7 @@ fn fault_at(place: usize, remainder: &[u8]) -> Option<WechslerFault>
     }
 }
 
-/// Returns the pattern of a text that has no fault, column by column.
+/// Returns the pattern of a text that has no fault.
 ///
 /// # Errors
 ///
@@ -238,7 +239,7 @@ struct Head {
     x: u32,
 }
 
-/// Appends the cells of a token to the list, and returns the place of the next column.
+/// Appends the live cells of a token to the list, and returns the place of the next column.
 fn push_token(cells: &mut Vec<Cell>, head: Head, token: Token) -> Result<Head, OutOfMemory>
     requires strip { head.strip ≤ TEXT_LIMIT }
     requires column { head.x ≤ 39 * TEXT_LIMIT }
@@ -268,7 +269,7 @@ fn push_token(cells: &mut Vec<Cell>, head: Head, token: Token) -> Result<Head, O
     }
 }
 
-/// Appends the cells of a column with this value to the list.
+/// Appends the live cells of a column to the list. The column is at `head`, and has this value.
 fn push_column(cells: &mut Vec<Cell>, head: Head, value: u8) -> Result<(), OutOfMemory>
     requires strip { head.strip ≤ TEXT_LIMIT }
     requires column { head.x ≤ 39 * TEXT_LIMIT }
@@ -282,7 +283,7 @@ fn push_column(cells: &mut Vec<Cell>, head: Head, value: u8) -> Result<(), OutOf
     Ok(())
 }
 
-/// Returns the cell in row `i`, 0 to 4, of the column at this place.
+/// Returns the cell in row `i`, 0 to 4, of the column at `head`.
 fn cell_of(head: Head, i: u32) -> Cell
     requires strip { head.strip ≤ TEXT_LIMIT }
     requires column { head.x ≤ 39 * TEXT_LIMIT }
@@ -334,19 +335,19 @@ fn is_column(token: Token) -> bool
     matches!(token, Token::Column(_))
 }
 
-/// A run of one empty column.
+/// The character for a run of one empty column.
 const ONE_EMPTY: u8 = b'0';
 
-/// A run of two empty columns.
+/// The character for a run of two empty columns.
 const TWO_EMPTY: u8 = b'w';
 
-/// A run of three empty columns.
+/// The character for a run of three empty columns.
 const THREE_EMPTY: u8 = b'x';
 
-/// A run of 4 to 39 empty columns. The next character gives the length.
+/// The character that begins a run of 4 to 39 empty columns. The next character gives the length.
 const MANY_EMPTY: u8 = b'y';
 
-/// The end of a strip.
+/// The character that ends a strip.
 const STRIP_END: u8 = b'z';
 
 /// Returns the token of a character other than `y`.

@@ -13,20 +13,21 @@ use plane_core::plane::rule::Rule;
 use std::alloc::Global;
 
 /// How a pattern recurs: after `period` generations, and not earlier, it is the same pattern again, moved by (dx, dy).
-/// [`Recurrence::find`] follows a pattern until it does.
+/// [`Recurrence::find`] follows a pattern until it recurs.
 #[derive(Clone, Copy, Debug, PartialEq, Eq)]
 pub struct Recurrence {
     /// The smallest number of generations after which the pattern recurs, at least 1.
     pub period: u32,
-    /// How many cells the pattern has moved right after a period, or left if this is negative.
+    /// The number of cells by which the pattern moves to the right in a period. It is negative if the pattern moves to
+    /// the left.
     pub dx: i32,
-    /// How many cells the pattern has moved down after a period, or up if this is negative.
+    /// The number of cells by which the pattern moves down in a period. It is negative if the pattern moves up.
     pub dy: i32,
 }
 
 impl Recurrence {
     /// Returns how `pattern` recurs under `rule`, or `None` if none of the generations 1 to `limit` is the pattern
-    /// again, moved or not. The generations are made in order until one is.
+    /// again, moved or not. The generations are made in order until one of them is the pattern again.
     ///
     /// `pattern` must not be empty, and `limit` must be from 1 to 64.
     ///
@@ -56,7 +57,7 @@ impl Recurrence {
     }
 }
 
-/// The most cells of a pattern whose generations are kept before it is known that it recurs.
+/// The most live cells that a pattern may have if its generations are kept before it is known whether it recurs.
 const MOST_KEPT: usize = 4096;
 
 /// A pattern that recurs: its phases, beginning with the pattern itself, and how it recurs.
@@ -67,6 +68,7 @@ pub struct Cycle {
 }
 
 /// Follows the pattern as [`follow`] does, unless a quick test shows that it doesn't recur within `limit` generations.
+/// Then returns `None` at once.
 pub(crate) fn follow_or_reject(
     alloc: Global,
     pattern: &Pattern,
@@ -81,15 +83,15 @@ pub(crate) fn follow_or_reject(
     if pattern.touches_edge() {
         return Err(StepError::Edge);
     }
-    // Most patterns that don't recur are small, and the test finds that out much faster than their phases are made.
+    // Most patterns that don't recur are small. For a small pattern, this test is much faster than making the phases.
     if pattern.surely_changes(rule, limit) {
         return Ok(None);
     }
     follow(alloc, pattern, rule, limit)
 }
 
-/// Follows the pattern until it recurs, and returns its phases, or `None` if none of the generations 1 to `limit` is
-/// the pattern again, moved or not.
+/// Follows the pattern until it recurs, and returns its phases and how it recurs. Returns `None` if none of the
+/// generations 1 to `limit` is the pattern again, moved or not.
 ///
 /// `pattern` must not be empty, and `limit` must be at least 1.
 ///
@@ -108,7 +110,7 @@ pub fn follow(
         rule.now pattern.now limit result }
 {
     if pattern.population() > MOST_KEPT {
-        // The generations of a large pattern take much memory, so they are kept only if it is known to recur.
+        // The generations of a large pattern take much memory, so they are kept only if the pattern is known to recur.
         let Some(_) = search(alloc, pattern, rule, limit)? else {
             return Ok(None);
         };
@@ -117,7 +119,7 @@ pub fn follow(
 }
 
 /// Returns how the pattern recurs, or `None` if none of the generations 1 to `limit` is the pattern again, moved or
-/// not. Only one generation is kept at a time.
+/// not. Each generation is dropped when the next one has been made.
 fn search(
     alloc: Global,
     pattern: &Pattern,
@@ -142,7 +144,7 @@ fn search(
     Ok(None)
 }
 
-/// Follows the pattern as [`follow`] does. Each phase is made once, and is kept until the end.
+/// Follows the pattern as [`follow`] does. Each phase is made once, and is kept until the search ends.
 fn keep_phases(
     alloc: Global,
     pattern: &Pattern,
@@ -171,7 +173,7 @@ fn keep_phases(
     Ok(None)
 }
 
-/// Returns the recurrence by (dx, dy) with a period of `age` + 1 generations.
+/// Returns the recurrence with a period of `age` + 1 generations and a move by (dx, dy).
 fn recurrence_at(age: u32, dx: i32, dy: i32) -> Recurrence
     requires { age < u32.MAX }
     ensures { result ≡ record { period = suc age; dx = dx; dy = dy } }

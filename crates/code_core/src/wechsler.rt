@@ -34,7 +34,7 @@ use plane_core::plane::orientation::Orientation;
 use plane_core::plane::pattern::Pattern;
 use std::alloc::Global;
 
-/// The most columns, and the most rows, that the box of a pattern with a text may have.
+/// The most columns and the most rows of a pattern's box, if the pattern has a text.
 pub const CODE_SIDE_LIMIT: u32 = 40;
 
 /// The number of rows of a strip.
@@ -59,7 +59,7 @@ pub fn wechsler(alloc: Global, pattern: &Pattern) -> Result<Option<String>, OutO
     image_text(alloc, pattern, Orientation::Same)
 }
 
-/// Returns the text of the pattern's image in an orientation, or `None` as [`wechsler`] does.
+/// Returns the text of the pattern's image in an orientation, or `None` if the pattern has no text.
 pub(crate) fn image_text(
     alloc: Global,
     pattern: &Pattern,
@@ -78,9 +78,9 @@ pub(crate) fn image_text(
     Ok(Some(text))
 }
 
-/// The laws of texts. The text of a pattern is spelled by tokens whose cells are the pattern, moved to the corner. Each
-/// run of empty columns is one token, and none is at a strip's end. A text has at most 327 bytes, each one of `0` to
-/// `9` and `a` to `z`.
+/// The laws of texts. The text of a pattern is spelled by tokens whose cells are the pattern, moved to the corner
+/// (0, 0). Each run of empty columns is one token, and no such run is at a strip's end. A text has at most 327 bytes,
+/// each one of `0` to `9` and `a` to `z`.
 pub fn texts_spell_patterns()
     ensures spell { TextsSpellPatterns }
     ensures shape { TextsHaveTheirShape }

@@ -1,4 +1,5 @@
-//! Names of objects, against codes that don't come from the program: they are LifeWiki's, or were worked out by hand.
+//! Tests the names of objects against codes that don't come from the program: they are LifeWiki's, or were worked out
+//! by hand.
 ghost use Rattle.std.specs.Prelude.{◌≢◌, [], IfOk};
 
 use code_core::name::name;
@@ -11,7 +12,7 @@ use plane_core::plane::rule::Rule;
 use std::alloc::Global;
 use std::test::Fail;
 
-/// The pattern of these cells, of which there is at least one.
+/// Returns the pattern of these cells, or an error if there are none.
 pub(crate) fn placed(alloc: Global, cells: &[Cell]) -> Result<Pattern, FromCellsError>
     ensures { IfOk result (λ pattern. pattern ≢ []) }
 {
@@ -22,7 +23,7 @@ pub(crate) fn placed(alloc: Global, cells: &[Cell]) -> Result<Pattern, FromCells
     Ok(pattern)
 }
 
-/// Whether the pattern has this name in Life, and a copy of the name is the same.
+/// Checks whether the pattern has this name in Life, and whether a copy of the name equals the name.
 fn has_name(alloc: Global, pattern: &Pattern, text: &str) -> Result<bool, StepError>
     requires { pattern.now ≢ [] }
 {
@@ -50,7 +51,7 @@ fn names_a_glider(rt: HostRuntime) -> Result<(), Fail> {
     Ok(())
 }
 
-/// Adds the cells of a block.
+/// Appends the cells of a block whose top left cell is in row `top` and column `left`.
 fn push_block(cells: &mut Vec<Cell>, top: u8, left: u8) -> Result<(), OutOfMemory> {
     let (top, left) = (i32::from(top), i32::from(left));
     cells.extend_from_slice(&[
@@ -73,8 +74,8 @@ fn push_block(cells: &mut Vec<Cell>, top: u8, left: u8) -> Result<(), OutOfMemor
 
 const STARTS: [u8; 13] = [0, 4, 7, 10, 13, 16, 19, 22, 25, 28, 31, 34, 38];
 
-/// Blocks in 13 rows and 13 columns, which fill 40 by 40 cells. There is one empty row or column between two blocks,
-/// but there are two after the first block and before the last.
+/// Returns the cells of 13 rows of 13 blocks, which fill 40 by 40 cells. One empty row or column is between two blocks,
+/// except that two are between the first and the second block, and two between the last but one and the last.
 fn grid_of_blocks(alloc: Global) -> Result<Vec<Cell>, OutOfMemory> {
     let mut cells = Vec::new(alloc);
     for top in STARTS {
@@ -104,7 +105,8 @@ fn names_a_full_grid_of_blocks(rt: HostRuntime) -> Result<(), Fail> {
     Ok(())
 }
 
-// Two cells as far apart as can be named: nothing is born, and a cell without a neighbour lives on.
+// Two cells in a row, as far apart as they can be without touching the edge of the plane. Under the rule bs0, nothing
+// is born, and a cell without a neighbour survives.
 #[test]
 fn names_what_is_as_wide_as_the_plane(rt: HostRuntime) -> Result<(), Fail> {
     let far = placed(

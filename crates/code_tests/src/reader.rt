@@ -1,9 +1,9 @@
-//! Texts in extended Wechsler format are read, and compared with patterns and faults that don't come from the program.
+//! Tests reading the longest texts in extended Wechsler format.
 use code_core::reader::read_wechsler;
 use std::test::Fail;
 
-// Texts of a column or two are tested by cases of `show`. The texts here say 10,000 full columns of the first strip,
-// or one cell in the last of 10,000 strips.
+// Texts of a column or two are tested by cases of `show`. The two texts of these tests have 10,000 full columns in one
+// strip, and one cell in the last of 10,000 strips.
 #[test]
 fn reads_a_wide_text(rt: HostRuntime) -> Result<(), Fail> {
     let wide = read_wechsler(rt.alloc(), std::str::from_utf8(&[b'v'; 10_000])?)?;

@@ -1,4 +1,4 @@
-//! When small patterns recur, and that no recurrence past the limit is found.
+//! Tests when small patterns recur, and that no recurrence past the limit is found.
 use crate::name::{GLIDER, placed};
 use code_core::recurrence::Recurrence;
 use plane_core::plane::cell::Cell;
@@ -20,8 +20,8 @@ const BLINKER: [Cell; 3] = [
 ];
 
 /// Patterns, each with a limit, and with the period and the move of its recurrence, if it recurs within the limit. A
-/// glider moves by one cell in both directions in four generations, a block stays as it is, and a blinker is itself
-/// again after two.
+/// glider moves by one cell to the right and one cell down in four generations, a block stays as it is, and a blinker
+/// is itself again after two generations.
 const RECURRENCES: [(&[Cell], u32, Option<(u32, i32, i32)>); 6] = [
     (&GLIDER, 4, Some((4, 1, 1))),
     (&GLIDER, 64, Some((4, 1, 1))),
@@ -31,7 +31,8 @@ const RECURRENCES: [(&[Cell], u32, Option<(u32, i32, i32)>); 6] = [
     (&BLINKER, 2, Some((2, 0, 0))),
 ];
 
-/// The period and the move of the pattern with these cells, if it recurs within `limit` generations.
+/// Returns the period and the move of the pattern with these cells, or `None` if it doesn't recur within `limit`
+/// generations.
 fn found(alloc: Global, cells: &[Cell], limit: u32) -> Result<Option<(u32, i32, i32)>, Fail> {
     if limit < 1 || 64 < limit {
         return Err(Fail::new("a limit is from 1 to 64"));

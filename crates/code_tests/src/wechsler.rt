@@ -1,4 +1,4 @@
-//! Texts of patterns, against texts that don't come from the program.
+//! Tests the texts of patterns against texts that don't come from the program.
 use code_core::wechsler::wechsler;
 use memory::OutOfMemory;
 use plane_core::plane::cell::Cell;
@@ -6,7 +6,7 @@ use plane_core::plane::pattern::Pattern;
 use std::alloc::Global;
 use std::test::Fail;
 
-/// Whether a plaintext picture has the text.
+/// Checks whether the pattern of a plaintext picture has this text.
 fn is_text(alloc: Global, picture: &str, text: &str) -> Result<bool, Fail> {
     let pattern = Pattern::read_plaintext(alloc, picture.as_bytes())?;
     let found = wechsler(alloc, &pattern)?;
@@ -22,7 +22,7 @@ fn spells_texts(rt: HostRuntime) -> Result<(), Fail> {
     Ok(())
 }
 
-// Texts, each with its picture: those of a block and a beehive, which are in their names `xs4_33` and `xs6_696`
+// Texts, each with its picture: those of a block and a beehive, which are parts of the apgcodes `xs4_33` and `xs6_696`
 // (LifeWiki, "Apgcode"); columns that grow, gaps, strips, and the eight orientations of the eater.
 const TEXTS: &str = "\
 33
@@ -172,7 +172,7 @@ ca23
 O...
 OO..";
 
-/// All cells of 40 rows and columns.
+/// Returns all cells of a square of 40 by 40 cells.
 fn full_square(alloc: Global) -> Result<Vec<Cell>, OutOfMemory> {
     let mut cells = Vec::new(alloc);
     for y in 0..40 {
@@ -183,7 +183,7 @@ fn full_square(alloc: Global) -> Result<Vec<Cell>, OutOfMemory> {
     Ok(cells)
 }
 
-/// Whether a text is eight strips of 40 full columns each.
+/// Checks whether a text is eight strips of 40 full columns each.
 fn is_full(text: &str) -> bool {
     text.len() == 327
         && text.split('z').all(|strip| strip == "vvvvvvvvvvvvvvvvvvvvvvvvvvvvvvvvvvvvvvvv")

@@ -10,8 +10,8 @@ use plane_core::output::Out;
 use std::alloc::Global;
 use std::io::ErrorKind;
 
-/// Lines of version 1 about soups 3 and 0 of the empty seed, which aren't still lifes. The third line repeats the
-/// first, and the last is cut.
+/// Report lines of version 1 about soups 3 and 0 of the empty seed. The soups aren't still lifes, so they don't settle
+/// under this profile. The third line repeats the first line, and the fourth line is cut off.
 const LINES: &[u8] = b"report 1 rule=b3s23 profile=1,1,1,0 seed= worker=1 soup=3 unsettled\n\
     report 1 rule=b3s23 profile=1,1,1,0 seed= worker=2 soup=0 unsettled\n\
     report 1 rule=b3s23 profile=1,1,1,0 seed= worker=1 soup=3 unsettled\n\
@@ -21,11 +21,11 @@ const TOLD: &[u8] = b"line 3: double of 3 by 1\n\
     line 4: bad line at 42\n\
     census: incomplete, 2 missing\n";
 
-/// The length of the first two lines of `TOLD`, which are about report lines that weren't taken. The third line is
-/// about missing soups.
+/// The length of the first two lines of `TOLD`, in bytes. They are about report lines that weren't taken. The third
+/// line of `TOLD` is about missing soups.
 const TOLD_OF_LINES: usize = 48;
 
-/// Gathers an input for four soups and two workers.
+/// Runs `gather` on an input, for soups 0 to 3 and workers 1 and 2.
 fn left_by(
     alloc: Global,
     mut input: FaultyReader<'_>,
@@ -39,7 +39,7 @@ fn left_by(
     Left::new(status, output, errors)
 }
 
-/// Gathers the lines. The read with this number has a fault.
+/// Runs `gather` on `LINES`, with one byte per read. Read number `bad` fails with an error of this kind.
 fn left_by_reads(alloc: Global, bad: usize, kind: ErrorKind) -> Left {
     left_by(
         alloc,
@@ -49,7 +49,7 @@ fn left_by_reads(alloc: Global, bad: usize, kind: ErrorKind) -> Left {
     )
 }
 
-// The third line ends with byte 204, and its fault is written before the next read.
+// Each read gives one byte. The third line ends with byte 204, and its fault is written before read 205.
 #[test]
 fn tells_a_failed_read(rt: HostRuntime) {
     for bad in [1, 2, 69, 204] {
@@ -69,7 +69,7 @@ fn tells_a_failed_read(rt: HostRuntime) {
     );
 }
 
-// The first two reads give all lines.
+// The first two reads give all lines, and the third read fails.
 #[test]
 fn tells_all_lines_before_a_failed_read(rt: HostRuntime) {
     let left = left_by(
@@ -87,7 +87,7 @@ fn tells_all_lines_before_a_failed_read(rt: HostRuntime) {
     );
 }
 
-/// Gathers the lines. The write of a line on standard error with this number has a fault.
+/// Runs `gather` on `LINES`, with this writer of standard error.
 fn left_by_writes(alloc: Global, errors: FaultyWriter) -> Left {
     left_by(
         alloc,
@@ -97,7 +97,8 @@ fn left_by_writes(alloc: Global, errors: FaultyWriter) -> Left {
     )
 }
 
-// If a line about a report line can't be written, the command ends. The write of the last line may fail.
+// If a line about a report line can't be written, the command ends. A failure to write the line about missing soups
+// changes nothing.
 #[test]
 fn ends_if_a_line_is_not_told(rt: HostRuntime) {
     for bad in [1, 26, TOLD_OF_LINES] {
@@ -123,7 +124,7 @@ fn tells_each_line_in_one_write(rt: HostRuntime) {
     assert!(rt; left.errors.writes == 3);
 }
 
-// The writes are those of the lines about report lines 3 and 4, and of the line about missing soups, which may fail.
+// Write 1 is the line about report line 3, and write 2 is the line about report line 4.
 #[test]
 fn ends_if_a_write_is_interrupted(rt: HostRuntime) {
     for (bad, told) in [(1, 0), (2, 25)] {

@@ -26,7 +26,7 @@ impl Clock for Ticking {
     }
 }
 
-/// A progress line on this writer, with a clock that begins at 0 and on which 100 milliseconds pass between two
+/// Returns a progress line on this writer, with a clock that begins at 0 and on which 100 milliseconds pass between two
 /// readings.
 pub(crate) fn line_on<W: Write>(
     rt: &impl AllocGlobal,
@@ -36,7 +36,8 @@ pub(crate) fn line_on<W: Write>(
     line_by(rt, writer, is_shown, 100)
 }
 
-/// Such a line, with a clock on which `step` milliseconds pass between two readings.
+/// Returns a progress line on this writer, with a clock that begins at 0 and on which `step` milliseconds pass between
+/// two readings.
 fn line_by<W: Write>(
     rt: &impl AllocGlobal,
     writer: W,
@@ -50,12 +51,14 @@ fn line_by<W: Write>(
     ProgressLine::new(rt.alloc(), writer, clock, is_shown)
 }
 
-/// Reports to the line that sixteen workers take three of twelve soups, within four readings of the clock.
+/// Reports to the line that all sixteen workers were started, and then that 1, 2, 2 and 3 of twelve soups were taken.
+/// The line reads the clock at the beginning, and at each of the four counts.
 fn tell(line: &mut impl ProgressObserver) {
     tell_by(line, 16);
 }
 
-/// Reports the same to the line, if the system started `started` of the sixteen workers.
+/// Reports to the line that `started` of sixteen workers were started, and then that 1, 2, 2 and 3 of twelve soups were
+/// taken.
 fn tell_by(line: &mut impl ProgressObserver, started: u8) {
     line.begin(12, 16);
     line.started(started);
@@ -65,7 +68,8 @@ fn tell_by(line: &mut impl ProgressObserver, started: u8) {
     line.end();
 }
 
-// Lines are due at 0, 200 and 400 milliseconds: 2 soups in 200 are 10 a second, and 3 in 400 are 7 and a half.
+// The line is due at 0, 200 and 400 milliseconds. 2 soups in 200 milliseconds are 10 a second, and 3 soups in 400
+// milliseconds are 7.5 a second.
 const TOLD: &[u8] = b"\r0 of 12 soups\
     \r2 of 12 soups, 10 a second\
     \r3 of 12 soups, 7 a second \
@@ -81,7 +85,8 @@ fn tells_and_wipes_its_line(rt: HostRuntime) {
     assert!(rt; screen.as_slice() == TOLD);
 }
 
-/// What is written by a line that is shown anyway if `is_shown`, and is asked for if `is_asked`.
+/// Returns what a progress line writes. `is_shown` says whether it is shown without being asked for, and `is_asked`
+/// whether it is asked for.
 fn told(rt: &impl AllocGlobal, is_shown: bool, is_asked: bool) -> Vec<u8> {
     let mut screen = Vec::new(rt.alloc());
     let mut line = line_on(rt, &mut screen, is_shown);
@@ -98,7 +103,8 @@ fn tells_nothing_unless_it_is_to_be_shown(rt: HostRuntime) {
     assert!(rt; told(&rt, true, false).as_slice() == TOLD);
 }
 
-// As above, with 17 characters more where the workers are named.
+// What is written if only three of the sixteen workers were started: `TOLD` with 17 more characters about the workers,
+// except in its first line.
 const TOLD_OF_THREE: &[u8] = b"\r0 of 12 soups\
     \r2 of 12 soups, 10 a second, 3 of 16 workers\
     \r3 of 12 soups, 7 a second, 3 of 16 workers \
@@ -113,7 +119,7 @@ fn tells_how_many_workers_were_started(rt: HostRuntime) {
 }
 
 // An hour has 3,600 seconds: 3,599 soups in one hour are less than one a second, 8,000,000 in two hours are 1,111 a
-// second, and 2^24 in three are 1,553.
+// second, and 2^24 in three hours are 1,553 a second.
 const TOLD_BY_HOURS: &[u8] = b"\r0 of 16777216 soups\
     \r3599 of 16777216 soups, 0 a second\
     \r8000000 of 16777216 soups, 1111 a second\

@@ -1,4 +1,4 @@
-//! Tests of `take` with report lines.
+//! Tests of `take` with the report lines of late soups.
 
 use crate::progress::line_on;
 use crate::setup::{machine_of, plan_of};
@@ -10,15 +10,15 @@ use plane_core::output::Out;
 use std::sync::Wait;
 use std::thread::Threads;
 
-// Under the small profile no soup is settled, so each is late.
+// Under the profile of `plan_of`, none of these soups settles, so each of them is late.
 const LINES: &[u8] = b"report 2 rule=b3s23 profile=1,1,1,0 seed= worker=1 soup=0 unsettled\n\
     report 2 rule=b3s23 profile=1,1,1,0 seed= worker=1 soup=1 unsettled\n\
     report 2 rule=b3s23 profile=1,1,1,0 seed= worker=1 soup=2 unsettled\n";
 
-/// The number of bytes of each of these lines.
+/// The number of bytes of each line of `LINES`.
 const LINE: usize = 68;
 
-/// Takes three soups, and those of a list, with a worker, two writers and an observer.
+/// Takes soups 0 to 2 and those of the list `also` with one worker, and reports unsettled soups.
 fn left_by<R: AllocGlobal + Threads + Wait + Sync, H: ProgressObserver + Drop>(
     rt: &R,
     also: &str,
@@ -33,7 +33,7 @@ fn left_by<R: AllocGlobal + Threads + Wait + Sync, H: ProgressObserver + Drop>(
     Left::new(status, output, machine.errors)
 }
 
-/// The same without a list, with this writer of standard error.
+/// Takes soups 0 to 2 with one worker, and reports unsettled soups to this writer of standard error.
 fn left_by_errors<R: AllocGlobal + Threads + Wait + Sync>(rt: &R, errors: FaultyWriter) -> Left {
     left_by(rt, "", slow_writer(rt.alloc(), 0), errors, NoObserver)
 }
@@ -102,7 +102,7 @@ fn tells_that_the_haul_is_cut_after_all_lines(rt: HostRuntime) {
 }
 
 // The clock is read at the beginning, and at each of the five reports of the progress: at 0, 100, 200 milliseconds and
-// so on. A line that was wiped is drawn again as it was.
+// so on. A progress line that was wiped for a report line is drawn again as it was.
 #[test]
 fn wipes_the_line_of_progress(rt: HostRuntime) {
     let mut screen = Vec::new(rt.alloc());

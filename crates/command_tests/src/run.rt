@@ -22,7 +22,7 @@ const COORDINATES: &[u8] = b"1 -1\n1 0\n1 1\n";
 /// The sizes of the blinker from generation 0 to 2.
 const SIZES: &[u8] = b"0 3 0 0 2 0\n1 3 1 -1 1 1\n2 3 0 0 2 0\n";
 
-/// Runs an input for one generation of Life.
+/// Runs an input for one generation of Life, and writes the result as plaintext.
 fn left_by(
     input: FaultyReader<'_>,
     output: FaultyWriter,
@@ -32,7 +32,7 @@ fn left_by(
     left_in_form(PatternForm::Plaintext, input, output, errors, alloc)
 }
 
-/// Runs an input for one generation of Life, and writes it in a form.
+/// Runs an input for one generation of Life, and writes the result in this form.
 fn left_in_form(
     form: PatternForm,
     mut input: FaultyReader<'_>,
@@ -54,7 +54,7 @@ fn left_in_form(
     Left::new(status, output, errors)
 }
 
-/// Writes the coordinates of the blinker after one generation. The write of its output with this number has a fault.
+/// Runs the blinker for one generation, and writes its coordinates, one byte per write. Write number `bad` fails.
 fn left_by_coordinates(alloc: Global, bad: usize) -> Left {
     left_in_form(
         PatternForm::Coordinates,
@@ -65,7 +65,7 @@ fn left_by_coordinates(alloc: Global, bad: usize) -> Left {
     )
 }
 
-/// Writes the sizes of the blinker from generation 0 to 2. The write of its output with this number has a fault.
+/// Writes the sizes of the blinker from generation 0 to 2, one byte per write. Write number `bad` fails.
 fn left_by_sizes(alloc: Global, bad: usize) -> Left {
     let mut input = reader(BLINKER, 0, ErrorKind::Other);
     let mut output = Out::new(slow_writer(alloc, bad));
@@ -74,7 +74,7 @@ fn left_by_sizes(alloc: Global, bad: usize) -> Left {
     Left::new(status, output, errors)
 }
 
-/// Runs the blinker, whose read with this number has a fault.
+/// Runs the blinker for one generation, with one byte per read. Read number `bad` fails with an error of this kind.
 fn left_by_reads(alloc: Global, bad: usize, kind: ErrorKind) -> Left {
     left_by(
         reader(BLINKER, bad, kind),
@@ -84,7 +84,7 @@ fn left_by_reads(alloc: Global, bad: usize, kind: ErrorKind) -> Left {
     )
 }
 
-/// Runs the blinker. The write of its output with this number has a fault.
+/// Runs the blinker for one generation, with this writer of standard output.
 fn left_by_writes(alloc: Global, output: FaultyWriter) -> Left {
     left_by(
         reader(BLINKER, 0, ErrorKind::Other),
@@ -94,7 +94,7 @@ fn left_by_writes(alloc: Global, output: FaultyWriter) -> Left {
     )
 }
 
-// There are four reads of one byte each, and the read that finds the end. No read follows.
+// There are four reads of one byte each, and a fifth read that finds the end of the input. No read follows.
 #[test]
 fn tells_each_failed_read(rt: HostRuntime) {
     for bad in 1..6 {
@@ -169,7 +169,7 @@ fn tells_an_interrupted_write(rt: HostRuntime) {
     }
 }
 
-// The texts of these lines are made of several pieces, and yet each line is one write.
+// The lines on standard error are made of several pieces, but each line is one write.
 #[test]
 fn tells_a_refusal_in_one_write(rt: HostRuntime) {
     let alloc = rt.alloc();
@@ -197,7 +197,7 @@ fn tells_a_refusal_in_one_write(rt: HostRuntime) {
     assert!(rt; left.errors.writes == 1);
 }
 
-/// A writer whose writes go well and whose flush fails.
+/// A writer whose writes succeed and whose flush fails.
 #[derive(Drop)]
 struct Unflushed;
 
@@ -211,7 +211,7 @@ impl Write for Unflushed {
     }
 }
 
-// A line reports the failure. The status is the same if the line can't be written.
+// A line reports the first failure. The lines about the later failures can't be written, but the status is the same.
 #[test]
 fn tells_a_failed_flush(rt: HostRuntime) -> Result<(), Fail> {
     let mut buffered = BufWriter::new(rt.alloc(), Unflushed)?;

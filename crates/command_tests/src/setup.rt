@@ -1,4 +1,4 @@
-//! Plans, the haul text of soups that don't settle, and what a machine lends.
+//! What the tests share: plans, the haul text of soups that don't settle, and machines.
 ghost use Rattle.std.specs.Prelude.{◌≡◌, false};
 ghost use Rattle.pattern_commands.specs.Profiles.{AreInRange};
 
@@ -10,7 +10,7 @@ use plane_core::output::Out;
 use requests::plan::{Plan, ProfileNumbers, SoupSet, Text};
 use std::alloc::Global;
 
-/// Under this profile a soup is settled only if it is a still life at once.
+/// A profile under which a soup settles only if the soup itself is a still life.
 const SMALL: ProfileNumbers = ProfileNumbers {
     period: 1,
     horizon: 1,
@@ -18,7 +18,8 @@ const SMALL: ProfileNumbers = ProfileNumbers {
     limit: 0,
 };
 
-/// The plan of `count` soups of the empty seed, and those of a list, in Life under a small profile.
+/// Returns the plan of the first `count` soups of the empty seed and those of the list `also`, in Life, under the
+/// profile `SMALL`.
 pub(crate) fn plan_of(count: u64, also: &str) -> Plan<'_>
     ensures { AreInRange result.profile }
 {
@@ -35,8 +36,9 @@ pub(crate) fn plan_of(count: u64, also: &str) -> Plan<'_>
     }
 }
 
-/// The haul text of the first `count` soups of such a plan, of which `soups` were taken. A live cell of each of the
-/// soups 0 to 7 of the empty seed dies in the first generation, so none is a still life.
+/// Returns the haul text for the plan of the first `count` soups, if `soups` of them were taken and none of these
+/// settled. A live cell of each of the soups 0 to 7 of the empty seed dies in the first generation, so none of these
+/// eight soups is a still life.
 fn haul_text(alloc: Global, count: u64, soups: u64) -> Result<String, OutOfMemory> {
     let text = format!(in alloc;
         "@VERSION 2\n@ROOT seed=\n@RULE b3s23\n@SYMMETRY C1\n@PROFILE 1 1 1 0\n@RANGE 0 {count}\n\
@@ -47,7 +49,8 @@ fn haul_text(alloc: Global, count: u64, soups: u64) -> Result<String, OutOfMemor
 }
 
 impl Left {
-    /// Whether the command ended with this status, this haul text, and these bytes on standard error.
+    /// Checks whether the command ended with this status, the haul text of `soups` taken soups out of `count`, and
+    /// these bytes on standard error.
     pub(crate) fn has_printed(
         &self,
         alloc: Global,
@@ -63,7 +66,7 @@ impl Left {
     }
 }
 
-/// A machine that writes its errors to `errors`, and reports the progress to `observer`.
+/// Returns a machine with `errors` as standard error, and with this observer of the progress.
 pub(crate) fn machine_of<R: AllocGlobal, H>(
     rt: &R,
     errors: FaultyWriter,

@@ -4,7 +4,8 @@ use plane_core::output::Out;
 use std::alloc::Global;
 use std::io::{self, ErrorKind, Read, Write};
 
-/// A reader of a text that returns at most `most` bytes per read. Read number `bad` fails with an error of this kind.
+/// A reader of a text that returns at most `most` bytes per read. Read number `bad`, counted from 1, fails with an
+/// error of kind `kind`. If `bad` is 0, no read fails.
 #[derive(Drop)]
 pub(crate) struct FaultyReader<'a> {
     text: &'a [u8],
@@ -14,7 +15,7 @@ pub(crate) struct FaultyReader<'a> {
     kind: ErrorKind,
 }
 
-/// A reader that returns one byte per read, with a fault at read number `bad`, counted from 1.
+/// Returns a reader of a text that returns one byte per read, with a fault at read number `bad`, counted from 1.
 pub(crate) fn reader(text: &[u8], bad: usize, kind: ErrorKind) -> FaultyReader<'_> {
     reader_by(text, 1, bad, kind)
 }
@@ -45,7 +46,8 @@ impl Read for FaultyReader<'_> {
     }
 }
 
-/// A writer that takes at most `most` bytes per write. Write number `bad` fails with an error of this kind.
+/// A writer that takes at most `most` bytes per write. Write number `bad`, counted from 1, fails with an error of kind
+/// `kind`. If `bad` is 0, no write fails.
 #[derive(Drop)]
 pub(crate) struct FaultyWriter {
     pub(crate) taken: Vec<u8>,
@@ -55,7 +57,7 @@ pub(crate) struct FaultyWriter {
     kind: ErrorKind,
 }
 
-/// A writer that takes one byte per write, with a fault at write number `bad`, counted from 1.
+/// Returns a writer that takes one byte per write, with a fault at write number `bad`, counted from 1.
 pub(crate) fn slow_writer(alloc: Global, bad: usize) -> FaultyWriter {
     FaultyWriter {
         taken: Vec::new(alloc),
@@ -66,7 +68,7 @@ pub(crate) fn slow_writer(alloc: Global, bad: usize) -> FaultyWriter {
     }
 }
 
-/// A writer that takes all that it is given, and is interrupted at write number `bad`.
+/// Returns a writer that takes all bytes of each write, and is interrupted at write number `bad`, counted from 1.
 pub(crate) fn quick_writer(alloc: Global, bad: usize) -> FaultyWriter {
     FaultyWriter {
         taken: Vec::new(alloc),
@@ -114,7 +116,7 @@ impl Left {
         }
     }
 
-    /// Whether the command ended with this status and these bytes on its streams.
+    /// Checks whether the command ended with this status and these bytes on its streams.
     pub(crate) fn is(&self, status: Status, output: &[u8], errors: &[u8]) -> bool {
         self.status == status
             && self.output.taken.as_slice() == output

@@ -14,7 +14,7 @@ use std::sync::Wait;
 use std::sync::atomic::{AtomicU64, Ordering};
 use std::thread::Threads;
 
-/// Takes `count` soups with `workers` workers, a gate and an observer.
+/// Takes the first `count` soups with `workers` workers, this gate and this observer.
 fn left_by<G: Gate + Sync, R: AllocGlobal + Threads + Wait + Sync, H: ProgressObserver + Drop>(
     rt: &R,
     count: u64,
@@ -31,8 +31,8 @@ fn left_by<G: Gate + Sync, R: AllocGlobal + Threads + Wait + Sync, H: ProgressOb
     Left::new(status, output, machine.errors)
 }
 
-// The lines are due at 0, 200, 400 and 600 milliseconds. The progress is reported before each of the five notes, and at
-// the end.
+// The progress line is due at 0, 200, 400 and 600 milliseconds. The progress is reported before each of the five notes
+// of the worker, and at the end.
 #[test]
 fn takes_soups_under_a_line_of_progress(rt: HostRuntime) {
     let mut screen = Vec::new(rt.alloc());
@@ -45,7 +45,7 @@ fn takes_soups_under_a_line_of_progress(rt: HostRuntime) {
     assert!(rt; screen.as_slice() == told.as_slice());
 }
 
-/// A gate that stops each of three workers at its second call.
+/// A gate that stops each of three workers when it asks for the second time.
 #[derive(Drop)]
 struct OneEach {
     calls: [AtomicU64; 4],

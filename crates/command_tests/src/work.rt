@@ -43,7 +43,8 @@ impl Write for Counting {
     }
 }
 
-/// Works on soups with a writer that flushes at most `most` times.
+/// Runs `work` for the first `count` soups and those of the list `also`, with a writer that flushes at most `most`
+/// times.
 fn left_by(alloc: Global, count: u64, also: &str, most: u64) -> (Status, Counting) {
     let mut output = Out::new(Counting {
         written: 0,
@@ -72,7 +73,7 @@ fn tells_a_failed_flush_of_a_line(rt: HostRuntime) {
     assert!(rt; status == Status::Done && counted.sent == 2 * LINE);
 }
 
-// This also holds for many soups, and for those with the highest numbers.
+// Each line is flushed before the next line is begun, also with many soups, and with the highest soup numbers.
 #[test]
 fn sends_each_of_many_lines_on(rt: HostRuntime) {
     let (status, counted) = left_by(rt.alloc(), 12_000, "1099511627774+2", u64::MAX);

@@ -7,7 +7,7 @@
 //! ```
 //!
 //! This replaces std's `BufReader`, because contracts don't say what becomes of a reader that was lent to a
-//! `BufReader`. Here the reader is lent only for a read.
+//! `BufReader`. Here, the reader is lent anew for each read.
 
 ghost use Rattle.std.specs.Prelude.{◌≡◌, ◌≢◌, ◌≤◌, ◌^◌, [], Err, IfOk, OnErr, OnOk, drop, length};
 ghost use Rattle.std.specs.Io.KnownBytes.{IsAtEnd, Keeps, prepend_known};
@@ -79,7 +79,7 @@ impl Ahead {
         Ok(())
     }
 
-    /// Marks `amount` bytes as used.
+    /// Marks the first `amount` unread bytes as used.
     pub(crate) fn consume(&mut self, amount: usize)
         requires { amount ≤ length self.old }
         ensures { self.new ≡ drop amount self.old }

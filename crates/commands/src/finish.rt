@@ -1,4 +1,4 @@
-//! Finishes a haul: closes, counts and prints it.
+//! Finishes a haul: closes it, prints its haul text, and counts the missing soups.
 
 ghost use Rattle.std.specs.Prelude.{◌≡◌, ◌≢◌, ◌↔◌, ◌++◌, ◌∷◌, ℕ, [], Err, IfErr, IfOk, List, false, length};
 ghost use Rattle.std.specs.Result.{result_map_both};

@@ -3,7 +3,7 @@
 //! ```text
 //! input ── line ── claim ── report ── haul ── census ── haul text
 //!            │       │         │
-//!            └───────┴─────────┴── a line on standard error, if it isn't taken
+//!            └───────┴─────────┴── or the line's fault, on standard error
 //! ```
 
 ghost use Rattle.std.specs.Prelude.{◌≡◌, ◌≢◌, ◌<◌, ◌≤◌, Ok, Result, ◌+◌, ◌^◌, ◌++◌, ◌∷◌, [], ℕ, List, Option, Some};
@@ -133,7 +133,7 @@ fn open_and_gather<R: Read, W: Write, E: Write>(
     gatherer.gather_and_finish(input, output, errors)
 }
 
-/// Gathers lines in a haul.
+/// A haul that gathers report lines, and the surveyor that checks them.
 #[derive(Drop)]
 struct Gatherer {
     alloc: Global,
@@ -142,7 +142,8 @@ struct Gatherer {
 }
 
 impl Gatherer {
-    /// Gathers the lines in an empty haul, writes the haul text, and returns how many soups are missing.
+    /// Gathers the lines of the input in the haul, which is empty at first. Then writes the haul text, and returns how
+    /// many soups are missing.
     fn gather_and_finish<R: Read, W: Write, E: Write>(
         &mut self,
         input: &mut R,
@@ -196,7 +197,8 @@ impl Gatherer {
         Err(Complaint::TooLong)
     }
 
-    /// Reads the next line, number `before` + 1, of at most `room` bytes, and gathers it. Returns what was read.
+    /// Reads line number `before` + 1, of at most `room` bytes, and gathers it, unless the input has ended. Returns the
+    /// size of the line and what ended it.
     fn gather_next<R: Read, E: Write>(
         &mut self,
         input: &mut R,
@@ -242,7 +244,7 @@ impl Gatherer {
         Ok(read)
     }
 
-    /// Offers the report of the next line, number `before` + 1. Writes the line's fault, if there is one, to `errors`.
+    /// Offers the report of line number `before` + 1 to the haul. If the line has a fault, writes it to `errors`.
     /// `kept` has the first 2^24 + 1 bytes of the line.
     fn gather_line<E: Write>(
         &mut self,
@@ -267,8 +269,8 @@ impl Gatherer {
         Ok(())
     }
 
-    /// Offers the report of a line, of which `kept` has the first 2^24 + 1 bytes. Returns the line's fault, or `None`
-    /// if there is none to report.
+    /// Offers the report of a line to the haul. Returns the line's fault, or `None` if there is none to report. `kept`
+    /// has the first 2^24 + 1 bytes of the line.
     fn offer_line(&mut self, kept: &[u8]) -> Result<Option<LineFault>, OutOfMemory>
         ensures terms { self.new.haul.terms ≡ self.old.haul.terms }
         ensures come { (line : List ℕ) (arrivals : List Arrival) → kept.now ≡ take (2 ^ 24 + 1) line
@@ -305,7 +307,7 @@ fn report_of(
     checked_report(alloc, kept, job, surveyor)
 }
 
-/// Returns the place of the first fault of a line that begins with these 2^24 bytes and is longer.
+/// Returns the place of the first fault of a line that is longer than these 2^24 bytes, with which it begins.
 fn prefix_fault(alloc: Global, prefix: &[u8]) -> Result<usize, OutOfMemory>
     ensures { IfOk result (IsPrefixFault prefix.now) }
 {
@@ -316,7 +318,7 @@ fn prefix_fault(alloc: Global, prefix: &[u8]) -> Result<usize, OutOfMemory>
     }
 }
 
-/// Returns the report of a line, or the line's fault.
+/// Reads the claim of a line and checks it. Returns the report that it becomes, or the line's fault.
 fn checked_report(
     alloc: Global,
     line: &[u8],
@@ -343,7 +345,8 @@ fn checked_report(
     }
 }
 
-/// Returns the fault of a line whose report a haul refused.
+/// Returns the fault of a line of this worker about soup `number`, if the haul refused the line's report for this
+/// reason.
 fn fault_of(reason: OfferError, worker: u8, number: u64) -> Result<Option<LineFault>, OutOfMemory>
     ensures fault { (report : Reported) → report.worker ≡ worker → report.number ≡ number
         → IfOk result (λ fault. fault ≡ offer_fault report (Some reason)) }

@@ -15,7 +15,7 @@ pub mod gather;
 pub mod line_fault;
 /// Inputs that are read line by line.
 mod lines;
-/// What the machine lends to `take`.
+/// What `take` gets from the machine: memory, threads, standard error and an observer.
 pub mod machine;
 /// Opening a haul over the soups of a plan.
 mod opening;

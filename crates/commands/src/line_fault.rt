@@ -1,4 +1,4 @@
-//! Why a report line isn't taken, and the line on standard error that says so.
+//! Why a report line isn't taken, and the line on standard error that says why.
 
 ghost use Rattle.std.specs.Prelude.{◌≡◌, ◌++◌, codes, decimal, false};
 ghost use Rattle.plane_core.specs.Outputs.{Writes};
@@ -12,22 +12,24 @@ use std::io::Write;
 /// Why a report line was not taken.
 #[derive(Clone, Copy)]
 pub enum LineFault {
-    /// It isn't the line of a claim. `place` is the offset of the first wrong field, in bytes from 0.
+    /// The line isn't that of a claim, or is longer than 2^24 bytes. `place` is the offset of the first wrong or
+    /// missing field, or 2^24 if none of the first 2^24 bytes is wrong.
     BadLine { place: usize },
-    /// It is about another job.
+    /// The line is about another job.
     OtherJob,
-    /// Its finding isn't the finding of its soup.
+    /// The line's finding isn't the finding of its soup.
     Disagrees,
     /// The number of the line's worker is higher than the haul's number of workers.
     UnknownWorker { worker: u8 },
-    /// The number of its soup isn't in the haul's set.
+    /// The line's soup isn't in the haul's set.
     OutOfRange { number: u64 },
-    /// The soup was taken before, from worker `worker`.
+    /// The line's soup was taken before, from worker `worker`.
     Double { number: u64, worker: u8 },
 }
 
 impl LineFault {
-    /// Writes the line about the fault of line `number`, counted from 1, in one write. This takes no memory.
+    /// Writes the diagnostic about report line `number`, counted from 1, which has this fault, in one write. This takes
+    /// no memory.
     ///
     /// # Errors
     ///
@@ -47,7 +49,7 @@ impl LineFault {
         }
     }
 
-    /// Writes the line piece by piece.
+    /// Writes the diagnostic about report line `number`, piece by piece.
     fn put_line<E: Write>(self, number: u64, errors: &mut Out<E>) -> Result<(), WriteError>
         requires { errors.old.failed ≡ false }
         ensures { Writes E.contents errors.old errors.new result (fault_line number self) }
@@ -58,7 +60,7 @@ impl LineFault {
         errors.put(b"\n")
     }
 
-    /// Writes the words for the fault.
+    /// Writes the text of the fault, which is a part of the diagnostic.
     fn put_text<E: Write>(self, errors: &mut Out<E>) -> Result<(), WriteError>
         requires { errors.old.failed ≡ false }
         ensures { Writes E.contents errors.old errors.new result (line_fault_text self) }
@@ -76,7 +78,7 @@ impl LineFault {
     }
 }
 
-/// Writes which soup was taken before, and from whom.
+/// Writes which soup was taken before, and from which worker.
 fn put_double<E: Write>(errors: &mut Out<E>, number: u64, worker: u8) -> Result<(), WriteError>
     requires { errors.old.failed ≡ false }
     ensures { Writes E.contents errors.old errors.new result

@@ -51,25 +51,25 @@ pub(crate) struct LineRead {
 /// The part of a line that is available without another read.
 #[derive(Clone, Copy)]
 struct Piece {
-    /// The number of bytes of the line, without the line feed.
+    /// The number of bytes of the part, without the line feed.
     length: usize,
-    /// The number of bytes, including the line feed.
+    /// The number of bytes of the part, with the line feed if the line ends with one here.
     size: usize,
-    /// What ends the line, if it ends here.
+    /// What ends the line, or `None` if the line goes on after this part.
     end: Option<LineEnd>,
 }
 
-/// The lines of an input, which is lent for each line.
+/// The lines of an input, which is lent anew for each line.
 #[derive(Drop)]
 pub(crate) struct Lines {
-    /// What was read beyond the last line.
+    /// What was read beyond the latest line.
     ahead: Ahead,
-    /// The first 2^24 + 1 bytes of the last line, without the line feed that ends it.
+    /// The first 2^24 + 1 bytes of the latest line, without the line feed that ends it.
     line: Vec<u8>,
 }
 
 impl Lines {
-    /// Begins the lines of an input.
+    /// Returns the lines of an input, of which nothing has been read yet.
     pub(crate) fn new(alloc: Global) -> Result<Lines, OutOfMemory>
         ensures { IfOk result (λ lines. lines.ahead ≡ []) }
     {
@@ -79,7 +79,7 @@ impl Lines {
         })
     }
 
-    /// Returns the first 2^24 + 1 bytes of the last line, without the line feed that ends it.
+    /// Returns the first 2^24 + 1 bytes of the latest line, without the line feed that ends it.
     pub(crate) fn line(&self) -> &[u8]
         ensures { result.now ≡ self.now.line.items }
     {
@@ -91,8 +91,8 @@ impl Lines {
     ///
     /// # Errors
     ///
-    /// `TooLong` if more than `room` bytes come before the line's end; `Memory` if memory runs out; and `Unreadable` if
-    /// a read fails for any other reason.
+    /// `TooLong` if the line has more than `room` bytes with its line feed; `Memory` if memory runs out; and
+    /// `Unreadable` if a read fails for any other reason.
     pub(crate) fn next<R: Read>(&mut self, input: &mut R, room: u64) -> Result<LineRead, InputError>
         requires { room ≤ 2 ^ 32 }
         ensures read { IfOk result (HasReadLine room (prepend_known self.old.ahead (R.remaining input.old))
@@ -148,8 +148,8 @@ fn read_piece<R: Read>(
     Ok(piece)
 }
 
-/// Returns the part of a line that these bytes have: all up to the first line feed. If there are no bytes, the input
-/// has ended.
+/// Returns the part of a line with which these bytes begin: all bytes up to the first line feed. If there are no bytes,
+/// the input has ended.
 fn first_piece(bytes: &[u8]) -> Piece
     ensures { IsPieceOf bytes.now result }
 {

@@ -1,12 +1,12 @@
-//! What the machine lends to `take`.
+//! What `take` gets from the machine that it runs on.
 
 use plane_core::output::Out;
 use std::alloc::Global;
 use std::io::Write;
 
-/// What the machine lends to `take`.
+/// What `take` gets from the machine that it runs on: memory, threads, standard error, and an observer of its progress.
 ///
-/// The other commands start no threads and report no progress, so they only need memory and standard error.
+/// The other commands start no threads and report no progress, so they get only the allocator and standard error.
 #[derive(Drop)]
 pub struct Machine<'a, T, E: Write, H> {
     /// The allocator.

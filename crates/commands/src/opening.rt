@@ -23,7 +23,7 @@ use std::alloc::Global;
 use survey_core::job::Job;
 use survey_core::seed::Seed;
 
-/// The job of a plan and its soups.
+/// The job and the soups of a plan.
 #[derive(Drop)]
 pub(crate) struct Soups {
     pub(crate) job: Job,
@@ -85,7 +85,8 @@ fn haul_for(alloc: Global, job: Job, set: &SoupSet<'_>, workers: u8) -> Result<H
     }
 }
 
-/// Returns the normal form of the ranges of a set, which have to be small enough for a haul.
+/// Returns the normal form of the ranges of a set. Refuses ranges that are too large for a haul, or that share a
+/// number.
 fn normal_ranges(alloc: Global, set: &SoupSet<'_>) -> Result<Ranges, Complaint>
     ensures normal { IfOk result (AreNormalRanges set.now) }
     ensures stops { IfErr result (StopsSet set.now) }
@@ -103,7 +104,7 @@ fn normal_ranges(alloc: Global, set: &SoupSet<'_>) -> Result<Ranges, Complaint>
     Ok(normal)
 }
 
-/// Returns the ranges of a set.
+/// Returns the ranges of a set: those of its list, and then the range of its first number and its count.
 fn ranges_of(alloc: Global, set: &SoupSet<'_>) -> Result<Vec<Range>, Complaint>
     ensures named { IfOk result (λ ranges. AreRangesOf set.now ranges.items) }
     ensures only { IfOk result (λ ranges. (others : List Range) → AreRangesOf set.now others → others ≡ ranges.items) }

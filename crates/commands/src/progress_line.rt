@@ -2,7 +2,7 @@
 //!
 //! ```text
 //! begin     \r0 of 40 soups
-//! taken     \r12 of 40 soups, 4100 a second      replaces the line before, five times a second at most
+//! taken     \r12 of 40 soups, 4100 a second      replaces the previous line, at most five times a second
 //! end       \r                              \r   wiped
 //! ```
 
@@ -18,11 +18,11 @@ use std::alloc::Global;
 use std::io::Write;
 use std::time::{Clock, Instant};
 
-/// The shortest time between two writes of the line, in milliseconds.
+/// The shortest time between two updates of the line, in milliseconds.
 const PAUSE: u128 = 200;
 
 /// A line on a terminal that shows how many soups of a haul have been taken and how many are taken per second. If the
-/// system started fewer workers than were asked for, the line also shows how many there are.
+/// system started fewer workers than were asked for, the line also shows how many workers there are.
 ///
 /// The line is written when the haul is begun, and then from time to time, each time in place of the previous line. At
 /// the end it is wiped. If there is no memory for a line, that line is left out. After a failed write, or if the clock
@@ -43,7 +43,8 @@ pub struct ProgressLine<W: Write, C: Clock> {
 }
 
 impl<W: Write, C: Clock> ProgressLine<W, C> {
-    /// Returns the progress line of a writer. Nothing has been written yet, and nothing will be if `is_shown` is false.
+    /// Returns the progress line of a writer. Nothing has been written yet. If `is_shown` is false, nothing will be
+    /// written, unless [`ask`](Self::ask) asks for the line.
     pub fn new(alloc: Global, writer: W, clock: C, is_shown: bool) -> Self
         ensures unbegun { result.latest ≡ None }
         ensures shown { result.is_shown ≡ is_shown }
@@ -80,7 +81,8 @@ impl<W: Write, C: Clock> ProgressLine<W, C> {
         }
     }
 
-    /// Writes `line` from the left edge of the screen, blanks over what is left of earlier lines, and then `after`.
+    /// Writes `line` from the left edge of the screen, then spaces that cover the rest of any longer earlier line, and
+    /// then `after`.
     fn put(&mut self, line: &str, after: &str) {
         let width = self.width;
         let Ok(text) = format!(in self.alloc; "\r{line:<width$}{after}") else {

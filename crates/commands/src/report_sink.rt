@@ -24,7 +24,8 @@ use std::io::Write;
 use std::sync::atomic::{AtomicBool, Ordering};
 use survey_core::finding::Finding;
 
-/// The longest line that is written in one piece, in bytes. A longer one is written field by field.
+/// A buffer for a report line, so that the line is one write. A line of more than 4,096 bytes is written field by
+/// field.
 type ReportBuffer = ArrayVec<u8, 4096>;
 
 /// A gate that stops every worker once a write has failed.
@@ -50,7 +51,8 @@ impl<'a> Gate for FaultGate<'a> {
 /// An observer that writes the line of each late report, and passes the progress on.
 #[derive(Drop)]
 pub(crate) struct ReportSink<'a, 's, E: Write, H> {
-    /// The first generation at which a soup that settles counts as late.
+    /// The generation from which soups count as late: those that settle at this generation or later, and unsettled
+    /// ones.
     pub(crate) from: u32,
     /// Where the lines are written.
     pub(crate) errors: &'a mut Out<E>,
@@ -58,7 +60,7 @@ pub(crate) struct ReportSink<'a, 's, E: Write, H> {
     pub(crate) progress: &'a mut H,
     /// Set once a write has failed.
     pub(crate) has_failed: &'s AtomicBool,
-    /// The witness of the write that failed.
+    /// The witness of the write that failed, or `None` if no write has failed.
     pub(crate) fault: Option<WriteError>,
 }
 

@@ -71,7 +71,7 @@ pub fn do_take_reporting<W: Write, E: Write, T: Threads + Wait + Sync, H: Progre
     end_command(outcome, &mut machine.errors)
 }
 
-/// Opens a haul, completes it while late soups are reported, and prints it.
+/// Opens a haul, completes it while late soups are reported, prints it, and returns how many soups are missing.
 fn print_reporting<W: Write, E: Write, T: Threads + Wait + Sync, H: ProgressObserver>(
     machine: &mut Machine<'_, T, E, H>,
     plan: &Plan<'_>,
@@ -154,8 +154,8 @@ fn take_reporting<E: Write, T: Threads + Wait + Sync, H: ProgressObserver>(
     (taken, sink.fault)
 }
 
-/// Returns `Ok` if the haul is to be printed, and otherwise why it isn't: a write has failed, or no write has failed
-/// and the crew didn't complete the haul.
+/// Returns `Ok` if the haul is to be printed, and otherwise why it isn't: a write has failed or, if none has failed,
+/// the crew didn't complete the haul.
 fn end_of_crew(
     has_failed: bool,
     fault: Option<WriteError>,
@@ -175,7 +175,7 @@ fn end_of_crew(
     }
 }
 
-/// Returns the complaint that a line wasn't written.
+/// Returns the complaint that a line wasn't written, with the witness `fault` if there is one.
 fn write_failed(fault: Option<WriteError>) -> Complaint
     ensures { StopsReporting true result }
 {
@@ -201,8 +201,8 @@ impl Write for NoRoom {
     }
 }
 
-/// Returns the error of a write to a writer without room. It stands in for the error of the line that wasn't written.
-/// The sink keeps that error, but no contract says so.
+/// Returns the error of a write to a writer without room. This error stands in for the error of the line that wasn't
+/// written. The sink keeps the error of that line, but no contract says so.
 fn no_room() -> WriteError {
     let mut output = Out::new(NoRoom);
     match output.put(b"\n") {

@@ -70,7 +70,7 @@ pub fn do_work<W: Write, E: Write>(
     end_text_command(outcome, errors)
 }
 
-/// Reads the plan, and writes the reports on all of its soups.
+/// Reads the plan, and writes the report lines of all of its soups.
 fn work<W: Write>(
     alloc: Global,
     plan: &Plan<'_>,
@@ -93,7 +93,7 @@ fn work<W: Write>(
     put_all(alloc, &soups.job, worker, &soups.ranges, output)
 }
 
-/// Writes the reports on all soups of a set.
+/// Writes the report lines of all soups of a set.
 fn put_all<W: Write>(
     alloc: Global,
     job: &Job,
@@ -110,7 +110,7 @@ fn put_all<W: Write>(
     put_reports(alloc, job, worker, ranges.as_slice(), &mut surveyor, output)
 }
 
-/// Writes the reports on the soups of these ranges.
+/// Writes the report lines of the soups of these ranges.
 fn put_reports<W: Write>(
     alloc: Global,
     job: &Job,
@@ -131,7 +131,7 @@ fn put_reports<W: Write>(
     Ok(())
 }
 
-/// Writes the reports on the soups of a range.
+/// Writes the report lines of the soups of a range.
 fn put_range<W: Write>(
     alloc: Global,
     job: &Job,

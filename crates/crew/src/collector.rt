@@ -2,7 +2,7 @@
 //!
 //! ```text
 //! belt ── report ──> haul
-//!      ── done ────> one worker less is awaited
+//!      ── done ────> waits for one worker less
 //! ```
 ghost use Rattle.std.specs.Prelude.{◌≡◌, ◌∷◌, ◌⊎◌, [], List, None, OnErr, OnOk, is_ok};
 ghost use Rattle.haul_core.specs.Books.{StandsFor};
@@ -61,7 +61,7 @@ pub fn collect<R: Wait, H: ProgressObserver>(
     answered
 }
 
-/// Offers a report. Returns an error if memory ran out for it.
+/// Offers a report to the haul. Returns an error if the haul would have taken the report, but memory ran out.
 fn offer(haul: &mut Haul, report: Report) -> Result<(), OutOfMemory>
     ensures added { (haul.new ≡ haul.old) ⊎ HasAdded (report ∷ []) haul.old haul.new }
     ensures stands { OnOk result (HasComeAll (report ∷ []) haul.old haul.new) }

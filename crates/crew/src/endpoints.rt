@@ -1,4 +1,5 @@
-//! The endpoints of a crew's workers: for each worker a pass to draw numbers, and a sender for its notes.
+//! The endpoints of a crew's workers: for each worker a pass to draw numbers, and a sender for its notes. Workers are
+//! started from the last to the first, and come back from the first to the last:
 //!
 //! ```text
 //! to be started   1 2 3   1 2     1       -
@@ -21,7 +22,7 @@ pub(crate) struct Endpoints {
 }
 
 impl Endpoints {
-    /// Returns an empty list, with room for the endpoints of `workers` workers.
+    /// Returns no endpoints, with room for those of `workers` workers.
     pub(crate) fn with_room(alloc: Global, workers: u8) -> Result<Endpoints, OutOfMemory>
         ensures { IfOk result (HaveRoom workers) }
     {

@@ -9,7 +9,7 @@ use haul_core::report::Report;
 /// Contracts hold for any observer, so it can't change what a call promises to return or to write to its output. What
 /// an observer does with reports is its own promise, [`hears`], and `take` says which reports it has received.
 pub trait ProgressObserver {
-    /// From one state to another, an observer has received these reports, in this order.
+    /// Says that between two states of an observer, it has received these reports, in this order.
     ghost hears: { Self → List Reported → Self → Type 0 } = { λ _ _ _. ⊤ };
 
     /// Called before the first soup: `workers` workers are to complete a haul over `whole` soups.
@@ -17,7 +17,7 @@ pub trait ProgressObserver {
         ensures { hears self.old [] self.new }
     {}
 
-    /// Called once after the threads were started: the system started `workers` of the workers.
+    /// Called after the threads were started: the system started `workers` of the workers.
     fn started(&mut self, _workers: u8)
         ensures { hears self.old [] self.new }
     {}
@@ -41,14 +41,14 @@ pub trait ProgressObserver {
         ensures { hears self.old [] self.new }
     {}
 
-    /// An observer in one state has received nothing.
+    /// Between a state and the same state, an observer has received nothing.
     ghost hears_none: { (s : Self) → hears s [] s };
 
-    /// An observer that has received reports, and then others, has received them all.
+    /// An observer that has received some reports and then others has received all of them, in this order.
     ghost hears_more: { (s m t : Self) (xs ys : List Reported) → hears s xs m → hears m ys t → hears s (xs ++ ys) t };
 }
 
-/// Ignores all progress.
+/// An observer that ignores all progress and all reports.
 #[derive(Clone, Copy, Debug)]
 pub struct NoObserver;
 

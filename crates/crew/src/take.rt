@@ -4,7 +4,7 @@
 //! take ── complete_haul ── run_in_scope ── run_crew ── starts worker 3
 //!                                            run_crew ── starts worker 2
 //!                                              run_crew ── starts worker 1
-//!                                                receive_all: until all that were started are done
+//!                                                receive_all: until all started workers are done
 //!                                              worker 1 is back
 //!                                            worker 2 is back
 //!                                          worker 3 is back
@@ -79,7 +79,8 @@ impl fmt::Debug for CrewError {
 ///
 /// # Errors
 ///
-/// The haul, with what was taken, and the first of these that holds. There is no other case:
+/// There are only these errors. The first that applies is returned, together with the haul, which keeps what it has
+/// taken:
 ///
 /// - [`CrewError::Closed`] if the haul is closed. The haul is returned unchanged.
 /// - [`CrewError::Stopped`] if the gate stopped a worker and the haul isn't complete.
@@ -251,7 +252,7 @@ fn end_crew(shared: Shared, crew: Crew) -> (Haul, Option<CrewError>)
     (haul, cause(stopped, lacking))
 }
 
-/// Returns why soups may be missing: a gate stopped a worker, or otherwise memory was refused. Returns `None` if
+/// Returns why soups may be missing: a gate stopped a worker or, if none was stopped, memory ran out. Returns `None` if
 /// neither happened.
 fn cause(stopped: Option<u8>, lacking: Option<OutOfMemory>) -> Option<CrewError>
     ensures { result ≡ cause_of stopped lacking }
@@ -290,12 +291,12 @@ struct Crew {
     away: u8,
     /// The lowest number of a worker that has come back and was stopped.
     stopped: Option<u8>,
-    /// The witness that memory was refused, for a thread, a survey or a report.
+    /// A witness that memory was refused, for a thread, a survey or a report, or `None` if no memory was refused.
     lacking: Option<OutOfMemory>,
 }
 
-/// Starts a worker for each pair of endpoints, beginning with the last, collects their reports, and waits for the
-/// workers to end, beginning with the first.
+/// Starts a worker for each pair of endpoints, beginning with the last pair. Then collects the workers' reports, and
+/// waits for the workers to end, beginning with the first.
 fn run_crew<'s, E, G: Gate + Sync, R: Threads + Wait + Sync, H: ProgressObserver>(
     alloc: Global,
     rt: &'s R,
@@ -363,7 +364,8 @@ fn receive_all<R: Wait, H: ProgressObserver>(
     crew.lacking = collected.err();
 }
 
-/// Starts a worker in a thread of its own. If no thread can be started, the worker is called off and ends here.
+/// Starts a worker in a thread of its own, and returns the thread's handle. If no thread can be started, the worker is
+/// called off and ends in this thread, and its result is returned.
 fn start_worker<'s, E, G: Gate + Sync, R: Threads + Wait + Sync>(
     alloc: Global,
     rt: &'s R,
@@ -405,7 +407,8 @@ fn start_worker<'s, E, G: Gate + Sync, R: Threads + Wait + Sync>(
     }
 }
 
-/// Waits until a worker has ended, and returns its result. The result of a worker without a thread is already there.
+/// Waits until a worker has ended, and returns its result. If the worker has no thread, its result is already in
+/// `begun`.
 fn join_worker<'s, G: Gate, R: Threads>(
     rt: &R,
     duty: Duty<'s, G>,
@@ -424,7 +427,7 @@ fn join_worker<'s, G: Gate, R: Threads>(
     }
 }
 
-/// Records the result of one more worker.
+/// Records the result of one more worker that has come back.
 fn note_result(crew: &mut Crew, worker_result: WorkerResult)
     requires passes { length crew.old.back.passes.items < vec_capacity crew.old.back.passes }
     requires senders { length crew.old.back.senders.items < vec_capacity crew.old.back.senders }
@@ -442,7 +445,8 @@ fn note_result(crew: &mut Crew, worker_result: WorkerResult)
     crew.back.add(pass, sender);
 }
 
-/// Returns the first stopped worker among those that came back before and this one.
+/// Returns the first stopped worker among those that have come back: `stopped` if there is one, otherwise `worker` if
+/// it was stopped, and otherwise `None`.
 fn first_stopped(stopped: Option<u8>, worker: u8, end: End) -> Option<u8>
     ensures { result ≡ stopped_with stopped worker end }
 {
@@ -452,7 +456,8 @@ fn first_stopped(stopped: Option<u8>, worker: u8, end: End) -> Option<u8>
     }
 }
 
-/// Returns the witness that memory was refused, to this worker or before, or `None` if it wasn't.
+/// Returns a witness that memory was refused, either to the worker that ended in this way or earlier. Returns `None` if
+/// no memory was refused.
 fn any_lack(lacking: Option<OutOfMemory>, end: End) -> Option<OutOfMemory>
     ensures before { result ≡ None → lacking ≡ None }
     ensures here { result ≡ None → lacks_memory end ≡ false }

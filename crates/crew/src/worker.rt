@@ -29,13 +29,13 @@ use survey_core::surveyor::Surveyor;
 pub(crate) enum End {
     /// No number was left.
     Drained,
-    /// Its gate stopped it.
+    /// The gate stopped the worker.
     Stopped,
     /// Memory ran out.
     Memory(OutOfMemory),
-    /// It was called off before it began.
+    /// The worker was called off before it began.
     CalledOff,
-    /// No thread could be started for it.
+    /// No thread could be started for the worker.
     Unstarted(OutOfMemory),
 }
 
@@ -73,8 +73,9 @@ pub(crate) fn run_worker<G: Gate, R: Wait>(
     WorkerResult { pass, sender, end }
 }
 
-/// Surveys what is left with a surveyor of the worker's own, and presents each report. This is a function of its own
-/// because a function that owned a surveyor, a pass and a sender would be expensive to prove at each exit.
+/// Makes a surveyor for the worker, surveys soups with it until the worker ends, and presents each report. This is a
+/// function of its own because a function that owned a surveyor, a pass and a sender would be expensive to prove at
+/// each exit.
 fn survey_all<G: Gate, R: Wait>(
     alloc: Global,
     rt: &R,
@@ -95,7 +96,8 @@ fn survey_all<G: Gate, R: Wait>(
     survey_left(alloc, rt, shared, gate, pass, sender, &mut surveyor)
 }
 
-/// Surveys one number after another, until none is left, the gate stops the worker, or memory runs out.
+/// Surveys the soup of one number after another and presents its report, until no number is left, the gate stops the
+/// worker, or memory runs out.
 #[tactic(auto, using(crate::proofs::WorkerLemmas::reported_none))]
 fn survey_left<G: Gate, R: Wait>(
     alloc: Global,

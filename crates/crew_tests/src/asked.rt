@@ -1,4 +1,4 @@
-//! A gate is asked once for each soup, by the worker that takes the soup, and before the soup is surveyed.
+//! Tests that a gate is asked once for each soup, by the worker that takes the soup, and before the soup is surveyed.
 use crate::gates::Shutter;
 use crate::left::go_on;
 use crate::small::{haul_of, small_job};
@@ -34,7 +34,7 @@ impl Register {
         Ok(Register { sums })
     }
 
-    /// Whether the gate was asked once for this soup, by this worker.
+    /// Checks whether the gate was asked once for this soup, by this worker.
     fn has_asked(&self, worker: u8, number: u64) -> bool {
         match self.sums.get(number as usize) {
             Some(sum) => sum.load(Ordering::SeqCst) == u64::from(worker) + CALL,
@@ -56,7 +56,7 @@ impl Gate for Register {
     }
 }
 
-/// The number of taken soups for which the gate was asked once, by the worker that took the soup.
+/// Returns the number of taken soups for which the gate was asked once, by the worker that took the soup.
 fn asked_for(register: &Register, haul: &Haul) -> u64 {
     let mut count = 0_u64;
     for (worker, number) in haul.taken() {
@@ -67,7 +67,8 @@ fn asked_for(register: &Register, haul: &Haul) -> u64 {
     count
 }
 
-/// Lets `workers` workers take `soups` soups. Returns for how many of them the gate was asked once.
+/// Lets `workers` workers take `soups` soups. Returns for how many of the soups the gate was asked once, by the worker
+/// that took the soup.
 fn counted<R: AllocGlobal + Threads + Wait + Sync>(
     rt: &R,
     soups: u64,
@@ -93,8 +94,8 @@ fn the_gate_is_asked_once_for_each_soup(rt: HostRuntime) -> Result<(), Fail> {
     Ok(())
 }
 
-/// How a crew of three ends if its gate stops every worker at once. Under this rule a soup explodes, and its only
-/// checkpoint after generation 0 is generation 10,000, so that a survey takes minutes.
+/// Returns why a crew of three doesn't complete its haul if the gate stops every worker at once. Under the rule b2s, a
+/// soup explodes, and its only checkpoint after generation 0 is generation 10,000, so that a survey takes minutes.
 fn stopped_at_once<R: AllocGlobal + Threads + Wait + Sync>(
     rt: &R,
 ) -> Result<Option<CrewError>, Fail> {

@@ -1,4 +1,4 @@
-//! A haul that two threads fill through a belt.
+//! Tests a haul that two threads fill through a belt.
 ghost use Rattle.std.specs.Prelude.{◌≡◌, ◌<◌};
 
 use crate::small::{haul_of, small_job};
@@ -40,7 +40,8 @@ fn present_hundred<R: Wait>(
     pass
 }
 
-/// Whether a haul of two hundred soups is filled through a belt with room for one note, by two threads and a collector.
+/// Fills a haul of two hundred soups through a belt with room for one note, with two sending threads and a collector.
+/// Returns whether the collector had enough memory.
 fn collected<R: Abort + AllocGlobal + Threads + Wait + Sync>(
     rt: &R,
     job: &Job,

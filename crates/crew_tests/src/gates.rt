@@ -1,4 +1,4 @@
-//! Crews under gates that stop workers, or hold them until others have come.
+//! Tests crews under gates that stop workers, or hold them until other workers have come.
 ghost use Rattle.std.specs.Prelude.{◌≡◌, ◌<◌, ◌≤◌, ◌⊎◌};
 
 use crate::left::{Left, go_on, left_by};
@@ -19,8 +19,8 @@ use std::thread::Threads;
 /// How often a gate looks for other workers before it gives up.
 const TURNS: u32 = 1_000_000;
 
-/// Counts workers that have come, and lets others wait for them. At each turn a block is advanced by one generation, so
-/// that a turn takes some time.
+/// A count of the workers that have come, for which other workers can wait. Each turn of waiting advances a block by
+/// one generation, so that the turn takes some time.
 #[derive(Drop)]
 pub(crate) struct Patience {
     alloc: Global,
@@ -49,7 +49,7 @@ impl Patience {
         self.come.fetch_add(1, Ordering::SeqCst);
     }
 
-    /// Waits until `number` workers have come, for at most `TURNS` turns.
+    /// Waits until `number` workers have come, for at most `TURNS` turns. Returns `Stop` if they haven't come by then.
     fn wait_for(&self, number: u64) -> Result<(), Stop> {
         for _ in 0..TURNS {
             if self.come.load(Ordering::SeqCst) >= number {
@@ -61,7 +61,7 @@ impl Patience {
     }
 }
 
-/// A gate that holds each of sixteen workers at its k-th soup until all have come to their k-th.
+/// A gate that holds each of sixteen workers at its k-th soup until all workers have come to their k-th soup.
 #[derive(Drop)]
 struct Lockstep {
     patience: Patience,
@@ -119,7 +119,7 @@ impl Gate for StopsSome {
     }
 }
 
-/// The result of sixteen workers on forty soups, if the workers from `first` to `last` are stopped.
+/// Returns the result of sixteen workers on forty soups, if the workers from `first` to `last` are stopped.
 fn left_by_stops<R: AllocGlobal + Threads + Wait + Sync>(
     rt: &R,
     first: u8,
@@ -216,8 +216,8 @@ fn goes_on_for<R: AllocGlobal + Threads + Wait + Sync>(
     (haul, right && (calls > 0 || is_first))
 }
 
-/// Whether workers take `calls` of `soups` soups before a gate stops every worker, then `calls` more before another
-/// such gate does, and then the rest.
+/// Checks whether workers take `calls` of `soups` soups before a gate stops every worker, then `calls` more before a
+/// second gate stops every worker, and then the rest.
 fn goes_on_after<R: AllocGlobal + Threads + Wait + Sync>(
     rt: &R,
     soups: u64,

@@ -15,7 +15,7 @@ use survey_core::job::Job;
 /// The result of a crew's run.
 #[derive(Clone, Copy)]
 pub(crate) struct Left {
-    /// Why the haul was not complete.
+    /// Why the haul was not complete, or `None` if it was.
     pub(crate) fault: Option<CrewError>,
     pub(crate) missing: u64,
     /// The number of soups that the haul had taken from each worker. The index is the worker's number.
@@ -25,7 +25,7 @@ pub(crate) struct Left {
 }
 
 impl Left {
-    /// The number of soups that the haul had taken from a worker.
+    /// Returns the number of soups that the haul had taken from a worker.
     pub(crate) fn count_of(&self, worker: u8) -> u64 {
         match self.counts.get(usize::from(worker)) {
             Some(count) => *count,
@@ -44,7 +44,7 @@ fn counts_in(taken: &[(u8, u64)]) -> [u64; 17] {
     counts
 }
 
-/// Lets workers go on with a haul, and returns the haul, and why it isn't complete, or `None` if it is.
+/// Lets workers take what is missing in a haul. Returns the haul, and why it isn't complete, or `None` if it is.
 pub(crate) fn go_on<G: Gate + Sync, R: AllocGlobal + Threads + Wait + Sync, H: ProgressObserver>(
     rt: &R,
     haul: Haul,
@@ -62,7 +62,8 @@ pub(crate) fn go_on<G: Gate + Sync, R: AllocGlobal + Threads + Wait + Sync, H: P
     }
 }
 
-/// Lets `workers` workers take the first soups of a job with a gate, and then go on without it.
+/// Lets `workers` workers take the first `count` soups of a job under a gate, and then what is missing under a gate
+/// that stops nobody.
 pub(crate) fn left_by<G: Gate + Sync, R: AllocGlobal + Threads + Wait + Sync>(
     rt: &R,
     job: Job,

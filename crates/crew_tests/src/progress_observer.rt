@@ -1,4 +1,4 @@
-//! Which calls an observer receives.
+//! Tests which calls an observer receives.
 ghost use Rattle.std.specs.Prelude.{◌≤◌};
 
 use crate::left::go_on;
@@ -10,7 +10,8 @@ use std::sync::Wait;
 use std::test::Fail;
 use std::thread::Threads;
 
-/// Notes how many workers were asked for, how many were started, and how often the observer was begun and ended.
+/// An observer that notes how many workers were asked for, how many were started, and how often `begin` and `end` were
+/// called.
 #[derive(Clone, Copy)]
 struct Roll {
     asked: u8,

@@ -1,4 +1,4 @@
-//! Hauls that one crew leaves incomplete, and another completes.
+//! Tests a haul that one crew leaves incomplete, and another crew completes.
 use crate::gates::{Patience, StopsSome};
 use crate::left::go_on;
 use crate::small::{haul_of, standard_job};
@@ -13,7 +13,7 @@ use std::sync::Wait;
 use std::test::Fail;
 use std::thread::Threads;
 
-/// The haul text of what a haul has taken.
+/// Returns the haul text of what a haul has taken.
 fn text_of(alloc: Global, haul: &Haul) -> Result<Vec<u8>, Fail> {
     let census = haul.census()?;
     let mut out = Out::new(Vec::new(alloc));
@@ -21,14 +21,14 @@ fn text_of(alloc: Global, haul: &Haul) -> Result<Vec<u8>, Fail> {
     Ok(out.into_inner())
 }
 
-/// A haul that was left incomplete, completed, and closed.
+/// What became of a haul that was left incomplete, completed, and closed.
 #[derive(Drop)]
 struct Outcome {
-    /// Why the first crew stopped, and how many soups were missing then.
+    /// Why the first crew didn't complete the haul, how many soups were missing then, and whether the haul was closed.
     fault: Option<CrewError>,
     missing: u64,
     is_closed: bool,
-    /// Why the last crew stopped, which was asked to complete the closed haul.
+    /// The error of the last crew, which was asked to complete the closed haul.
     last_fault: Option<CrewError>,
     text: Vec<u8>,
 }
@@ -69,7 +69,8 @@ fn completes_a_haul_after_a_stop(rt: HostRuntime) -> Result<(), Fail> {
     Ok(())
 }
 
-// What forty soups leave was computed by a program in another language that was written only from the definitions.
+// The haul text of the forty soups. It was computed by a program in another language, which was written only from the
+// definitions.
 const FORTY: &str = "@VERSION 2
 @ROOT seed=
 @RULE b3s23

@@ -1,5 +1,5 @@
-//! Whichever allocation is refused, each of these tests passes, or fails only because memory ran out.
-//! `checks/program/memory` refuses each in turn.
+//! Tests crews that run out of memory. Whichever allocation is refused, each of these tests passes, or fails only
+//! because memory ran out. `checks/program/memory` refuses each allocation in turn.
 ghost use Rattle.std.specs.Prelude.{◌≡◌, ◌≢◌, ◌≤◌};
 
 use crate::left::left_by;
@@ -14,7 +14,8 @@ use std::test::Fail;
 use std::thread::Threads;
 use survey_core::job::Job;
 
-/// Lets workers take `count` soups. If there was no memory, the haul is open, and another call completes it.
+/// Lets `workers` workers take `count` soups. Asserts that they complete the haul or memory runs out, and that another
+/// call completes the haul, which it can only if the haul is still open.
 fn assert_taken<R: Abort + AllocGlobal + Threads + Wait + Sync>(
     rt: &R,
     job: Job,

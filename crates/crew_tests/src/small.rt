@@ -1,4 +1,4 @@
-//! A small job, and a haul of it.
+//! What the tests share: jobs, and hauls of the first soups of a job.
 ghost use Rattle.std.specs.Prelude.{◌≡◌, IfOk};
 
 use haul_core::book::haul::Haul;
@@ -10,7 +10,7 @@ use survey_core::job::Job;
 use survey_core::profile::Profile;
 use survey_core::seed::Seed;
 
-/// The job of the empty seed, in Life, under a profile with which a survey is quick.
+/// Returns the job of the empty seed, in Life, under a profile with which a survey is quick.
 pub(crate) fn small_job() -> Result<Job, Fail> {
     Ok(Job {
         seed: Seed::new("")?,
@@ -19,7 +19,7 @@ pub(crate) fn small_job() -> Result<Job, Fail> {
     })
 }
 
-/// The job of the empty seed, in Life, under the standard profile.
+/// Returns the job of the empty seed, in Life, under the standard profile.
 pub(crate) fn standard_job() -> Result<Job, Fail> {
     Ok(Job {
         profile: Profile::standard(),
@@ -27,7 +27,7 @@ pub(crate) fn standard_job() -> Result<Job, Fail> {
     })
 }
 
-/// An open haul of the first soups of a job.
+/// Returns an open haul over the first `count` soups of a job, for `workers` workers.
 pub(crate) fn haul_of(alloc: Global, job: Job, count: u64, workers: u8) -> Result<Haul, Fail>
     ensures { IfOk result (λ haul. haul.terms.workers ≡ workers) }
 {

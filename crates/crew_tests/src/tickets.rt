@@ -1,4 +1,4 @@
-//! Tickets that threads draw.
+//! Tests tickets that threads draw.
 ghost use Rattle.std.specs.Prelude.{◌≡◌, All};
 ghost use Rattle.std.specs.Thread.{IsSync};
 
@@ -8,8 +8,8 @@ use std::sync::atomic::{AtomicU64, Ordering};
 use std::test::Fail;
 use std::thread::{Threads, join};
 
-/// Opens three tickets for two passes, draws a number with each, and gathers the tickets, with the first pass if
-/// `is_back`. The second pass is dropped.
+/// Opens three tickets for two passes, draws a number with each pass, and gathers the tickets. The first pass is handed
+/// back if `is_back`, and the second pass is dropped. Returns how many numbers were drawn.
 fn gathered(alloc: Global, is_back: bool) -> Result<u64, Fail> {
     let (tickets, mut passes) = Tickets::open(alloc, 3, 2)?;
     if let Some(mut second) = passes.pop() {
@@ -25,7 +25,7 @@ fn gathered(alloc: Global, is_back: bool) -> Result<u64, Fail> {
     Ok(tickets.gather(passes))
 }
 
-// No clause says anything about the numbers that were drawn with passes that are gone.
+// No clause says that numbers are also counted if the passes that drew them were dropped.
 #[test]
 fn counts_what_was_drawn_by_passes_that_are_gone(rt: HostRuntime) -> Result<(), Fail> {
     assert!(rt; gathered(rt.alloc(), true)? == 2);
@@ -33,7 +33,8 @@ fn counts_what_was_drawn_by_passes_that_are_gone(rt: HostRuntime) -> Result<(), 
     Ok(())
 }
 
-/// Draws until no number is left, but at most `most` times, and counts for each number how often it was drawn.
+/// Draws with a pass until no number is left, but at most `most` times. Counts in `counts` how often each number was
+/// drawn. Returns the pass.
 fn draw_all(tickets: &Tickets, counts: &[AtomicU64], pass: Pass, most: u32) -> Pass
     requires { pass.series ≡ tickets.now }
     ensures { result.series ≡ tickets.now }
@@ -92,7 +93,7 @@ fn draws_in_sixteen_threads(rt: HostRuntime) -> Result<(), Fail> {
     Ok(())
 }
 
-/// Counts of numbers and of passes for which no tickets are opened, and the first reason why.
+/// How many numbers and how many passes there are, if no tickets are opened for them, and the first error that applies.
 const NOT_OPENED: [(u64, u8, TicketsError); 5] = [
     (1, 0, TicketsError::BadPasses),
     (1, 17, TicketsError::BadPasses),
@@ -101,7 +102,7 @@ const NOT_OPENED: [(u64, u8, TicketsError); 5] = [
     ((1 << 24) + 1, 1, TicketsError::BadCount),
 ];
 
-/// How many numbers there are, how often a pass draws, and how many numbers were drawn then.
+/// How many numbers there are, how often a pass draws, and how many numbers are drawn by this.
 const DRAWN: [(u64, u32, u64); 14] = [
     (0, 0, 0),
     (0, 1, 0),
@@ -128,7 +129,7 @@ fn gathered_without_passes(alloc: Global, count: u64, draws: u32) -> Result<u64,
     Ok(tickets.gather(Vec::new(alloc)))
 }
 
-// No clause says how many numbers were drawn if no pass comes back.
+// No clause says how many numbers were drawn if no pass is handed back.
 #[test]
 fn opens_tickets_and_counts_what_was_drawn(rt: HostRuntime) -> Result<(), Fail> {
     for (count, passes, error) in NOT_OPENED {

@@ -1,9 +1,10 @@
 //! A queue from several senders to one receiver, which keeps each sender's notes in their order.
 //!
 //! ```text
-//! sender 1   a b      presents c         1: a b c
-//! queue      2 x, 1 b                    2 x, 1 b, 1 c
-//! receiver   1 a      receives 2 x       1 a, 2 x
+//!                       presented by 1   queue            received
+//!                       a b              2 x, 1 b         1 a
+//! sender 1 presents c   a b c            2 x, 1 b, 1 c    1 a
+//! receiver takes 2 x    a b c            1 b, 1 c         1 a, 2 x
 //! ```
 ghost use Rattle.std.specs.Prelude.{◌≡◌, ◌<◌, ◌≤◌, ◌+◌, ◌∷◌, [], All, IfNone, IfOk, IfSome, MatchResult, MatchOption};
 ghost use Rattle.std.specs.Prelude.{length, map, vec_capacity, true};
@@ -28,9 +29,9 @@ struct Share<N> {
     senders: LinkedList<(u8, LinkedList<N>)>,
     /// Whether the pass receives.
     receives: bool,
-    /// How many senders the receiver has made.
+    /// How many senders the pass has made.
     made: u8,
-    /// The notes that were received, each with its sender's number.
+    /// The notes that the pass has received, each with its sender's number.
     got: LinkedList<(u8, N)>,
 }
 
@@ -45,7 +46,7 @@ impl<N> Protocol<(u8, N), Share<N>> for InOrder {
     ghost first = { first_share };
 }
 
-/// The receiver makes one more sender.
+/// The step in which the receiver makes one more sender.
 struct NewSender;
 
 impl<N> Split<Share<N>> for NewSender {
@@ -56,7 +57,7 @@ impl<N> Split<Share<N>> for NewSender {
     ghost right = { new_sender };
 }
 
-/// One pass is joined to another.
+/// The step in which one pass is joined to another.
 struct TakeIn;
 
 impl<N> Join<Share<N>> for TakeIn {
@@ -67,7 +68,7 @@ impl<N> Join<Share<N>> for TakeIn {
     ghost spent = { spent_share };
 }
 
-/// A note is put at the back of the queue.
+/// The step in which a sender puts a note at the back of the queue.
 struct Put;
 
 impl<N> Outcome<(u8, N), Share<N>> for Put {
@@ -76,8 +77,8 @@ impl<N> Outcome<(u8, N), Share<N>> for Put {
     ghost then = { PutsNote };
 }
 
-/// A note is taken from the front of the queue. The receiver also learns that the queue holds what was presented and
-/// not received.
+/// The step in which the receiver takes a note from the front of the queue. The receiver also learns that the queue
+/// holds what was presented and not received.
 struct Get;
 
 impl<N> Outcome<(u8, N), Share<N>> for Get {
@@ -188,8 +189,8 @@ impl<N: Drop> Model for Remainder<N> {
 }
 
 impl<N: Drop> Belt<N> {
-    /// Opens a belt with room for `room` notes. Returns it with a pass for each sender, numbered from 1 on, and the
-    /// receiver's pass.
+    /// Opens a belt with room for `room` notes from `workers` senders. Returns the belt, a pass for each sender,
+    /// numbered from 1 on, and the receiver's pass.
     ///
     /// # Errors
     ///
@@ -231,7 +232,7 @@ impl<N: Drop> Belt<N> {
     }
 
     /// Presents a note as `present` does, but wakes the receiver only with every eighth note of the belt. The receiver
-    /// finds the others within a tenth of a second.
+    /// finds the other notes within a tenth of a second.
     ///
     /// This is for notes that follow one another quickly. Waking the receiver for each note takes longer than putting
     /// the note on the belt.
@@ -292,7 +293,7 @@ impl<N: Drop> Belt<N> {
         unreachable!()
     }
 
-    /// Presents a note if there is room.
+    /// Presents a note if there is room. Otherwise returns the note.
     fn try_present(&self, pass: &mut SenderPass<N>, note: N) -> Result<(), N>
         requires { pass.old.belt ≡ self.now.name }
         ensures { MatchResult result (λ _. pass.new ≡ with_note note pass.old)
@@ -353,7 +354,7 @@ fn make_senders<N: Drop>(
     }
 }
 
-/// Makes sender `made` + 1.
+/// Makes the sender with the number `made` + 1.
 fn make_sender<N: Drop>(
     queue: &Queue<N>,
     pass: &mut Pass<(u8, N), Share<N>>,
@@ -373,7 +374,7 @@ fn make_sender<N: Drop>(
     }
 }
 
-/// Joins the passes of senders to the receiver's.
+/// Joins the passes of senders to the receiver's pass.
 fn absorb_all<N: Drop>(
     queue: &Queue<N>,
     pass: &mut Pass<(u8, N), Share<N>>,
@@ -389,7 +390,7 @@ fn absorb_all<N: Drop>(
     }
 }
 
-/// Joins the pass of one sender to the receiver's.
+/// Joins the pass of one sender to the receiver's pass.
 fn absorb_one<N: Drop>(queue: &Queue<N>, pass: &mut Pass<(u8, N), Share<N>>, sender: SenderPass<N>)
     requires queue { IsPassOf queue.now pass.old }
     requires sender { sender.belt ≡ queue.now.table.shared.table_id }

@@ -1,10 +1,10 @@
-//! An event count: threads sleep here until something has changed.
+//! An event count: a counter of changes, on which threads sleep until it changes.
 //!
 //! ```text
 //! receiver   reads the count: 7
 //! receiver   finds nothing on the belt
 //! sender     puts a note on the belt, and notifies: 8
-//! receiver   would sleep while the count is 7: goes on at once
+//! receiver   asks to sleep while the count is 7: goes on at once
 //! ```
 //!
 //! All atomic operations are sequentially consistent, as the proofs assume. The proofs say nothing about waking.
@@ -42,15 +42,15 @@ impl EventCount {
         (self.events.load(Ordering::SeqCst) % (1 << 32)) as u32
     }
 
-    /// Counts an event, and wakes one of the threads that sleep here.
+    /// Counts an event, and wakes one of the threads that sleep on this count.
     ///
     /// Waking one thread is enough, since an event is one note or room for one note. If all were woken, all except one
     /// would find nothing and sleep again.
     pub(crate) fn notify(&self) {
-        // This has to happen before the next operation, so both are `SeqCst`. Otherwise this thread could look for
-        // sleepers and find none while its event isn't counted yet, and another thread could still read the old count
-        // and go to sleep. It also has to be at least `Release`: a thread that reads the new count has to find the
-        // note, or it would sleep on that count.
+        // The event has to be counted before this thread looks for sleepers, so both operations are `SeqCst`. Otherwise
+        // this thread could find no sleepers while its event isn't counted yet, and another thread could still read the
+        // old count and go to sleep. Counting also has to be at least `Release`: a thread that reads the new count has
+        // to find the note, or it would sleep on that count.
         self.events.fetch_add(1, Ordering::SeqCst);
         // Waking is a system call, which is left out if nobody sleeps.
         if self.sleepers.load(Ordering::SeqCst) > 0 {
@@ -58,8 +58,8 @@ impl EventCount {
         }
     }
 
-    /// Counts an event, and with every eighth one wakes one of the threads that sleep here. The other events are found
-    /// by threads that sleep with `sleep_briefly_while`.
+    /// Counts an event, and with every eighth event wakes one of the threads that sleep on this count. The other events
+    /// are found by threads that sleep with `sleep_briefly_while`.
     ///
     /// If events follow one another quickly, this saves most of the system calls and context switches.
     pub(crate) fn notify_sometimes(&self) {
@@ -82,12 +82,12 @@ impl EventCount {
 
     /// Sleeps while the count is `seen`. The thread may also wake up without a reason.
     pub(crate) fn sleep_while<R: Wait>(&self, rt: &R, seen: u32) {
-        // This has to happen before `park` reads the count again, so it is `SeqCst`. It is the counterpart of `notify`:
-        // either the notifier finds the sleeper, or the sleeper reads the new count.
+        // The sleeper has to be counted before `park` reads the count of events again, so this operation is `SeqCst`.
+        // It is the counterpart of `notify`: either the notifier finds the sleeper, or the sleeper reads the new count.
         self.sleepers.fetch_add(1, Ordering::SeqCst);
         self.events.park(rt, seen);
-        // At least `Release`: nobody would wake a thread that stops being counted before it sleeps. Counting it for too
-        // long only costs a system call.
+        // At least `Release`: nobody would wake a thread that stops being counted before it sleeps. A thread that is
+        // counted for too long only costs a system call.
         self.sleepers.fetch_sub(1, Ordering::SeqCst);
     }
 }

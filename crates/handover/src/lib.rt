@@ -1,7 +1,7 @@
 //! What threads exchange without a lock: numbers that they draw, and notes that they send to one receiver.
 #![tactic(auto)]
 
-/// Where threads sleep until something has changed.
+/// A counter of changes, on which threads sleep.
 mod event_count;
 /// A queue from several senders to one receiver.
 pub mod belt;

@@ -100,7 +100,7 @@ impl TableRule<(), Holding, Issue> for Law {
     ghost first = { first_holding };
 }
 
-/// A pass draws the old value of the counter.
+/// The step in which a pass draws the old value of the counter.
 struct Draw;
 
 impl Play<(), Holding> for Draw {
@@ -109,7 +109,7 @@ impl Play<(), Holding> for Draw {
     ghost then = { Draws };
 }
 
-/// A pass gives one of its shares to a new pass.
+/// The step in which a pass gives one of its shares to a new pass.
 struct HandOut;
 
 impl Split<Holding> for HandOut {
@@ -120,7 +120,7 @@ impl Split<Holding> for HandOut {
     ghost right = { new_part };
 }
 
-/// One pass is joined to another.
+/// The step in which one pass is joined to another.
 struct TakeIn;
 
 impl Join<Holding> for TakeIn {
@@ -131,7 +131,7 @@ impl Join<Holding> for TakeIn {
     ghost spent = { spent_holding };
 }
 
-/// The numbers from 0 to below a count, for threads to draw, each with a [`Pass`] of its own.
+/// The numbers from 0 to below a count, for threads to draw. Each thread draws with a [`Pass`] of its own.
 #[derive(Drop)]
 pub struct Tickets {
     table: Table<(), Holding, Issue, Law, Global>,
@@ -200,7 +200,7 @@ impl Tickets {
         ensures many { IfOk result (λ made. length made.1.items ≡ passes) }
         ensures fresh { IfOk result (λ made. All (λ p. p ≡ fresh made.0) made.1.items) }
 
-        // Which error it is.
+        // When each error is returned.
         ensures bad_count { IsErrOf result BadCount ↔ (2 ^ 24 < count) }
         ensures bad_passes { IsErrOf result BadPasses ↔ ((count ≤ 2 ^ 24) × ¬ AreFew passes) }
     {
@@ -268,7 +268,7 @@ impl Tickets {
     }
 }
 
-/// Closes the tickets, given one pass and the others.
+/// Closes the tickets, to which the passes `first` and `passes` were handed back. Returns how many numbers were drawn.
 fn close_with_pass(tickets: Tickets, first: Pass, passes: Vec<Pass>) -> u64
     requires first { first.series ≡ tickets }
     requires passes { All (λ p. p.series ≡ tickets) passes.items }
@@ -284,7 +284,7 @@ fn close_with_pass(tickets: Tickets, first: Pass, passes: Vec<Pass>) -> u64
     counter.min(count)
 }
 
-/// Cuts the first seat into `passes` passes. There is room for them in `made`.
+/// Cuts the seat of the first pass into `passes` passes. There is room for them in `made`.
 #[tactic(auto, using(crate::proofs::TicketLemmas::cuts))]
 fn cut_up(
     shared: &Shared<(), Holding, Issue, Law>,
@@ -314,7 +314,7 @@ fn cut_up(
     });
 }
 
-/// Joins the passes to the seat.
+/// Joins the seats of the passes to this seat.
 #[tactic(auto, using(crate::proofs::TicketLemmas::joins, crate::proofs::TicketLemmas::joining_none, crate::proofs::TicketLemmas::joining_more))]
 fn join_all(
     shared: &Shared<(), Holding, Issue, Law>,

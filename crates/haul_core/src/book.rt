@@ -16,11 +16,11 @@ pub mod arrival;
 pub mod census;
 /// The rows of a census.
 pub mod census_rows;
-/// Which soups of a job have been taken.
+/// A haul: which soups of a job have been taken.
 pub mod haul;
 /// The text of a census.
 pub mod haul_text;
-/// A haul and any list of arrivals.
+/// Passing a list of arrivals to a haul.
 pub mod keep;
 mod missing;
 /// Why a report is refused.

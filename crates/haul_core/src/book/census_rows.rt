@@ -107,7 +107,7 @@ fn listed(alloc: Global, scores: BTreeMap<Apgcode, Score>) -> Result<Vec<Row>, O
     Ok(rows)
 }
 
-/// Returns the sum of all totals.
+/// Returns the sum of the totals of all rows.
 pub(crate) fn sum_of_totals(rows: &[Row]) -> u128
     requires { sum_by (λ row. row.total) rows.now < 2 ^ 128 }
     ensures { result ≡ sum_by (λ row. row.total) rows.now }

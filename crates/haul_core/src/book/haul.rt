@@ -183,7 +183,7 @@ impl Haul {
         ensures workers { IfOk result (λ haul. haul.terms.workers ≡ workers) }
         ensures stands { IfOk result (StandsFor []) }
 
-        // Which error it is.
+        // When each error is returned.
         ensures bad_workers { IsErrOf result BadWorkers ↔ ¬ IsWorker workers }
         ensures bad_range { IsErrOf result BadRange ↔ (IsWorker workers × ¬ AreSmall ranges.now) }
         ensures overlap { IsErrOf result SharedNumber ↔ (IsWorker workers × AreSmall ranges.now × Overlap ranges.now) }
@@ -348,8 +348,8 @@ impl Haul {
 
     /// Returns the census of the soups that were taken, whether the haul is open or closed.
     ///
-    /// A haul that was opened has at most 2^24 soups, so it has fewer than 2^88 objects. A joined haul has at most 2^40
-    /// soups, so it has fewer than 2^104 objects.
+    /// A haul from [`open`](Self::open) has at most 2^24 soups, so it has fewer than 2^88 objects. A haul from
+    /// [`join`](Self::join) has at most 2^40 soups, so it has fewer than 2^104 objects.
     ///
     /// # Errors
     ///
@@ -383,7 +383,7 @@ impl Haul {
         })
     }
 
-    /// Offers a report. An open haul takes a report of its job, of one of its workers, and of a number that is missing.
+    /// Offers a report. An open haul takes a report of its job, by one of its workers, on a number that is missing.
     /// The time is proportional to the number of codes in the report, and grows with the logarithm of the number of
     /// ranges.
     ///
@@ -427,7 +427,8 @@ impl Haul {
             report.number(),
         );
         self.totals.add(report.finding(), report.number());
-        // Dropped by a call. If the report were dropped at the end of the function, its proof would take twice as long.
+        // Dropped by a call. If the report were dropped at the end of the function, the function's proof would take
+        // twice as long.
         drop(report);
         Ok(())
     }
@@ -453,7 +454,7 @@ impl Haul {
     }
 }
 
-/// Makes room for a report with this finding. Contracts see no change.
+/// Makes room for a report with this finding. What contracts see of a haul doesn't change.
 fn make_room(
     alloc: Global,
     taken: &mut Vec<(u8, u64)>,

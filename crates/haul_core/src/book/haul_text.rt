@@ -39,7 +39,7 @@ pub fn write_haul<W: Write>(census: &Census, out: &mut Out<W>) -> Result<(), Wri
     put_samples(out, census.rows.as_slice())
 }
 
-/// Writes the job and the profile.
+/// Writes the head: the version, the seed, the rule, the symmetry and the profile.
 fn put_head<W: Write>(out: &mut Out<W>, job: &Job) -> Result<(), WriteError>
     requires { out.old.failed ≡ false }
     ensures { Writes W.contents out.old out.new result (text_of (head_lines job.now)) }
@@ -66,7 +66,7 @@ fn put_profile<W: Write>(out: &mut Out<W>, profile: &Profile) -> Result<(), Writ
     put_line(out, b"@PROFILE", &numbers)
 }
 
-/// Writes the lines of the ranges.
+/// Writes a line for each range, or the line of an empty range if there are no ranges.
 fn put_ranges<W: Write>(out: &mut Out<W>, ranges: &[Range]) -> Result<(), WriteError>
     requires { out.old.failed ≡ false }
     ensures { Writes W.contents out.old out.new result (text_of (range_lines ranges.now)) }
@@ -88,7 +88,7 @@ fn put_range<W: Write>(out: &mut Out<W>, range: &Range) -> Result<(), WriteError
     put_line(out, b"@RANGE", &[range.first, range.count])
 }
 
-/// Writes the sums.
+/// Writes the sums: the numbers of soups, of unsettled soups, of soups whose objects stay for good, and of objects.
 fn put_sums<W: Write>(out: &mut Out<W>, census: &Census) -> Result<(), WriteError>
     requires { out.old.failed ≡ false }
     ensures { Writes W.contents out.old out.new result (text_of (sum_lines census.now)) }

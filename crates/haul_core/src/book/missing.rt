@@ -1,4 +1,4 @@
-//! The numbers of a haul's set that no worker has taken.
+//! The numbers of a haul's set that haven't been taken.
 
 ghost use Rattle.std.specs.Prelude.{◌≡◌, ◌≤◌, ◌++◌, IfOk, OnOk, filter};
 ghost use Rattle.haul_core.specs.Missing.{numbers_of, numbers_of_range};
@@ -10,7 +10,7 @@ use memory::OutOfMemory;
 use ranges::range::Range;
 use std::alloc::Global;
 
-/// Returns the numbers of the ranges that have no worker, in the order of the ranges.
+/// Returns those numbers of the ranges that have no worker in `worker_of`, in the order of the ranges.
 pub(crate) fn missing(
     alloc: Global,
     ranges: &[Range],
@@ -27,7 +27,7 @@ pub(crate) fn missing(
     Ok(missing)
 }
 
-/// Adds the numbers of a range that have no worker.
+/// Appends those numbers of a range that have no worker in `worker_of`.
 fn add_missing(
     missing: &mut Vec<u64>,
     range: &Range,

@@ -18,9 +18,9 @@ use thiserror::Error;
 /// Why two hauls were not joined.
 #[derive(Clone, Copy, PartialEq, Eq, Error)]
 pub enum JoinError {
-    /// One of them isn't closed.
+    /// One of the hauls isn't closed.
     Open,
-    /// They are of different jobs.
+    /// The hauls are of different jobs.
     OtherJob,
     /// A number is in both sets.
     Overlap,
@@ -47,15 +47,16 @@ impl fmt::Debug for JoinError {
 }
 
 impl Haul {
-    /// Joins two hauls into one. The joined haul is closed, and has taken what the first took, followed by what the
-    /// second took. Its number of workers is the higher of the two, and it may have more than 2^24 numbers.
+    /// Joins two hauls into one. The joined haul is closed, and has taken what the first haul took, followed by what
+    /// the second haul took. Its number of workers is the higher of the two, and its set may have more than 2^24
+    /// numbers.
     ///
     /// # Errors
     ///
     /// Both hauls, unchanged, and the first of these that holds:
     ///
-    /// - [`JoinError::Open`] if one of them isn't closed.
-    /// - [`JoinError::OtherJob`] if they are of different jobs.
+    /// - [`JoinError::Open`] if one of the hauls isn't closed.
+    /// - [`JoinError::OtherJob`] if the hauls are of different jobs.
     /// - [`JoinError::Overlap`] if a number is in both sets.
     /// - [`JoinError::Memory`] if memory runs out.
     pub fn join(self, other: Haul) -> Result<Haul, (Haul, Haul, JoinError)>
@@ -65,14 +66,14 @@ impl Haul {
         ensures stands { (before after : List Arrival) → StandsFor before self → StandsFor after other
             → IfOk result (StandsFor (joined_arrivals self.terms before other.terms after)) }
 
-        // Which error it is, and that both hauls come back.
+        // When each error is returned, and that both hauls come back with it.
         ensures hinders { IfErr result (λ refused. Hinders self other refused.2) }
         ensures kept { IfErr result (λ refused. (refused.0 ≡ self) × (refused.1 ≡ other)) }
     {
         match try_join(&self, &other) {
             Ok(joined) => {
-                // Dropped by calls. If the two hauls were dropped at the end of the function, its proof would take many
-                // times as long.
+                // Dropped by calls. If the two hauls were dropped at the end of the function, the function's proof
+                // would take many times as long.
                 drop(self);
                 drop(other);
                 Ok(joined)
@@ -97,7 +98,7 @@ fn try_join(first: &Haul, second: &Haul) -> Result<Haul, JoinError>
     }
 }
 
-/// Returns why the hauls can't be joined, or `None` if only memory can prevent it.
+/// Returns why the hauls can't be joined, or `None` if only a lack of memory can prevent it.
 fn hindrance(first: &Haul, second: &Haul) -> Option<JoinError>
     ensures some { IfSome result (Hinders first.now second.now) }
     ensures none { IfNone result (CanJoin first.now second.now) }
@@ -114,7 +115,7 @@ fn hindrance(first: &Haul, second: &Haul) -> Option<JoinError>
     None
 }
 
-/// Returns the two hauls as one.
+/// Returns the joined haul of two hauls.
 fn joined(first: &Haul, second: &Haul) -> Result<Haul, OutOfMemory>
     requires { CanJoin first.now second.now }
     ensures { IfOk result (IsJoined first.now second.now) }
@@ -137,7 +138,7 @@ fn joined(first: &Haul, second: &Haul) -> Result<Haul, OutOfMemory>
     })
 }
 
-/// Returns what the first took, followed by what the second took.
+/// Returns the workers and numbers that the first haul has taken, followed by those that the second haul has taken.
 fn all_taken(
     alloc: Global,
     first: &[(u8, u64)],
@@ -150,7 +151,7 @@ fn all_taken(
     Ok(taken)
 }
 
-/// Returns the worker of each number.
+/// Returns the worker of each taken number.
 fn by_number(alloc: Global, taken: &[(u8, u64)]) -> Result<IndexMap<u64, u8>, OutOfMemory>
     requires { IsDistinct nat_eq (numbers_in taken.now) }
     ensures { IfOk result (λ worker_of. worker_of.entries ≡ map (λ t. (t.1, t.0)) taken.now) }
