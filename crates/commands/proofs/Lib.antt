@@ -1,9 +1,11 @@
 pub mod AheadLemmas
 pub mod CorrectLineLemmas
 pub mod EndLemmas
+mod FinishLemmas
 pub mod GatherLemmas
 mod GrownLemmas
 pub mod HeardLemmas
+mod LateLemmas
 pub mod LineLemmas
 pub mod NumberLemmas
 pub mod PieceLemmas

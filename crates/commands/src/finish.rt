@@ -1,6 +1,7 @@
 //! Finishes a haul: closes it, prints its haul text, and counts the missing soups.
 
-ghost use Rattle.std.specs.Prelude.{◌≡◌, ◌≢◌, ◌↔◌, ◌++◌, ◌∷◌, [], Err, IfErr, IfOk, List, false, length};
+ghost use Rattle.std.specs.Prelude.{◌≡◌, ◌≢◌, ◌↔◌, ◌++◌, ◌∷◌, ℕ, [], Err, IfErr, IfOk, List, false, length};
+ghost use Rattle.std.specs.Result.{result_map_both};
 ghost use Rattle.memory.specs.Witness.{out_of_memory};
 ghost use Rattle.haul_core.specs.Books.{StandsFor};
 ghost use Rattle.haul_core.specs.Missing.{IsComplete, missing_of};
@@ -33,12 +34,28 @@ pub(crate) fn finish<W: Write>(haul: &mut Haul, output: &mut Out<W>) -> Result<u
 {
     let missing = haul.missing_count();
     let _ = haul.close();
+    match print_haul(haul, output) {
+        Ok(()) => Ok(missing),
+        Err(complaint) => Err(complaint),
+    }
+}
+
+/// Writes the haul text of a haul.
+fn print_haul<W: Write>(haul: &Haul, output: &mut Out<W>) -> Result<(), Complaint>
+    requires { output.old.failed ≡ false }
+    ensures prints { (missing : ℕ) → missing ≡ length (missing_of haul.now.terms.ranges haul.now.taken)
+        → Finishes haul.now (result_map_both (λ _. missing) (λ complaint. complaint) result)
+        (stream W.contents output.old output.new) }
+    ensures accepted { IfErr result (λ complaint. status_of complaint ≢ Status.Refused) }
+    ensures no_memory { IfErr result (λ complaint. complaint ≡ Complaint.Memory out_of_memory
+        → output.new ≡ output.old) }
+{
     let census = haul.census()?;
     write_haul(&census, output)?;
     // Flushed before the line about missing soups is written, so that a reader of that line knows that the text was
     // printed.
     output.flush()?;
-    Ok(missing)
+    Ok(())
 }
 
 /// Finishes a haul if `taken` is `Ok`. Otherwise returns the complaint in `taken`, which must not be a refusal, and

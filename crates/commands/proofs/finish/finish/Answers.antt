@@ -1,70 +1,16 @@
-use Rattle.std.proofs.Common.{append-nil, refl}
-use Rattle.std.proofs.KnownBytes.{Appends-nil}
-use Rattle.plane_core.proofs.lemmas.OutputLemmas.{Writes_same, Writes_then}
-use Rattle.pattern_commands.proofs.AnswerLemmas.{err_of}
+use Rattle.std.proofs.Common.{Err, Ok}
+use Rattle.commands.proofs.FinishLemmas.{finishes_alike}
 use Rattle.commands.proofs.finish.finish.Goals as goal
 
-pub returns-in_err-census-clause-finishes : goal.returns-in_err-census-clause-finishes
-returns-in_err-census-clause-finishes g c = rw (err_of _ _ c.from_residual.ensures.1) (Appends-nil _)
+pub print_haul-requires : goal.print_haul-requires
+print_haul-requires g c = c.requires
 
-pub returns-in_err-census-clause-none : goal.returns-in_err-census-clause-none
-returns-in_err-census-clause-none g c = rw c.missing_count-missing.ensures.count at c.missing_count-missing.ensures.none
+pub returns-in-Err-clause-finishes : goal.returns-in-Err-clause-finishes
+returns-in-Err-clause-finishes g c =
+    finishes_alike _ c.close.new.self (Err c.in-Err.complaint) _ c.close.ensures.terms c.close.ensures.taken
+    (c.in-Err.ensures.prints c.missing_count-missing.result (rw (c.close.ensures.taken, c.close.ensures.terms) c.missing_count-missing.ensures.count))
 
-pub returns-in_err-census-clause-accepted : goal.returns-in_err-census-clause-accepted
-returns-in_err-census-clause-accepted g c = rw (err_of _ _ c.from_residual.ensures.1) (λ is. cc)
-
-pub returns-in_err-census-clause-no_memory : goal.returns-in_err-census-clause-no_memory
-returns-in_err-census-clause-no_memory g c = rw (err_of _ _ c.from_residual.ensures.1) (λ is. refl)
-
-pub write_haul-requires : goal.write_haul-requires
-write_haul-requires g c = c.requires
-
-pub returns-in_err-write_haul-clause-finishes : goal.returns-in_err-write_haul-clause-finishes
-returns-in_err-write_haul-clause-finishes g c =
-    rw (err_of _ _ c.from_residual-in_err-write_haul.ensures.1)
-    (record {
-      census = c.in_ok-census.census;
-      counted = rw (← c.close.ensures.taken, ← c.close.ensures.terms) c.in_ok-census.ensures.counted;
-      prefix = c.in_err-write_haul.ensures.prefix;
-      cut = c.in_err-write_haul.ensures.remembers;
-    })
-
-pub returns-in_err-write_haul-clause-none : goal.returns-in_err-write_haul-clause-none
-returns-in_err-write_haul-clause-none g c = rw c.missing_count-missing.ensures.count at c.missing_count-missing.ensures.none
-
-pub returns-in_err-write_haul-clause-accepted : goal.returns-in_err-write_haul-clause-accepted
-returns-in_err-write_haul-clause-accepted g c = rw (err_of _ _ c.from_residual-in_err-write_haul.ensures.1) (λ is. cc)
-
-pub returns-in_err-write_haul-clause-no_memory : goal.returns-in_err-write_haul-clause-no_memory
-returns-in_err-write_haul-clause-no_memory g c = rw (err_of _ _ c.from_residual-in_err-write_haul.ensures.1) (λ is. cc)
-
-pub flush-requires : goal.flush-requires
-flush-requires g c = c.in_ok-write_haul.ensures.remembers
-
-pub returns-in_err-flush-clause-finishes : goal.returns-in_err-flush-clause-finishes
-returns-in_err-flush-clause-finishes g c =
-    let sent = Writes_same (append-nil _) (Writes_then c.in_ok-write_haul.ensures c.in_err-flush.ensures) in
-    rw (err_of _ _ c.from_residual-in_err-flush.ensures.1)
-    (record { census = c.in_ok-census.census; counted = rw (← c.close.ensures.taken, ← c.close.ensures.terms) c.in_ok-census.ensures.counted; prefix = sent.prefix; cut = sent.remembers })
-
-pub returns-in_err-flush-clause-none : goal.returns-in_err-flush-clause-none
-returns-in_err-flush-clause-none g c = rw c.missing_count-missing.ensures.count at c.missing_count-missing.ensures.none
-
-pub returns-in_err-flush-clause-accepted : goal.returns-in_err-flush-clause-accepted
-returns-in_err-flush-clause-accepted g c = rw (err_of _ _ c.from_residual-in_err-flush.ensures.1) (λ is. cc)
-
-pub returns-in_err-flush-clause-no_memory : goal.returns-in_err-flush-clause-no_memory
-returns-in_err-flush-clause-no_memory g c = rw (err_of _ _ c.from_residual-in_err-flush.ensures.1) (λ is. cc)
-
-pub returns-clause-finishes : goal.returns-clause-finishes
-returns-clause-finishes g c =
-    let sent = Writes_same (append-nil _) (Writes_then c.in_ok-write_haul.ensures c.in_ok-flush.ensures) in record {
-      census = c.in_ok-census.census;
-      counted = rw (← c.close.ensures.taken, ← c.close.ensures.terms) c.in_ok-census.ensures.counted;
-      missing_is = c.missing_count-missing.ensures.count;
-      text = sent.whole;
-      fine = sent.remembers;
-    }
-
-pub returns-clause-none : goal.returns-clause-none
-returns-clause-none g c = rw c.missing_count-missing.ensures.count at c.missing_count-missing.ensures.none
+pub returns-in-Ok-clause-finishes : goal.returns-in-Ok-clause-finishes
+returns-in-Ok-clause-finishes g c =
+    finishes_alike _ c.close.new.self (Ok c.missing_count-missing.result) _ c.close.ensures.terms c.close.ensures.taken
+    (c.in-Ok.ensures.prints c.missing_count-missing.result (rw (c.close.ensures.taken, c.close.ensures.terms) c.missing_count-missing.ensures.count))

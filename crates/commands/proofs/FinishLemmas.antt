@@ -1,0 +1,24 @@
+-- How a haul is finished depends only on its terms and on what it has taken.
+use Rattle.std.proofs.Common.{◌≡◌, ℕ, Ok, Err, length, sym, subst}
+use Rattle.haul_core.specs.Books.{Held}
+use Rattle.haul_core.specs.Missing.{missing_of}
+use Rattle.pattern_commands.specs.declared.ending.complaint.Complaint.TheVariants.{Refused, Memory, ReadFailed, TooLong, WriteFailed}
+use Rattle.pattern_commands.specs.Reached.{Outcome}
+use Rattle.pattern_commands.specs.Streams.{Stream}
+use Rattle.commands.specs.Finish.{Finishes}
+
+pub finishes_alike : (one other : Held) (outcome : Outcome) (output : Stream) → other.terms ≡ one.terms → other.taken ≡ one.taken
+    → Finishes other outcome output → Finishes one outcome output
+finishes_alike one other (Ok missing) output terms taken f = record {
+  census = f.census;
+  counted = rw (← taken, ← terms) f.counted;
+  missing_is = rw (← taken, ← terms) f.missing_is;
+  text = f.text;
+  fine = f.fine;
+}
+finishes_alike one other (Err (Memory error)) output terms taken f = f
+finishes_alike one other (Err (WriteFailed error)) output terms taken f =
+    record { census = f.census; counted = rw (← taken, ← terms) f.counted; prefix = f.prefix; cut = f.cut }
+finishes_alike one other (Err (ReadFailed error)) output terms taken f = absurd f
+finishes_alike one other (Err TooLong) output terms taken f = absurd f
+finishes_alike one other (Err (Refused refusal)) output terms taken f = absurd f
