@@ -3,7 +3,8 @@ are proved side by side if neither is above the other.
 
 The crate with the longest path to the program starts first, and gets a copy of the prover for each
 processor. A crate that starts beside it gets a copy for each processor that has none yet, but at
-least one. It has a higher niceness, so it uses the processor time that the longer path leaves.
+least one. It has a higher niceness, so it uses the processor time that the longer path leaves. A
+small crate gets fewer copies, since each copy loads the libraries.
 """
 
 from __future__ import annotations
@@ -22,6 +23,8 @@ from builder.crates import Crates
 MOST_COPIES = 8
 # The memory that each copy needs.
 COPY_KILOBYTES = 1_500_000
+# A crate gets at most one copy for each of these units of its weight.
+COPY_WEIGHT = 50
 # The highest niceness.
 MOST_YIELDING = 19
 # The time between two updates of the progress.
@@ -89,6 +92,7 @@ class Schedule:
         self, crates: Crates, weights: Mapping[str, int], copies: Callable[[], int]
     ) -> None:
         self.crates = crates
+        self.weights = weights
         self.ways = crates.ways(weights)
         self.copies = copies
         # The copies of each crate that is being proved.
@@ -96,12 +100,13 @@ class Schedule:
 
     def share_of(self, crate: str) -> Share:
         """Returns the share of a crate that starts now, beside the crates that are running."""
+        useful = max(1, self.weights[crate] // COPY_WEIGHT)
         longer = [other for other in self.running if self._rank(other) < self._rank(crate)]
         if not longer:
-            return Share(self.copies(), 0)
+            return Share(min(useful, self.copies()), 0)
         rank = sorted(self.crates.order, key=self._rank).index(crate)
-        left = self.copies() - sum(self.running.values())
-        return Share(max(1, left), min(MOST_YIELDING, 1 + rank))
+        left = max(1, self.copies() - sum(self.running.values()))
+        return Share(min(useful, left), min(MOST_YIELDING, 1 + rank))
 
     def _rank(self, crate: str) -> tuple[int, int]:
         """Returns the sort key of a crate. The crate with the longest path comes first."""

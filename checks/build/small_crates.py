@@ -14,7 +14,7 @@ side: low
 census: long side clap
 apart: low
 """
-WEIGHTS = {"low": 1, "long": 5, "side": 2, "census": 1}
+WEIGHTS = {"low": 1, "long": 500, "side": 200, "census": 100}
 
 
 def crates() -> Crates:
