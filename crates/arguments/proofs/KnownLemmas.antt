@@ -1,4 +1,5 @@
--- What `clap` makes of the seven commands and of their arguments, as one equation that holds by computation.
+-- Facts about what `clap` makes of the seven commands and of their arguments. All of them follow from one equation,
+-- which holds by computation.
 use Rattle.std.proofs.Common.{◌≡◌, ◌||◌, ◌&&◌, ◌++◌, ◌==◌, ℕ, Bool, true, false, cond, Option, None, Some, List, [], ◌∷◌, codes, inl, inr, not, refl, ap, subst}
 use Rattle.std.proofs.Common.{bytes_eq, drop, find, get_or, is_some, map, option_and_then, slice_get, unwrap_or}
 use Rattle.std.specs.List.{list_any}
@@ -39,47 +40,50 @@ leaf command = built_leaf (inherited (with_leaf_noted (marked_built census_app.t
 abbrev pub help_entry : Entry
 help_entry = record { name = codes "help"; is_named = true; kind = kind.Flag; default = None }
 
--- an argument that takes a value after its name, and a positional value
+-- tests of an argument: it takes a value after its name, or (`stands_alone`) it is a positional value
 abbrev pub takes_value : Entry → Bool
 takes_value e = e.is_named && not (is_flag e.kind)
 
 abbrev pub stands_alone : Entry → Bool
 stands_alone e = not e.is_named && not (is_flag e.kind)
 
--- the name of the command's positional argument, of which there is at most one
+-- the name of the command's positional argument, of which there is at most one; empty if there is none
 abbrev pub lone : Command → Text
 lone command = option_map_or (λ e. e.name) (find stands_alone command.parameters) []
 
--- what is held: these rows, and perhaps a value that isn't settled yet; no flags of a bundle are to be skipped
+-- what a walk holds: these rows, and perhaps an argument with values that aren't settled yet; no flags of a bundle are
+-- to be skipped
 abbrev pub holding : List Row → Option (Text × List Text) → Held
 holding rows pending = record { rows = rows; pending = pending; skip = 0 }
 
 -- ---- one use of an argument
 
--- the row of an argument
+-- the row of an argument with this value from this source
 abbrev pub row_of : Entry → Text → ValueSource → Row
 row_of e v source = record { id = e.name; values = v ∷ []; count = None; source = Some source; reading = reading_of (parser_for e.kind) }
 
--- the rows after a use with this value, and its faults
+-- the rows after a use of the argument with this value, and the faults of this use
 abbrev pub rows_with : Entry → Text → List Row → List Row
 rows_with e v rows = with_values e.name (reading_of (parser_for e.kind)) CommandLine (v ∷ []) (without e.name rows)
 
 abbrev pub faults_of : Entry → Text → List Row → Kinds
 faults_of e v rows = or_else (repeat_fault false e.name rows) (values_kinds false (parser_for e.kind) (v ∷ []))
 
--- the effect of an argument that is a whole use, once what was held before is settled
+-- the effect of a whole use in one text, such as `--first=7` or a flag; p is what was held before, once it is settled
 abbrev pub reacts : Kinds × Held → Entry → Text → Met
 reacts p e v = ((record { rows = rows_with e v p.1.rows; pending = None; skip = p.1.skip }, next idle), or_else p.0 (faults_of e v p.1.rows))
 
--- the effect of an argument that is only a name, whose values follow
+-- the effect of a name such as `--first`, whose value follows in the next text; p is what was held before, once it is
+-- settled
 abbrev pub asks : Kinds × Held → Entry → Met
 asks p e = ((record { rows = p.1.rows; pending = Some (e.name, []); skip = p.1.skip }, next (option e.name)), p.0)
 
--- the effect of a positional value; if its argument takes several values, what is held isn't settled first
+-- the effect of a positional value; what is held isn't settled first if the value is one more of several values of the
+-- argument that is held (`keeps_on`)
 abbrev pub goes_alone : Bool → Held → Kinds × Held → Entry → Text → Walk × Kinds
 goes_alone keeps_on h p e v = (at (pushed e.name v (cond keeps_on h p.1)) 2, cond keeps_on [] p.0)
 
--- ---- what a request takes
+-- ---- the values that a request takes
 
 pub data Value : Type 0 where
   text : Option Text → Value
@@ -105,7 +109,7 @@ taken kind.Flag row = flag (option_map_or (λ t. bytes_eq t (codes "true")) (opt
 taken (kind.Number least most) row = number (option_and_then (at_least least) (option_and_then (number_named most) (option_and_then row_text row)))
 taken (kind.OptionalNumber least most) row = number (option_and_then (at_least least) (option_and_then (number_named most) (option_and_then row_text row)))
 
--- what a request should take: the value of an argument, or whether a flag is used
+-- what a request should take for an argument of this kind: its value, or for a flag, whether it is used
 abbrev pub given : ValueKind → Text → Bool → Value
 given kind.Text v used = text (Some v)
 given kind.Flag v used = flag used
@@ -116,7 +120,7 @@ given (kind.OptionalNumber least most) v used = number (cond used (Some (digits_
 abbrev pub default_row : Rule → Row
 default_row a = record { id = a.id; values = a.defaults; count = None; source = Some DefaultValue; reading = reading_by a }
 
--- the row of the first default for this id
+-- the row of the first rule with this id that has a default
 abbrev pub default_for : Text → List Rule → Option Row
 default_for id c = find (λ r. is_some (slice_get r.values 0) && bytes_eq r.id id) (map default_row c)
 
@@ -129,12 +133,13 @@ if_so b x = cond b (Some x) None
 pub so : {X : Type 0} {b : Bool} {x y : X} → if_so b x ≡ if_so b y → b ≡ true → x ≡ y
 so {X} {b} {x} {y} same holds = same_Some x y (rw holds at same)
 
--- a rule has this long name
+-- a test: the rule isn't positional, and it has this long name
 abbrev pub takes_name : Text → Rule → Bool
 takes_name name a = not (is_some a.index) && has_long a name
 
--- facts on one argument of a command: how arguments lead on from a place (a flag, `--name=value`, `--name` before a
--- value, that value, and a positional value), how a held value is settled, and what is taken from the default
+-- Facts about one argument of a command: how the walk goes on from a place (after a flag, after `--name=value`, after
+-- `--name` before a value, after this value, and after a positional value), how a value that is held is settled, and
+-- what a request takes from the default.
 pub record ParameterFacts : Type 0 where
   pub flagged : Held → ℕ → Option Met
   pub attached : Held → ℕ → Text → Option Met
@@ -147,7 +152,8 @@ pub record ParameterFacts : Type 0 where
   pub small : Bool
   pub default : Option Value
 
--- facts on a command: that it takes no second positional value, its defaults and checks, other arguments, and its name
+-- Facts about a command: its arguments, that it takes no second positional value and no argument with several values,
+-- its defaults and checks, its long names and letters, `--help`, and how `clap` finds the command by its name.
 pub record CommandFacts : Type 0 where
   pub parameters : List ParameterFacts
   pub second : Option Rule
@@ -162,7 +168,7 @@ pub record CommandFacts : Type 0 where
   pub found : Option Shape
   pub version : Bool
 
--- each fact twice: as `clap` has it (true), and as the table has it
+-- the facts in two versions: as `clap` computes them (if the first argument is `true`), and as the table says them
 abbrev pub parameter_facts : Bool → Command → Entry → ParameterFacts
 parameter_facts clap command e =
     let s = leaf command in
@@ -211,7 +217,7 @@ all_known : map (command_facts true) commands ≡ map (command_facts false) comm
 unfolding clap_on_literals
 all_known = refl
 
--- functions that agree on a list agree on each member
+-- two functions that agree on a list agree on each member of the list
 at_one : {X Y : Type 0} (f g : X → Y) (xs : List X) (x : X) → map f xs ≡ map g xs → IsIn x xs → f x ≡ g x
 at_one f g [] x same here = absurd here
 at_one f g (y ∷ xs) x same (inl is) = subst (λ z. f z ≡ g z) is (ap (λ l. get_or l 0 (f y)) same)

@@ -1,4 +1,4 @@
--- What the calls of the program ask for.
+-- The laws of arguments: what the arguments of a call ask for.
 use Rattle.std.proofs.Common.{arith, ◌≡◌, ◌∙◌, ◌&&◌, ◌⊎◌, Bool, true, false, None, Some, Option, List, [], ◌∷◌, append-nil, option_and_then, option_map, fold, inl}
 use Rattle.std.proofs.Common.{inr, not, refl, sym, ap, ap₂, subst, ⊎_elim}
 use Rattle.std.specs.List.{list_any}
@@ -31,19 +31,19 @@ use Rattle.arguments.proofs.UseLemmas.{all_read, rows_in}
 use Rattle.arguments.proofs.ValueLemmas.{AllTaken, all_taken, completed, given_used, no_default_fault}
 use Rattle.arguments.proofs.WalkLemmas.{at, end_faults, faults_by, run}
 
--- ---- what a parse finds
+-- ---- what `clap` finds in the arguments
 
--- arguments other than `--version` are read by `clap`
+-- unless arguments ask for the version, they ask for what `clap` reads from them
 pub asked_by-called : (arguments : List Text) → asks_version arguments ≡ false → asked_by arguments ≡ called_by arguments
 asked_by-called arguments other = rw other refl
 
--- the contracts of `clap` state the matches and the faults of the program's arguments
+-- the program's arguments are so simple that the contracts of `clap` state what it finds, and which faults there are
 census_is_free : is_simple_and_free census_app ≡ true
 unfolding clap_on_literals
 census_is_free = refl
 
 module _ (app : App) (arguments : List Text) (is : app ≡ census_app) (other : false ≡ asks_version arguments) where
-  -- what a parse finds is what the arguments ask for
+  -- if a parse succeeds, the request in what it found is what the arguments ask for
   pub asked_by-found : (found : Option (Text × List Row)) → (is_simple_and_free app ≡ true → fault_of app arguments ≡ [])
       → (is_simple app ≡ true → found ≡ subcommand_of app arguments) → asked_by arguments ≡ option_and_then request_in found
   asked_by-found found faultless finds =
@@ -63,16 +63,16 @@ module _ (app : App) (arguments : List Text) (is : app ≡ census_app) (other : 
 
 -- ---- the name of a command
 
--- the program itself finds no fault after a command
+-- if a command follows, the program's own defaults and checks have no fault
 top_fine : or_else (defaults_fault [] census_built.top.rules) (check_fault census_built.top (finished census_built.top.rules nothing_held) true) ≡ []
 unfolding clap_on_literals
 top_fine = refl
 
--- what a walk over the arguments of a command asks for
+-- what the arguments of a command ask for, given the faults and the end of the walk over them
 abbrev pub asked_of : Shape → Kinds × Walk → Option Request
 asked_of s r = unless_faulty (or_else (faults_by s r) []) (request_in (s.name, finished s.rules r.1.held))
 
--- the name of a command and arguments after it don't ask for the version
+-- arguments don't ask for the version if the first argument after the program isn't `--version` or `-V`
 pub not_version : (program name : Text) (arguments : List Text) → is_version name ≡ false → asks_version (program ∷ name ∷ arguments) ≡ false
 not_version program name arguments other = grind (arith, other)
 
@@ -97,7 +97,7 @@ module _ (command : Command) (here : IsIn command commands) (program : Text) whe
       asked_by-called (program ∷ command.name ∷ arguments) (not_version program command.name arguments (ap (λ (f : CommandFacts). f.version) k))
       ∙ rw (faults, matches) refl
 
-  -- what lawful arguments ask for, whether or not a required one is missing
+  -- what lawful arguments ask for, whether or not a required argument is missing
   pub asks_uses : (uses : List Use) (missing : Bool) → AreUses command uses → lacks_some command uses ≡ missing
       → asked_by (program ∷ command.name ∷ arguments_in uses)
       ≡ unless_faulty (or_else (check_kinds false false missing) []) (request_in ((leaf command).name, completed (leaf command) (rows_in uses)))
@@ -115,13 +115,14 @@ module _ (command : Command) (here : IsIn command commands) (program : Text) whe
       ∙ (λ j. check_kinds false false (list_any (λ e. is_required e && not (given_used command here e.name uses j)) command.parameters))
       ∙ ap (check_kinds false false) lacks))
 
--- ---- the values of each
+-- ---- the values of each command
 
--- the rows of a call
+-- the rows of a call of this command with these uses, with the defaults filled in
 abbrev rows_for : Command → List Use → List Row
 rows_for command uses = completed (leaf command) (rows_in uses)
 
--- the plan is made from the nine arguments that come first in three of the commands
+-- the plan in the rows is the plan that the uses give; three commands have a plan, which is made from their first nine
+-- arguments
 plan_taken : (uses : List Use) (rows : List Row) (more : List Entry) → AllTaken (table.seed ∷ table.first ∷ table.count ∷ table.also
     ∷ table.period ∷ table.horizon ∷ table.stride ∷ table.limit ∷ table.rule ∷ more) uses rows
     → (plan_in rows ≡ Some (plan_given uses)) × AllTaken more uses rows
@@ -131,7 +132,7 @@ plan_taken uses rows more (seed, (first, (count, (also, (period, (horizon, (stri
   others,
 )
 
--- a command asks for what its values make
+-- a call of a command asks for the request that is made from its values
 asks_what : (command : Command) (here : IsIn command commands) (asked : List Use → Option Request)
     → ((uses : List Use) → AllTaken command.parameters uses (rows_for command uses)
     → request_in ((leaf command).name, rows_for command uses) ≡ asked uses) → AsksForWhat command asked
@@ -165,7 +166,7 @@ ask_for_their_values = record {
       λ i. gather_from (plan i) (number_of (workers i)));
 }
 
--- ---- no command
+-- ---- `--version` and `-V`
 
 pub asks_for_version : AsksForVersion
 asks_for_version = record { long = λ program. refl; short = λ program. refl }

@@ -23,7 +23,7 @@ digits-Decides (d ∷ ds) = Decides-and _ _ (Decides-ltb (digit_value d) 10) (di
 numeral-Decides : (ds : List ℕ) → Decides (is_numeral ds) (IsNumeral 10 ds)
 numeral-Decides ds = Decides-and _ _ (Decides-ltb 0 (length ds)) (digits-Decides ds)
 
--- a numeral has no sign
+-- a numeral begins neither with a minus nor with a plus sign
 pub no_sign : (n : Text) → IsNumeral 10 n → (starts_with_minus n ≡ false) × (without_leading_plus n ≡ n)
 no_sign [] h = absurd (omega arith)
 no_sign (d ∷ ds) h =
@@ -39,7 +39,7 @@ parser_for kind.Flag = parser.Bool
 parser_for (kind.Number least most) = parser.Unsigned least most
 parser_for (kind.OptionalNumber least most) = parser.Unsigned least most
 
--- the limit of a number of this kind is below 2^64
+-- a test: if values of this kind are numbers, their limit is below 2^64
 abbrev pub is_small : ValueKind → Bool
 is_small (kind.Number least most) = nat_lt most (2 ^ 64)
 is_small (kind.OptionalNumber least most) = nat_lt most (2 ^ 64)
@@ -66,9 +66,9 @@ kind_refused (kind.Number least most) v h a = number_refused least most v h a
 kind_refused (kind.OptionalNumber least most) v h a = number_refused least most v h a
 kind_refused _ v h a = h
 
--- ---- what is read of a number
+-- ---- which number is read from a text
 
--- a text of a number in its range is read as that number
+-- a text that is a number in the range is read as this number
 text_read : (least most : ℕ) (n : Text) → IsNumberFromTo least most n → number_named most n ≡ Some (digits_value 10 n)
 text_read least most n h = rw ((no_sign n h.numeral).1, (numeral-Decides n).1 h.numeral, le-leb _ _ h.high) refl
 
@@ -76,7 +76,7 @@ pub number_read : (least most : ℕ) (n : Text) → IsNumberFromTo least most n
     → option_and_then (at_least least) (number_named most n) ≡ Some (digits_value 10 n)
 number_read least most n h = rw (text_read least most n h, le-leb _ _ h.low) refl
 
--- a text that isn't a numeral below 2^64 isn't one within a limit below 2^64
+-- a text that isn't a numeral below 2^64 isn't a numeral up to `most`, if `most` is below 2^64
 none_within : (most : ℕ) (ds : Text) → most < 2 ^ 64 → (IsNumeral 10 ds × (digits_value 10 ds < 2 ^ 64) → ⊥)
     → (is_numeral ds && nat_le (digits_value 10 ds) most) ≡ false
 none_within most ds fits never = false_from_ne_true _ (λ e.
@@ -84,7 +84,8 @@ none_within most ds fits never = false_from_ne_true _ (λ e.
     let small = leb-true _ _ parts.1 in
     never ((numeral-Decides ds).0 parts.0, omega arith))
 
--- the number found for an argument is the number that its text spells, if that is within the limit
+-- the number that is found for an argument, if it is up to `most`, is the number that the argument's text spells, if
+-- this number is up to `most`
 pub found_within : {E : Type 0} (most : ℕ) → most < 2 ^ 64 → (G : Text → Result ℕ E → Type 0)
     → ((t : Text) (r : Result ℕ E) → G t r → ParsesUnsigned 64 10 t r) → (o : Option Text) (found : Option ℕ) → (o ≡ None → found ≡ None)
     → ((t : Text) → o ≡ Some t → ReadsOne G t found) → option_and_then (within most) found ≡ option_and_then (number_named most) o

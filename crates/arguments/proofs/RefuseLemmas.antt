@@ -1,4 +1,5 @@
--- Arguments that ask for nothing: lawful ones followed by a fault and anything else, and calls without a command.
+-- Arguments that ask for nothing: lawful arguments followed by a faulty one and then by anything, and arguments without
+-- a command.
 use Rattle.std.proofs.Common.{arith, ◌≡◌, ◌∙◌, ◌++◌, ◌==◌, ◌||◌, ℕ, Bool, true, false, cond, Option, None, Some, List, [], ◌∷◌, codes, ap, bytes_eq, inl, inr}
 use Rattle.std.proofs.Common.{option_map, refl, slice_get, sym, subst, ⊎_elim}
 use Rattle.std.specs.List.{list_any}
@@ -32,7 +33,7 @@ use Rattle.arguments.proofs.UseLemmas.{Fits, HasOrLacks, IsAt, all_read, bare_va
 use Rattle.arguments.proofs.ValueLemmas.{find_none, rows_have}
 use Rattle.arguments.proofs.WalkLemmas.{Met, at, faults_by, met, plain_met, run, settling}
 
--- there is a fault
+-- there is a fault, as a test and as a statement
 abbrev is_faulty : Kinds → Bool
 is_faulty [] = false
 is_faulty (kind ∷ kinds) = true
@@ -46,7 +47,7 @@ faulty_first one two f = grind arith
 stray : (s : Shape) → IsFaulty (stray_fault s)
 stray s = grind arith
 
--- the faults of an argument, whatever comes after it
+-- the faults of one argument; they don't depend on what comes after it
 abbrev pub turn_kinds : Shape → ℕ → Met → Kinds
 turn_kinds s position m = or_else m.1 (step_fault s position m.0.0 m.0.1)
 
@@ -55,13 +56,14 @@ word_faulty : (s : Shape) (h : Held) (position : ℕ) (argument : Text) (more : 
 unfolding walked walk_fault
 word_faulty s h position argument more f = faulty_first _ _ (faulty_first (turn_kinds s position (met s idle h position argument)) _ f)
 
--- a letter is a fault if it is no option, or if it stands for an option whose long name is a fault
+-- a letter of a bundle such as `-abc` is a fault if it is the letter of no option, or if the long name of its option is
+-- a fault
 letter_faulty : (s : Shape) (b : Bool) (o : Option Rule) (flags : Text) (h : Held) (next : Held → Kinds)
     → IsFaulty (long_fault s.rules s.args_override_self o None h)
     → IsFaulty (short_fault s.rules s.args_override_self (cond b o None) flags (record h { skip = 0 }) next)
 letter_faulty s b o flags h next f = grind arith
 
--- `-abc` is a fault if its first letter is
+-- a bundle such as `-abc` is a fault if its first letter is a fault
 letters_faulty : (s : Shape) (h : Held) (letters : Text) (x : ℕ) (b : Bool) (o : Option Rule) → h.skip ≡ 0 → slice_get (chars letters) 0 ≡ Some x
     → arg_by_short s.rules x ≡ cond b o None → IsFaulty (long_fault s.rules s.args_override_self o None h)
     → IsFaulty (bundle_fault s.rules s.args_override_self letters h)
@@ -69,7 +71,7 @@ unfolding flags_fault chars
 letters_faulty s h [] x b o none first is f = cc
 letters_faulty s h (y ∷ ys) x b o none first is f = rw (none, first, is) (letter_faulty s b o _ h _ f)
 
--- Here, settling what is held is a fault, and no argument takes several values.
+-- In this module, settling what is held is a fault, and no argument of the command takes several values.
 module _ (s : Shape) (rows : List Row) (p : Option (Text × List Text)) (single : list_any takes_several s.rules ≡ false)
     (settles : IsFaulty (settling s (holding rows p)).0) where
   abbrev h : Held
@@ -78,13 +80,13 @@ module _ (s : Shape) (rows : List Row) (p : Option (Text × List Text)) (single 
   abbrev again : Bool
   again = s.args_override_self
 
-  -- a positional value is a fault
+  -- a positional value that follows is a fault
   value_stuck : (c : List Rule) (i : ℕ) → list_any takes_several c ≡ false
       → IsFaulty (option_map_or (λ a. positional_fault s.rules again a h) (arg_by_index c i) (stray_fault s))
   value_stuck [] i none = stray s
   value_stuck (a ∷ c) i none = grind (arith, value_stuck c i, settles)
 
-  -- `-abc` is a fault
+  -- a bundle such as `-abc` that follows is a fault
   bundle_stuck : (i : ℕ) (argument flags : Text) → IsFaulty (turn_kinds s i (short_word s.rules idle argument flags h, bundle_fault s.rules again flags h))
   unfolding flags_fault bundle_met
   bundle_stuck i argument [] = value_stuck s.rules i single
@@ -105,16 +107,17 @@ module _ (s : Shape) (rows : List Row) (p : Option (Text × List Text)) (single 
     | inr other ↦ simp other (faulty_first _ _ (faulty_first _ _ (word_stuck i argument (long_of argument))))
   ]
 
--- if arguments tell a fault, or leave one in what is held, there is a fault in all arguments or at the end
+-- if there is a fault in the first arguments, or in what they leave to be settled, there is a fault in all arguments or
+-- at their end
 told_or_held : (told held later last : Kinds) → IsFaulty (or_else told held) → (IsFaulty held → IsFaulty (or_else later last))
     → IsFaulty (or_else (or_else told later) last)
 told_or_held told held later last f stuck = grind arith
 
--- a use whose value is out of its range is a fault
+-- a use whose value isn't of its kind, such as a number out of its range, is a fault
 range_faulty : (e : Entry) (v : Text) (rows : List Row) → IsNotOfKind e.kind v → IsFaulty (faults_of e v rows)
 range_faulty e v rows refused = grind (arith, value_kinds-refused false (parser_for e.kind) v (kind_refused e.kind v refused))
 
--- ---- at a place in the arguments of a command
+-- ---- arguments that are refused at a place in the arguments of a command
 
 module _ (command : Command) (here : IsIn command commands) {h : Held} {position : ℕ} {rows : List Row}
     (is : IsAt command h position rows) (more : List Text) where
@@ -124,7 +127,7 @@ module _ (command : Command) (here : IsIn command commands) {h : Held} {position
   abbrev Refused : List Text → Type 0
   Refused arguments = IsFaulty (faults_by s (run s (at h position) arguments))
 
-  -- a use that is refused is a fault once it is settled
+  -- if a use is a fault once it is settled, arguments that begin with this use are refused
   use_faulty : (u : Use) → IsIn (entry_in u) command.parameters → Stands u → HasOrLacks u → Fits command here is u
       → IsFaulty (faults_of (entry_in u) (value_in u) rows) → Refused (arguments_of u ++ more)
   use_faulty u there stands of fits bad =
@@ -154,7 +157,7 @@ module _ (command : Command) (here : IsIn command commands) {h : Held} {position
   help_faulty : IsFaulty (other_fault s None (codes "--help") h)
   help_faulty = subst IsFaulty (sym (ap (λ (f : CommandFacts). f.help h) (known command here) ∙ (λ j. or_else (is.settles j).0 (DisplayHelp ∷ [])))) refl
 
-  -- `-x` and `-h` are refused
+  -- an argument such as `-x` or `-h` is refused
   refused_short : (argument : Text) → IsShort argument → Refused (argument ∷ more)
   refused_short argument u =
       let bad = letters_faulty s h u.letters u.letter (104 == u.letter || false) (arg_by_long s.rules (codes "help"))
@@ -201,7 +204,7 @@ others_ask_for_nothing command here = record {
 
 -- ---- no command
 
--- `help`, which is listed after the commands and has no parameters
+-- the command `help`, which `clap` lists after the seven commands, and which has no arguments here
 abbrev help_command : Command
 help_command = record { name = codes "help"; parameters = [] }
 

@@ -1,4 +1,4 @@
--- The arguments of a call, one after another: how each is read, and which rows they leave.
+-- The arguments of a call, one after another: how each argument is read, and which rows the arguments leave.
 use Rattle.std.proofs.Common.{arith, ◌≡◌, ◌∙◌, ◌++◌, ◌||◌, ◌⊎◌, ℕ, true, false, cond, Option, None, Some, List, [], ◌∷◌, codes, append-nil, append_assoc, ap}
 use Rattle.std.proofs.Common.{bytes_eq, inl, map, not, refl, sym, subst, ⊎_elim}
 use Rattle.std.specs.Str.Parse.{starts_with_minus}
@@ -29,11 +29,11 @@ row_in u = row_of (entry_in u) (value_in u) CommandLine
 abbrev pub rows_in : List Use → List Row
 rows_in uses = map row_in uses
 
--- the value of a use is of its kind, or is known not to be
+-- the value of a use is of its kind, or is known not to be of its kind
 abbrev pub HasOrLacks : Use → Type 0
 HasOrLacks u = IsOfKind (entry_in u).kind (value_in u) ⊎ IsNotOfKind (entry_in u).kind (value_in u)
 
--- so a value that is an argument by itself doesn't begin with `-`
+-- a value that is an argument by itself doesn't begin with `-`, if it is of its kind or known not to be of its kind
 pub bare_value : (k : ValueKind) (v : Text) → is_flag k ≡ false → IsBare k v → IsOfKind k v ⊎ IsNotOfKind k v → starts_with_minus v ≡ false
 bare_value kind.Text v no_flag bare of = bare
 bare_value kind.Flag v no_flag bare of = cc
@@ -41,14 +41,15 @@ bare_value _ v no_flag bare of = ⊎_elim (λ n. (no_sign v n.numeral).0) (λ n.
 
 -- ---- the arguments of a use
 
--- A place in the arguments of a command. What is held there is settled without a fault, to these rows. The next value
--- alone is for the positional argument, if that wasn't given before.
+-- A place in the arguments of a command. Settling what is held there has no fault, and gives these rows. The position
+-- is 2 if the positional argument has been given, and otherwise 1.
 pub record IsAt (command : Command) (h : Held) (position : ℕ) (rows : List Row) : Type 0 where
   pub settles : settling (leaf command) h ≡ ([], holding rows None)
   pub place : position ≡ cond {A = ℕ} (has_row (lone command) rows) 2 1
 
--- The arguments of a use lead from one place to another. `clap` settles a value only when the next one begins, so the
--- faults of the use are those found in its arguments and those found when what is held is settled.
+-- The arguments of a use lead from one place to another. `clap` settles the value of a use only when the next use
+-- begins. So the faults of the use are those that are found in its arguments, and those that are found when what is
+-- held is settled.
 pub record Step (command : Command) (h : Held) (position : ℕ) (rows : List Row) (arguments : List Text) (e : Entry) (v : Text) : Type 0 where
   pub told : Kinds
   pub kept : List Row
@@ -62,7 +63,7 @@ module _ (command : Command) (here : IsIn command commands) {h : Held} {position
   abbrev s : Shape
   s = leaf command
 
-  -- the step of an argument that is a whole use
+  -- the step of an argument that is a whole use, such as `--first=7` or a flag
   react_step : (e : Entry) (v argument : Text) → stands_alone e ≡ false → met s idle h position argument ≡ reacts (settling s h) e v
       → Step command h position rows (argument ∷ []) e v
   react_step e v argument named meets = record {
@@ -76,7 +77,7 @@ module _ (command : Command) (here : IsIn command commands) {h : Held} {position
     place = is.place ∙ simp (named, or-false);
   }
 
-  -- the step of arguments after which a value is held
+  -- the step of arguments after which the value v is held
   hold_step : (e : Entry) (v : Text) (arguments : List Text) (end : ℕ) → IsIn e command.parameters → is_flag e.kind ≡ false
       → end ≡ cond {A = ℕ} (has_row (lone command) rows || (stands_alone e || false)) 2 1
       → ((more : List Text) → run s (at h position) (arguments ++ more) ≡ run s (at (holding rows (Some (e.name, v ∷ []))) end) more)
@@ -91,7 +92,7 @@ module _ (command : Command) (here : IsIn command commands) {h : Held} {position
     place = place;
   }
 
-  -- only a positional value depends on the place
+  -- the use fits the place: a positional value fits only if none was given before, and every other use fits
   abbrev pub Fits : Use → Type 0
   Fits (alone e v) = position ≡ 1
   Fits u = Unit {0}
@@ -125,7 +126,7 @@ module _ (command : Command) (here : IsIn command commands) {h : Held} {position
 
 -- ---- arguments that are read
 
--- the arguments lead without a fault from a place to another, which has these rows
+-- the arguments lead without a fault from this place to another place, which has these rows
 pub record ReadsOn (command : Command) (h : Held) (position : ℕ) (arguments : List Text) (rows : List Row) : Type 0 where
   pub held : Held
   pub end : ℕ
@@ -148,7 +149,7 @@ module _ (command : Command) (here : IsIn command commands) where
   is_lone : (e : Entry) → IsIn e command.parameters → bytes_eq e.name (lone command) ≡ stands_alone e
   is_lone e there = ap (λ (f : ParameterFacts). f.is_lone) (known_of command here e there)
 
-  -- one more use is read
+  -- a lawful use whose argument has no row yet is read without a fault, and its row is added
   read_more : (u : Use) (h : Held) (position : ℕ) (rows : List Row) → IsUse command u → has_row (entry_in u).name rows ≡ false
       → IsAt command h position rows → ReadsOn command h position (arguments_of u) (rows ++ row_in u ∷ [])
   read_more u h position rows lawful fresh is =

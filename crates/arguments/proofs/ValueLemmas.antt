@@ -1,4 +1,4 @@
--- The values of a call: those of its arguments, and the defaults of the others.
+-- The values of a call: the values that it gives, and the defaults of the arguments that it doesn't give.
 use Rattle.std.proofs.Common.{arith, ◌≡◌, ◌∙◌, ◌||◌, ◌&&◌, Bool, true, false, cond, Option, None, Some, List, [], ◌∷◌, codes, is_some, not, bytes_eq, drop}
 use Rattle.std.proofs.Common.{find, fold, get_or, inl, inr, map, slice_get, refl, sym, ap, subst, ⊎_elim}
 use Rattle.std.specs.List.{AllByRecursion, list_any}
@@ -25,11 +25,11 @@ use Rattle.arguments.proofs.NumberLemmas.{number_read, parser_for}
 use Rattle.arguments.proofs.UseLemmas.{row_in, rows_in}
 use Rattle.arguments.proofs.WalkLemmas.{at_row_none}
 
--- the row of an id
+-- the first row with this id
 abbrev pub lookup : Text → List Row → Option Row
 lookup id rows = find (λ r. bytes_eq r.id id) rows
 
--- the rows with the defaults of what was not given
+-- the rows, and the defaults of the arguments that have no row
 abbrev pub completed : Shape → List Row → List Row
 completed s rows = fold with_default rows s.rules
 
@@ -42,7 +42,8 @@ is_found p (x ∷ xs) = grind (arith, is_found p xs)
 pub find_none : {X : Type 0} (p : X → Bool) (xs : List X) → list_any p xs ≡ false → find p xs ≡ None
 find_none p xs none = grind (arith, is_found p xs, none)
 
--- a default is found if nothing was found before
+-- Once the default of a rule is added, the row that is found for an id is the row that was found before. If there was
+-- none, it is the default if the rule has this id, and otherwise `later`.
 default_found : (id : Text) (rows : List Row) (a : Rule) (later : Option Row)
     → option_or (lookup id (with_default rows a)) later
     ≡ option_or (lookup id rows) (cond (is_some (slice_get a.defaults 0) && bytes_eq a.id id) (Some (default_row a)) later)
@@ -61,13 +62,13 @@ no_default_fault (a ∷ c) rows fine =
     let remainder = no_default_fault c (with_default rows a) (ap (drop 1) fine) in
     grind arith
 
--- ---- the values of uses
+-- ---- the values that uses give
 
 pub rows_have : (name : Text) (uses : List Use) → has_row name (rows_in uses) ≡ is_used name uses
 rows_have name [] = refl
 rows_have name (u ∷ more) = ap (λ b. bytes_eq (entry_in u).name name || b) (rows_have name more)
 
--- what a request takes from an argument with a value
+-- from the row of an argument with a value of its kind, a request takes this value
 value_taken : (k : ValueKind) (name v : Text) → IsOfKind k v
     → taken k (Some (record { id = name; values = v ∷ []; count = None; source = Some CommandLine; reading = reading_of (parser_for k) })) ≡ given k v true
 value_taken kind.Text name v h = refl
@@ -75,7 +76,7 @@ value_taken kind.Flag name v h = ap (λ t. flag (bytes_eq t (codes "true"))) h
 value_taken (kind.Number least most) name v h = ap number (number_read least most v h)
 value_taken (kind.OptionalNumber least most) name v h = ap number (number_read least most v h)
 
--- a property of all members that fail a test holds for a list whose members all fail it
+-- if all members of a list fail a test, and each member that fails it has a property, all members have the property
 each_failing : {X : Type 0} (P : X → Type 0) (p : X → Bool) (xs : List X) → list_any p xs ≡ false → ((x : X) → IsIn x xs → p x ≡ false → P x)
     → AllByRecursion P xs
 each_failing P p [] none all = tt
@@ -83,7 +84,7 @@ each_failing P p (x ∷ xs) none all =
     let parts = or_parts (p x) (list_any p xs) none in
     (all x (inl refl) parts.0, each_failing P p xs parts.1 (λ y here. all y (inr here)))
 
--- the row is that of a use, not of a default
+-- a test: there is a row, and it comes from a use, not from a default
 abbrev explicit : Option Row → Bool
 explicit row = option_map_or (λ (r : Row). explicit_source r.source) row false
 
@@ -111,7 +112,7 @@ module _ (command : Command) (here : IsIn command commands) where
       same_Some e' e (sym (ap (λ (f : ParameterFacts). f.same_name) (known_of command here e' there')) ∙ ap named_by ((bytes_eq-Decides _ _).0 named)
       ∙ ap (λ (f : ParameterFacts). f.same_name) (known_of command here e there))
 
-  -- a request takes the given value of an argument that isn't missing, from the rows of the uses or from its default
+  -- if an argument isn't missing, a request takes its given value, from the rows of the uses or from the default
   uses_taken : (e : Entry) (uses : List Use) → IsIn e command.parameters → AreUses command uses → (is_required e && not (is_used e.name uses)) ≡ false
       → taken e.kind (option_or (lookup e.name (rows_in uses)) (default_for e.name c)) ≡ given e.kind (text_given e uses) (is_used e.name uses)
   uses_taken e [] there are whole = so (ap (λ (f : ParameterFacts). f.default) (known_of command here e there)) (ap not whole)
@@ -127,6 +128,6 @@ module _ (command : Command) (here : IsIn command commands) where
   all_taken uses are whole = each_failing _ (λ e. is_required e && not (is_used e.name uses)) command.parameters whole
       (λ e there has. ap (taken e.kind) (all_found e.name c (rows_in uses)) ∙ uses_taken e uses there are has)
 
-  -- an argument is given if and only if it is used
+  -- once the defaults are filled in, an argument still counts as given if and only if it is used
   pub given_used : (name : Text) (uses : List Use) → takes.is_given name (completed (leaf command) (rows_in uses)) ≡ is_used name uses
   given_used name uses = ap explicit (all_found name c (rows_in uses)) ∙ used_given (default_for name c) (not_given name c) name uses

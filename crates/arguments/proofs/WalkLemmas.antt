@@ -7,22 +7,22 @@ use Rattle.clap.specs.Kinds.{or_else}
 use Rattle.clap.specs.Walk.{Held, Step as WalkStep, Waiting, Walk, after_step, at_row, has_row, idle, plain_word, settled, subcommand_or_other, walked}
 use Rattle.clap.specs.Walk.{with_default}
 
--- a place between two arguments, and one at which nothing waits for a value
+-- a place between two arguments, and (`at`) a place at which no argument waits for a value
 abbrev pub waits : Waiting → Held → ℕ → Walk
 waits waiting h position = record { held = h; waiting = waiting; position = position; is_trailing = false; stopped = None }
 
 abbrev pub at : Held → ℕ → Walk
 at = waits idle
 
--- the faults that a walk over these arguments tells, and where it ends
+-- the faults that a walk over these arguments finds, and where it ends
 abbrev pub run : Shape → Walk → List Text → Kinds × Walk
 run s w arguments = (walk_fault s [] w arguments, fold (walked s.rules []) w arguments)
 
--- the same, after other faults
+-- the same result, but if there are faults `kinds` before it, these are its faults
 abbrev pub after : {X : Type 0} → Kinds → Kinds × X → Kinds × X
 after kinds r = (or_else kinds r.0, r.1)
 
--- settling what is held, when something follows: the faults, and what is held then
+-- the result of settling what is held, when another argument begins: the faults, and what is held afterwards
 abbrev pub settling : Shape → Held → Kinds × Held
 settling s h = (settle_fault s.rules s.args_override_self h, settled s.rules h)
 
@@ -30,13 +30,13 @@ settling s h = (settle_fault s.rules s.args_override_self h, settled s.rules h)
 abbrev pub end_faults : Shape → Kinds × Held → Kinds
 end_faults s p = or_else p.0 (or_else (defaults_fault p.1.rows s.rules) (check_fault s (fold with_default p.1.rows s.rules) false))
 
--- all faults of a command's arguments, by the walk over them
+-- all faults of a command's arguments, given the result of the walk over them
 abbrev pub faults_by : Shape → Kinds × Walk → Kinds
 faults_by s r = or_else r.0 (end_faults s (settling s r.1.held))
 
--- ---- an argument
+-- ---- one argument
 
--- what an argument is found to be, with its faults
+-- the effect of an argument: what is held after it, what the walk does next, and the argument's faults
 abbrev pub Met : Type 0
 Met = (Held × WalkStep) × Kinds
 
@@ -54,7 +54,7 @@ unfolding walked walk_fault
 turn s idle h position argument more m is = ap (goes_on s idle h position argument more) is
 turn s waiting h position argument more m is = ap (goes_on s waiting h position argument more) is
 
--- an argument that doesn't begin with `-` isn't a flag
+-- an argument that doesn't begin with `-` is taken as a plain word, and isn't a fault by itself
 pub plain_met : (s : Shape) (waiting : Waiting) (h : Held) (position : ℕ) (argument : Text) → starts_with_minus argument ≡ false
     → met s waiting h position argument ≡ (plain_word s.rules waiting argument h, [])
 plain_met s waiting h position argument bare = grind (arith, bare)

@@ -1,4 +1,4 @@
--- The headline follows from what the arguments ask for and what was done.
+-- Proves the headline, from what the arguments ask for and what was done.
 use Rattle.std.proofs.Common.{◌≡◌, ◌∙◌, ◌↔◌, suc, arith, ◌^◌, ℕ, Bool, true, false, List, Option, None, Some, Result, Ok, Err, IsSomeAnd, ap, length, nat_le, nat_lt, refl, subst, sym}
 use Rattle.std.specs.Prelude.{IsOkAnd, if◌then◌else◌, position}
 use Rattle.std.specs.Result.{result_map_both}
@@ -45,9 +45,9 @@ use Rattle.census.specs.Headline.{GatherPrintsItsLines, IsCensusOfCall, IsCensus
 use Rattle.census.specs.Program.{IsDone}
 use Rattle.census.specs.Requests.{right_for, take_behaviour_from}
 
--- ---- what was read is what was written
+-- ---- what is read from the texts of a call
 
--- a seed that was read is its text
+-- a seed that is read from a text is this text
 seed_text : (text seed : List ℕ) → seed_read text ≡ Ok seed → seed ≡ text
 seed_text text seed is = go (nat_lt most_bytes (length text)) refl (position is_invisible text) refl
   where
@@ -68,7 +68,7 @@ rule_of_text text rule is = go (rule_read text) refl is
         record { complete = reads_rule text rule spells; spelled = reads_text text rule spells }
     go (Err fault) read_is e = cc
 
--- a seed that is valid is its text
+-- the seed that a text names is this text
 seed_of_text : (text seed : List ℕ) → seed_named text ≡ Ok seed → seed ≡ text
 seed_of_text text seed is = go (seed_read text) refl is
   where
@@ -76,7 +76,7 @@ seed_of_text text seed is = go (seed_read text) refl is
     go (Ok x) read_is e = let same : x ≡ seed = cc in seed_text text seed (read_is ∙ ap Ok same)
     go (Err fault) read_is e = cc
 
--- a profile that is valid has its numbers
+-- the profile that numbers name is the profile with these numbers
 profile_of_numbers : (numbers : ProfileNumbers) (profile : Settling) → profile_named numbers ≡ Ok profile → profile ≡ settling numbers
 profile_of_numbers numbers profile is = go (nat_le numbers.period numbers.horizon) is
   where
@@ -104,7 +104,7 @@ job_of uses job is =
     go (Ok seed) s_is (Err complaint) p_is r r_is e = cc
     go (Err complaint) s_is p p_is r r_is e = cc
 
--- ---- what was printed
+-- ---- what `take` and `name` printed
 
 -- the census that is printed for the plan of a call is the census of the call
 census_of : (uses : List Use) (before after : Option (List ℕ)) → (prints : PrintsCensus (plan_given uses) before after)
@@ -121,7 +121,7 @@ census_of uses before after prints = record {
   counted = prints.tells.counted;
 }
 
--- what was made is right for the request of the call
+-- if a request was done, what was made is right for the request that the arguments ask for
 right_of : (arguments : List Text) (reader before after : Option (List ℕ)) (errors : Stream) (missing : ℕ) (request : Request)
     → (done : IsDone arguments reader before after errors missing) → asked_by arguments ≡ Some request
     → right_for request done.bytes (Ok done.made)
@@ -129,7 +129,7 @@ right_of arguments reader before after errors missing request done asked =
     let same : done.request ≡ request = let both = sym done.asked ∙ asked in cc in
     subst (λ (r : Request). right_for r done.bytes (Ok done.made)) same done.right
 
--- what is right for `take` is the same text, with reports or without
+-- if what `take` made is right, with or without report lines, its text is the right text
 take_right_of : (plan : Plan) (workers : ℕ) (from : Option ℕ) (bytes : List ℕ) (made : Made) → (take_behaviour_from plan workers from).right bytes (Ok made)
     → take_right plan (Ok made.text)
 take_right_of plan workers None bytes made right = right.0
@@ -157,7 +157,7 @@ read_of bytes cells is = go (nat_le (length bytes) (2 ^ 24)) (pattern bytes) ref
     go true (Err fault) read_is e = cc
     go false read read_is e = cc
 
--- a right text of `name` is the text of the call's finding
+-- a text that is right for `name` is the text of a finding of the pattern that the call reads
 finding_of : (uses : List Use) (bytes text : List ℕ) (before after : Option (List ℕ))
     → name_right (profile_given uses) (text_given table.rule uses) bytes (Ok text) → Appends before after text
     → (finding : Finding) × IsFindingOf uses bytes finding × Appends before after (finding_text finding)
@@ -193,9 +193,9 @@ name_prints arguments reader before after errors missing done uses call =
     let right = right_of arguments reader before after errors missing request done asked in
     (done.bytes, done.input, finding_of uses done.bytes done.made.text before after right.0 done.written)
 
--- ---- what was gathered
+-- ---- what `gather` printed
 
--- the soups of a haul that may be opened for a call are those of the call
+-- if what `gather` made is of correct lines, its census is that of those soups of the call that have a correct line
 gathered_of : (uses : List Use) (bytes : List ℕ) (made : Made) (code : ℕ)
     → (lines : IsOfCorrectLines (plan_given uses) (number_given table.workers uses) bytes made) → (code ≡ 0) ↔ (made.missing ≡ 0)
     → IsCensusOfLines uses bytes code lines.tells.census
@@ -259,7 +259,7 @@ prints_what_is_asked arguments reader before after errors done = record {
   gather = gather_prints arguments reader before after errors 0 0 (λ zero_is. refl, λ zero_is. refl) done;
 }
 
--- the same for the writer that the program gives back
+-- if a request was done, the headline holds for the writer that the program gives back
 pub prints_if_done : {V : Type 0} (contents : V → Option (List ℕ)) (arguments : List Text) (reader : Option (List ℕ)) (given : V) (back : Option V)
     (errors : Stream) → IsSomeAnd back (λ writer. IsDone arguments reader (contents given) (contents writer) errors 0)
     → IsSomeAnd back (λ writer. PrintsWhatIsAsked arguments reader (contents given) (contents writer))
@@ -267,7 +267,7 @@ prints_if_done contents arguments reader given None errors done = absurd done
 prints_if_done contents arguments reader given (Some writer) errors done =
     prints_what_is_asked arguments reader (contents given) (contents writer) errors done
 
--- what `gather` has printed if soups are missing
+-- if soups are missing, `gather` has printed the census of the correct lines, and ends with exit code 6
 pub prints_if_incomplete : {V : Type 0} (contents : V → Option (List ℕ)) (arguments : List Text) (reader : Option (List ℕ)) (given : V)
     (back : Option V) (errors : Stream)
     → IsSomeAnd back (λ writer. (less : ℕ) × IsDone arguments reader (contents given) (contents writer) errors (suc less))

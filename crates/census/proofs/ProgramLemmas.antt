@@ -1,4 +1,4 @@
--- From what a command writes to a buffer to what the writer below the buffer has.
+-- What the writer below a buffer has, given what a command wrote to the buffer, and with which status the program ends.
 use Rattle.std.proofs.Common.{◌≡◌, ◌∙◌, ℕ, zero, suc, List, [], true, false, Option, None, Some, Ok, Err, IsSomeAnd, IfSome}
 use Rattle.std.proofs.Common.{◌≢◌, ◌⊎◌, Bool, arith, cond, inl, inr, refl, rules, sym, ap, subst, append-nil}
 use Rattle.std.specs.Io.KnownBytes.{Appends, Keeps, append_known}
@@ -20,7 +20,7 @@ use Rattle.census.specs.ProgramEnds.{LeavesAlone}
 use Rattle.census.specs.Requests.{DoesRequest, DoesArguments, right_for, behaviour_of, reads_input, writes_lines}
 use Rattle.census.proofs.RequestLemmas.{does}
 
--- ---- a code tells the status
+-- ---- the status of an exit code
 
 pub is_done : (status : Status) → exit_code status ≡ 0 → status ≡ statuses.Done
 is_done status code = search rules
@@ -37,7 +37,7 @@ is_out_of_memory status code = search rules
 pub is_incomplete : (status : Status) → exit_code status ≡ 6 → status ≡ statuses.Incomplete
 is_incomplete status code = search rules
 
--- ---- bytes
+-- ---- the bytes that were written, and those that are below the buffer
 
 -- if a buffer is empty, the writer below it has all that was written
 whole_sent : (before written below : Option (List ℕ)) (text : List ℕ) → Appends before written text → Keeps written (append_known below [])
@@ -57,12 +57,12 @@ pub append_nothing : (reader : Option (List ℕ)) → append_known reader [] ≡
 append_nothing None = refl
 append_nothing (Some xs) = ap Some (append-nil xs)
 
--- nothing was written
+-- if nothing was written, nothing was appended, and the bytes are a prefix of themselves
 pub nothing_written : (before : Option (List ℕ)) → Appends before before [] × IsPrefixOf before before
 nothing_written None = (tt, tt)
 nothing_written (Some xs) = (sym (append-nil xs), ([], append-nil xs))
 
--- nothing was added, and then nothing more
+-- if nothing was appended, and then again nothing, nothing was appended in all
 nothing_more : (before so_far after : Option (List ℕ)) → Appends before so_far [] → Appends so_far after [] → Appends before after []
 nothing_more None so_far after first second = tt
 nothing_more (Some xs) None after first second = absurd first
@@ -79,7 +79,7 @@ unprinted complaint = search rules
 quiet : (request : Request) (bytes : List ℕ) (made : Made) → writes_lines request ≡ false → right_for request bytes (Ok made) → made.diagnostics ≡ []
 quiet request bytes made mute is = search rules
 
--- the last line, which is empty if no soup is missing
+-- the stream has the last line, which is empty if no soup is missing
 told_last : (missing : ℕ) (s : Stream) → HasLast (Ok missing) s → HasLine s (last_line (Ok missing))
 told_last zero s last = subst (λ b. MatchBool b (HasPrefix s []) (Has s [])) (sym last.1) last.0
 told_last (suc n) s last = last
@@ -88,7 +88,8 @@ told_none : (missing : ℕ) (s : Stream) → missing ≡ 0 → HasLast (Ok missi
 told_none zero s none last = last.0
 told_none (suc n) s none last = cc
 
--- the buffer is empty, and the writer below it has all that a command printed
+-- A command printed, and the writer below the buffer has all of it. The status says whether soups are missing. If none
+-- is missing, and the request writes no lines, there are no diagnostics.
 pub record Prints (arguments : List Text) (reader before below : Option (List ℕ)) (status : Status) (errors : Stream) : Type 0 where
   pub missing : ℕ
   pub status_is : status ≡ status_after (Ok missing)
@@ -153,7 +154,7 @@ unlike P status printed done less = search rules
 
 -- ---- arguments that ask for nothing, and the version
 
--- if the program ends with status `Usage` after a flush, the command did, too
+-- if the program has the status `Usage` after the flush, the command had it before the flush
 pub still_usage : (status result : Status) → (has_printed status ≡ false → result ≡ status) → (result ≢ status → result ≡ statuses.Failed)
     → result ≡ statuses.Usage → status ≡ statuses.Usage
 still_usage statuses.Done result kept failed is =
@@ -165,7 +166,7 @@ still_usage statuses.Refused result kept failed is = sym (kept refl) ∙ is
 still_usage statuses.Memory result kept failed is = sym (kept refl) ∙ is
 still_usage statuses.Failed result kept failed is = sym (kept refl) ∙ is
 
--- arguments that are for the version ask for it
+-- arguments for which `asks_version` is true ask for the version
 pub asks_for_version : (arguments : List Text) → asks_version arguments ≡ true → asked_by arguments ≡ Some Version
 asks_for_version arguments is = ap (λ (b : Bool). cond b (Some Version) (called_by arguments)) is
 
@@ -210,7 +211,7 @@ ends_version arguments reader before after status written errors asks failed sta
       };
     }
 
--- a command that only prints ends with exit code 0 or 5
+-- if a status is `Done` or `Failed`, its exit code is 0 or 5
 pub prints_or_fails : (status : Status) → (status ≢ statuses.Done → status ≡ statuses.Failed) → (exit_code status ≡ 0) ⊎ (exit_code status ≡ 5)
 prints_or_fails statuses.Done failed = inl refl
 prints_or_fails statuses.Failed failed = inr refl
@@ -219,7 +220,7 @@ prints_or_fails statuses.Refused failed = inr (ap exit_code (failed (λ is. cc))
 prints_or_fails statuses.Memory failed = inr (ap exit_code (failed (λ is. cc)))
 prints_or_fails statuses.Incomplete failed = inr (ap exit_code (failed (λ is. cc)))
 
--- with these codes, the only thing that has to be left unchanged is the input
+-- with exit code 0 or 5, the only thing that has to be left unchanged is the input
 pub printing_leaves : (arguments : List Text) (code : ℕ) (errors : Stream) (input output unprinted : Type 0) → (code ≡ 0) ⊎ (code ≡ 5) → input
     → LeavesAlone arguments code errors input output unprinted
 printing_leaves arguments code errors input output unprinted either same = record {

@@ -1,4 +1,4 @@
--- How a request was done, by how its command ended.
+-- A request was done if its command ended as the request's behaviour allows.
 use Rattle.std.proofs.Common.{◌≡◌, ℕ, List, Option, subst}
 use Rattle.pattern_commands.specs.declared.ending.status.Status.{Status}
 use Rattle.pattern_commands.specs.Ends.{Ends}
@@ -8,8 +8,7 @@ use Rattle.pattern_commands.proofs.AnswerLemmas.{some_input}
 use Rattle.arguments.specs.declared.request.Request.{Request}
 use Rattle.census.specs.Requests.{DoesRequest, behaviour_of}
 
--- if a command with the behaviour of the request ended as this behaviour allows, whatever the input was, the
--- request was done
+-- if, for every input, a command ended as the behaviour of a request allows, the request was done
 pub does : {reader : Option (List ℕ)} {status : Status} {output errors : Stream} (request : Request) (behaviour : Behaviour)
     → behaviour ≡ behaviour_of request → ((reader : Option (List ℕ)) (bytes : List ℕ) → Ends behaviour reader bytes status output errors)
     → DoesRequest reader status output errors request

@@ -1,4 +1,4 @@
--- What is read from an apgcode, and how long an apgcode is.
+-- What is read from an apgcode, and that apgcodes have their shape: how long they are, and which bytes they have.
 use Rattle.std.proofs.Common.{◌≡◌, ◌∙◌, ap, refl, ℕ, ◌+◌, ◌<◌, ◌≤◌, ◌^◌, Bool, true, List, [], ◌∷◌, ◌++◌, length, Option, None, Some, take_while}
 use Rattle.std.proofs.Common.{decimal, arith}
 use Rattle.std.specs.Prelude.{IfSome}
@@ -26,7 +26,7 @@ kind_of_name Oscillator number (Some t) = refl
 kind_of_name Ship number None = refl
 kind_of_name Ship number (Some t) = refl
 
--- taking digits from the front stops at the first byte that is no digit
+-- the digits with which a text begins are those before the first byte that isn't a digit
 digits_in_prefix : (ds remainder : List ℕ) → AllDigits 10 ds → take_while is_digit remainder ≡ [] → take_while is_digit (ds ++ remainder) ≡ ds
 digits_in_prefix [] remainder all end = end
 digits_in_prefix (d ∷ ds) remainder all end =
@@ -34,7 +34,7 @@ digits_in_prefix (d ∷ ds) remainder all end =
     let is : is_digit d ≡ true = and_from _ _ (le-leb _ _ range.0) (le-leb _ _ range.1) in
     take_while-cons is_digit d (ds ++ remainder) ∙ rw is (ap (λ (more : List ℕ). d ∷ more) (digits_in_prefix ds remainder all.1 end))
 
--- so the decimal of a number is read as that number
+-- so if a text begins with the decimal of a number below 2^64, and no digit follows, that number is read from it
 number_in_prefix : (n : ℕ) (remainder : List ℕ) → n < 2 ^ 64 → take_while is_digit remainder ≡ [] → digits_value 10 (take_while is_digit (decimal n ++ remainder)) ≡ n
 number_in_prefix n remainder low end =
     let numeral = decimal_is_IsNumeral n low in
@@ -64,7 +64,7 @@ number_of_name kind number text low = after_letter kind number text ∙ number_i
 all_on : (p : ℕ → Bool) (xs ys : List ℕ) → list_all p xs ≡ true → list_all p ys ≡ true → list_all p (xs ++ ys) ≡ true
 all_on p xs ys h k = list_all-append p xs ys ∙ and_from _ _ h k
 
--- digits and characters are bytes of a name
+-- digits, and the characters of a text, are bytes that a name may have
 digit_byte : (b : ℕ) → 48 ≤ b → b ≤ 57 → is_code_byte b ≡ true
 unfolding is_character
 digit_byte b low high = rw (le-leb 48 b low, le-leb b 57 high) refl
@@ -79,7 +79,7 @@ character_bytes (b ∷ bs) all =
     let parts = and_parts (is_character b) (list_all is_character bs) all in
     and_from _ _ (rw parts.0 refl) (character_bytes bs parts.1)
 
--- the end of a name, which has the text
+-- the bytes and the length of the parts of a name: its end, which has the text, its opening and its letter
 ending_bytes : (text : Option (List ℕ)) → IfSome text HasTextShape → list_all is_code_byte (ending text) ≡ true
 unfolding is_character
 ending_bytes None shape = refl
@@ -109,7 +109,7 @@ letter_length Still = refl
 letter_length Oscillator = refl
 letter_length Ship = refl
 
--- a name whose text has its shape has the shape of names
+-- a name whose text has the shape of texts has the shape of names
 pub shape_of_name : (kind : Kind) (number : ℕ) (text : Option (List ℕ)) → number < 2 ^ 64 → IfSome text HasTextShape → HasCodeShape (code_text kind number text)
 unfolding code_text
 shape_of_name kind number text low shape =
@@ -127,7 +127,7 @@ shape_of_name kind number text low shape =
           (all_on is_code_byte digits (ending text) (digit_bytes digits (decimal_is_IsNumeral number low).0.1) (ending_bytes text shape)));
     }
 
--- a name says its kind and its number
+-- the kind and the number of a name can be read from it, and it has the shape of names
 pub says_name : (kind : Kind) (number : ℕ) (text : Option (List ℕ)) (code : List ℕ) → number < 2 ^ 64 → IfSome text HasTextShape
     → code ≡ code_text kind number text → (kind_in code ≡ kind) × (number_in code ≡ number) × HasCodeShape code
 says_name kind number text code low shape is =

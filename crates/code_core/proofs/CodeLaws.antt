@@ -1,4 +1,4 @@
--- A pattern has one name, and its phases have the same.
+-- The laws of names: a pattern has only one name, and names have their shape.
 use Rattle.std.proofs.Common.{◌≡◌, ◌≢◌, ◌∙◌, sym, ap, refl, subst, ℕ, ℤ, ◌+ℤ◌, ◌<◌, ◌≤◌, List, [], ◌∷◌, length, Option, None, Some, arith, inl, inr}
 use Rattle.std.proofs.Common.{Ordering, Less, Equal, Greater, nat_cmp}
 use Rattle.std.proofs.lemmas.Int.{ints}
@@ -24,7 +24,7 @@ use Rattle.std.specs.Prelude.{IfSome, ◌^◌}
 use Rattle.code_core.proofs.LeastLemmas.{text_cmp_total}
 use Rattle.code_core.proofs.RecurrenceLemmas.{le_or_lt}
 
--- texts that tie are equal
+-- two texts that tie in the order of texts are equal
 pub texts_tie : OnlyEqualTextsTie
 texts_tie a b e = slice_cmp-IsAntisymmetric nat_cmp-IsAntisymmetric a b (second_ties (nat_cmp (length a) (length b)) (slice_cmp nat_cmp a b) e)
   where
@@ -42,7 +42,7 @@ text_cmp-tie a b one other = go (text_cmp a b) refl
     go Equal is = is
     go Greater is = absurd (one is)
 
--- the least text is unique
+-- the least text with a property is unique
 least_is_one : (P : List ℕ → Type 0) (a b : Option (List ℕ)) → IsLeastOf P a → IsLeastOf P b → a ≡ b
 least_is_one P None None one other = refl
 least_is_one P None (Some b) one other = absurd (one b other.0)

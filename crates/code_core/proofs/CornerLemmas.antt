@@ -29,7 +29,7 @@ has-at_corner cells b x y e =
     back : (a : ℤ) (n : ℕ) → pos n ≡ (a +ℤ pos n) +ℤ neg_ℤ a
     back a n = omega (arith, ints)
 
--- a live cell is a bit of its row
+-- if the rows show a pattern in its box, the bit of a cell in its row is 1 if and only if the cell is alive
 pub cell_bit : (cells : List Cell) (b : Bounds) (rows : List ℕ) (x y : ℕ) → IsBoxed b rows cells → x < 64 → y < 64
     → (if has (at_corner cells) (cell_at (pos x) (pos y)) then 1 else 0) ≡ bit_in rows y x
 cell_bit cells b rows x y boxed hx hy =

@@ -22,7 +22,7 @@ at_corner-again cells = go (box_of cells) refl
 unmoved : (a v : ℤ) → a +ℤ neg_ℤ v ≡ a → v ≡ pos 0
 unmoved a v e = omega (arith, ints)
 
--- so the box of a pattern at the corner begins there
+-- the box of a pattern at the corner has its left side in column 0 and its top in row 0
 pub box_at_corner : (cells : List Cell) (b : Bounds) → box_of (at_corner cells) ≡ Some b → (b.left ≡ pos 0) × (b.top ≡ pos 0)
 box_at_corner cells b is = go (at_corner cells) is (at_corner-again cells)
   where

@@ -1,5 +1,5 @@
--- The image of a pattern, by its box: the coordinates of an image's cell are the cell's distances from two sides of the
--- box.
+-- The image of a pattern, computed from the pattern's box: the coordinates of a cell's image are the cell's distances
+-- from two sides of the box.
 use Rattle.std.proofs.Common.{◌≡◌, ◌∙◌, sym, ap, refl, subst, ℕ, ℤ, pos, neg_ℤ, ◌+ℤ◌, ◌≤ℤ◌, ◌+◌, ◌<◌, Bool, true, false, ◌&&◌, List, [], ◌∷◌, ◌++◌, length}
 use Rattle.std.proofs.Common.{◌*◌, ◌^◌, ◌%◌, Option, None, Some, bit_or, map, arith, cond, flat_map, get_or, ltb-true, set, take}
 use Rattle.std.proofs.lemmas.Bool.{and_parts}
@@ -111,7 +111,7 @@ box_of-turned o (c ∷ cs) = ap (λ (b : Option Bounds). Some (grown (turned_cel
 box_of-turned_as : (o : Orientation) (cs : List Cell) (b : Bounds) → box_of cs ≡ Some b → box_of (map (turned_cell o) cs) ≡ Some (turned_box o b)
 box_of-turned_as o cs b is = box_of-turned o cs ∙ ap (turned_box_of o) is
 
--- ---- the box at the corner
+-- ---- the box of an image at the corner
 
 abbrev moved_box : ℤ → ℤ → Bounds → Bounds
 moved_box dx dy b = record { left = b.left +ℤ dx; top = b.top +ℤ dy; right = b.right +ℤ dx; bottom = b.bottom +ℤ dy }
@@ -209,7 +209,7 @@ sides (c ∷ cs) b is = between (within-box_of (c ∷ cs) b is).0
     between : IsWithin b c → (b.left ≤ℤ b.right) × (b.top ≤ℤ b.bottom)
     between w = (omega (arith, ints, w.left, w.right), omega (arith, ints, w.top, w.bottom))
 
--- the image at the corner has this box
+-- the image at the corner has the box `image_box`
 pub box_of-image : (o : Orientation) (cs : List Cell) (b : Bounds) → box_of cs ≡ Some b → box_of (turned o cs) ≡ Some (image_box o b)
 unfolding turned image
 box_of-image o cs b is =
@@ -238,7 +238,7 @@ all_land : (o : Orientation) (b : Bounds) (cs : List Cell) → AllByRecursion (I
 all_land o b [] within = refl
 all_land o b (c ∷ cs) within = λ i. lands o b c within.0 i ∷ all_land o b cs within.1 i
 
--- the image has these cells
+-- the image has the cells that `image_cell` computes from the pattern's cells and box
 pub has-image : (o : Orientation) (cs : List Cell) (b : Bounds) → box_of cs ≡ Some b → (c : Cell)
     → has (turned o cs) c ≡ has (map (image_cell o b) cs) c
 has-image o cs b is c =
@@ -250,7 +250,7 @@ has-image o cs b is c =
 pub within_at : (cs : List Cell) (b : Bounds) (k : ℕ) → box_of cs ≡ Some b → k < length cs → IsWithin b (get_or cs k default_cell)
 within_at cs b k is low = has-all (IsWithin b) cs (get_or cs k default_cell) (within-box_of cs b is) (has-at cs k default_cell low)
 
--- ---- rows
+-- ---- the rows of an image
 
 near_left : (a b c : ℤ) → a ≤ℤ c → c ≤ℤ b → distance a b < 40 → distance a c < 40
 near_left a b c low high small = omega (arith, ints)
@@ -261,7 +261,7 @@ near_right a b c low high small = omega (arith, ints)
 same_number : (m n : ℕ) → pos m ≡ pos n → n < 40 → m < 64
 same_number m n same low = omega (arith, ints)
 
--- the image of a small pattern fits in 64 columns and rows
+-- the image of each cell of a small pattern is in the first 64 columns and the first 64 rows
 pub place_low : (o : Orientation) (b : Bounds) (c : Cell) (column row : ℕ) → IsWithin b c → distance b.left b.right < 40 → distance b.top b.bottom < 40
     → cell_at (pos column) (pos row) ≡ image_cell o b c → (column < 64) × (row < 64)
 place_low o b c column row w wide high is = go o is
@@ -292,7 +292,8 @@ place_low o b c column row w wide high is = go o is
     go Diagonal same = both _ _ same top left
     go AntiDiagonal same = both _ _ same bottom right
 
--- the image of one more cell is put into the rows
+-- if the rows show the images of the first k cells, and the bit of the next cell's image is set, they show the images
+-- of the first k + 1 cells
 pub image_put : (o : Orientation) (b : Bounds) (rows : List ℕ) (cs : List Cell) (k column row : ℕ) → length rows ≡ 64 → k < length cs
     → (column < 64) × (row < 64) → cell_at (pos column) (pos row) ≡ image_cell o b (get_or cs k default_cell)
     → ShowsRows (window_at (pos 0) (pos 0)) rows (map (image_cell o b) (take k cs))
@@ -330,7 +331,7 @@ image_shown o b rows cs k is all shown r i low near =
 from_zero : (n : ℕ) → distance (pos 0) (pos n) ≡ n
 from_zero n = omega (arith, ints)
 
--- the test of the size is the same if columns and rows are exchanged
+-- whether a box at the corner is small doesn't change if columns and rows are exchanged
 fits_to : (m n : ℕ) → fits_forty_square (record { left = pos 0; top = pos 0; right = pos m; bottom = pos n })
     ≡ fits_forty_square (record { left = pos 0; top = pos 0; right = pos n; bottom = pos m })
 fits_to m n = and_swap (nat_lt (distance (pos 0) (pos m)) 40) (nat_lt (distance (pos 0) (pos n)) 40)
@@ -352,7 +353,7 @@ fits-image Flip b = fits_same b
 fits-image Diagonal b = fits_to (distance b.top b.bottom) (distance b.left b.right) ∙ fits_same b
 fits-image AntiDiagonal b = fits_to (distance b.top b.bottom) (distance b.left b.right) ∙ fits_same b
 
--- the tokens of a pattern at the corner with this box, spelled
+-- the text that spells the tokens of a pattern at the corner, whose box has the size of this box
 abbrev pub spelled_in : List Cell → Bounds → List ℕ
 spelled_in cells b = flat_map spelling (tokens_of cells (distance b.left b.right) (distance b.top b.bottom))
 
@@ -369,7 +370,7 @@ image_is_small o b ib is small =
     let both = and_parts _ _ (ap fits_forty_square is ∙ fits-image o b ∙ small) in
     (ltb-true _ _ both.0, ltb-true _ _ both.1)
 
--- an image is at the corner
+-- the box of an image begins at the corner
 image_at_corner : (o : Orientation) (cs : List Cell) (b : Bounds) → box_of (turned o cs) ≡ Some b → (b.left ≡ pos 0) × (b.top ≡ pos 0)
 unfolding turned
 image_at_corner o cs b is = box_at_corner (image o cs) b is

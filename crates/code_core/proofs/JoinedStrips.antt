@@ -12,7 +12,7 @@ use Rattle.code_core.specs.Texts.{joined_strips, strip, strip_tokens, tokens_of}
 use Rattle.code_core.specs.Tokens.{spelling}
 use Rattle.code_core.proofs.StripLemmas.{spelled}
 
--- one more strip below the others
+-- if there is one more strip below the others, a `NextStrip` and the tokens of this strip are appended
 pub joined-push : (s : List Token) (strips : List (List Token)) (t : List Token) → joined_strips (s ∷ (strips ++ t ∷ [])) ≡ joined_strips (s ∷ strips) ++ NextStrip ∷ t
 joined-push s [] t = refl
 joined-push s (r ∷ strips) t = ap (λ ts. s ++ NextStrip ∷ ts) (joined-push r strips t) ∙ sym (append_assoc s (NextStrip ∷ joined_strips (r ∷ strips)) (NextStrip ∷ t))
@@ -20,7 +20,7 @@ joined-push s (r ∷ strips) t = ap (λ ts. s ++ NextStrip ∷ ts) (joined-push 
 abbrev pub strip_of : List Cell → ℕ → ℕ → List Token
 strip_of cells width k = strip_tokens (strip cells width k)
 
--- the text of the first strips
+-- the text of the first n strips
 unfoldable pub strips_text : List Cell → ℕ → ℕ → List ℕ
 strips_text cells width n = spelled (joined_strips (map (strip_of cells width) (range_with_len 0 n)))
 
@@ -41,7 +41,7 @@ strips_more cells width (suc n) h =
     ∙ flat_map-append spelling (joined_strips (map f before)) (NextStrip ∷ last)
     ∙ sym (append_assoc (spelled (joined_strips (map f before))) (122 ∷ []) (spelled last))
 
--- the separator before a strip: nothing before the first strip, and a `z` (122) before each other
+-- the separator before a strip: nothing before the first strip, and a `z` (122) before each other strip
 pub parted_first : (k : ℕ) (old new : List ℕ) → k ≤ 0 → new ≡ old → new ≡ old ++ (if k == 0 then [] else 122 ∷ [])
 parted_first k old new low same =
     let none : (k == 0) ≡ true = grind (arith, nat_tests) in
@@ -52,7 +52,7 @@ parted_other k old new some is =
     let other : (k == 0) ≡ false = grind (arith, nat_tests) in
     rw other is
 
--- one more strip, after a `z` (122) if there are strips above it
+-- the text of n + 1 strips is that of n strips, then a `z` (122) if n isn't 0, and then the text of the last strip
 pub strips_step : (cells : List Cell) (width n : ℕ) → strips_text cells width (n + 1)
     ≡ (strips_text cells width n ++ (if n == 0 then [] else 122 ∷ [])) ++ flat_map spelling (strip_tokens (strip cells width n))
 unfolding strips_text

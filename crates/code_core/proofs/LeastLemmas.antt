@@ -1,4 +1,4 @@
--- The least of some texts, found one group at a time.
+-- The least of some texts, found from one group of texts after another.
 use Rattle.std.proofs.Common.{◌≡◌, ◌≢◌, ◌∙◌, sym, ap, refl, subst, ℕ, ◌+◌, ◌<◌, ◌≤◌, List, [], length, get_or, Option, None, Some, arith}
 use Rattle.std.proofs.Common.{eq-or-lt_of_le, inl, inr, ◌⊎◌, Ordering, Less, Equal, Greater, is_le, IsTrue}
 use Rattle.std.proofs.lemmas.Cmp.{nat_cmp_total, nat_list_cmp_total, on_total, then_total}
@@ -19,7 +19,7 @@ use Rattle.plane_core.specs.declared.plane.orientation.Orientation.TheVariants.{
 use Rattle.code_core.specs.Least.{Among, IsImage, IsImageAt, IsImageOf, IsNameBy, earlier_text}
 use Rattle.code_core.proofs.TextLaw.{texts_have_their_shape}
 
--- the order is total
+-- the order of texts is total
 pub text_cmp_total : IsTotalOrder text_cmp
 text_cmp_total = then_total (on_total length nat_cmp_total) nat_list_cmp_total
 
@@ -53,7 +53,7 @@ text_cmp-onward a b c first second = go (text_cmp b c) refl
         first (same ∙ e)
     go Greater is e = second is
 
--- the least of at most one text is this text
+-- if there is at most one text, it is the least
 pub least_of_one : (o : Option (List ℕ)) → IsLeastOf (λ (t : List ℕ). o ≡ Some t) o
 least_of_one None = λ t one. cc
 least_of_one (Some a) = (refl, λ t one. alone t cc)
@@ -98,13 +98,13 @@ first_of_two P Q R (Some a) (Some b) left right split p q = go (text_cmp a b) re
     go Equal is = stays (λ e. cc)
     go Greater is = changes is
 
--- the least text with one more group
+-- the least text of n + 1 groups is the earlier of the least text of the first n groups and that of the last group
 pub least_of_more : (IsIn : ℕ → List ℕ → Type 0) (n : ℕ) (a b : Option (List ℕ)) → IsLeastOf (Among IsIn n) a → IsLeastOf (IsIn n) b
     → IsLeastOf (Among IsIn (n + 1)) (earlier_text a b)
 least_of_more IsIn n a b p q = first_of_two (Among IsIn n) (IsIn n) (Among IsIn (n + 1)) a b (λ t one. (one.0, omega (arith, one.1), one.2))
     (λ t one. (n, omega arith, one)) (among_cases IsIn n) p q
 
--- the images in all orientations, one after another
+-- the image texts of a pattern are those in the eight listed orientations
 pub images_listed : (cells : List Cell) (t : List ℕ) → Among (IsImageAt orientations cells) 8 t → IsImage cells t
 images_listed cells t (k, low, is) = (get_or orientations k Same, is)
 
@@ -118,11 +118,11 @@ images_reached cells t (Flip, is) = (5, omega arith, is)
 images_reached cells t (Diagonal, is) = (6, omega arith, is)
 images_reached cells t (AntiDiagonal, is) = (7, omega arith, is)
 
--- the least text of a pattern in all orientations
+-- the least image text in the eight listed orientations is the least of all image texts
 pub least_of_all : (cells : List Cell) (o : Option (List ℕ)) → IsLeastOf (Among (IsImageAt orientations cells) 8) o → IsLeastOf (IsImage cells) o
 least_of_all cells o h = least_of_same (Among (IsImageAt orientations cells) 8) (IsImage cells) o (images_listed cells) (images_reached cells) h
 
--- the images of the phases are those of the pattern's generations
+-- the image texts of the listed phases are the image texts of the pattern's first n generations
 phase_images : (rule : Numbers) (cells : List Cell) (n : ℕ) (t : List ℕ) → Among (IsImageOf (phases rule cells n)) n t → IsImageText rule cells n t
 unfolding phases
 phase_images rule cells n t (k, low, (o, is)) =
@@ -146,7 +146,7 @@ image_phases rule cells n t one = (
   ),
 )
 
--- the phase at a place, and how many there are
+-- the phase at a place, and the number of phases
 pub phase_at : (rule : Numbers) (cells : List Cell) (n g : ℕ) (d : List Cell) → g < n → get_or (phases rule cells n) g d ≡ after rule cells g
 unfolding phases
 phase_at rule cells n g d low = get_or-map-range_with_len (after rule cells) 0 n g g d low (omega arith)
@@ -155,14 +155,14 @@ pub phase_count : (rule : Numbers) (cells : List Cell) (n : ℕ) → length (pha
 unfolding phases
 phase_count rule cells n = length-map-range_with_len (after rule cells) 0 n
 
--- the least text of the phases is the least text of the pattern
+-- the least image text of the listed phases is the least image text of the pattern
 pub least_of_phases : (rule : Numbers) (cells : List Cell) (n : ℕ) (o : Option (List ℕ))
     → IsLeastOf (Among (IsImageOf (phases rule cells n)) (length (phases rule cells n))) o → IsLeastOf (IsImageText rule cells n) o
 least_of_phases rule cells n o h =
     least_of_same (Among (IsImageOf (phases rule cells n)) n) (IsImageText rule cells n) o (phase_images rule cells n) (image_phases rule cells n)
     (subst (λ (m : ℕ). IsLeastOf (Among (IsImageOf (phases rule cells n)) m) o) (phase_count rule cells n) h)
 
--- the least text of the phases has the shape of a text
+-- the least image text of the phases has the shape of texts
 pub shape_of_least : (phases : List (List Cell)) (o : Option (List ℕ)) → IsLeastOf (Among (IsImageOf phases) (length phases)) o → IfSome o HasTextShape
 shape_of_least phases None h = tt
 shape_of_least phases (Some t) ((k, low, (o, is)), first) = texts_have_their_shape (turned o (get_or phases k [])) t is

@@ -1,4 +1,4 @@
--- A pattern that is moved, or followed for some generations, keeps its name.
+-- A pattern that is moved keeps its name.
 use Rattle.std.proofs.Common.{◌≡◌, ◌∙◌, sym, ap, refl, subst, ℕ, zero, suc, ℤ, ◌+ℤ◌, neg_ℤ, List, [], ◌∷◌, length, arith}
 use Rattle.std.proofs.lemmas.Int.{ints}
 use Rattle.plane_core.specs.declared.plane.cell.Cell.{Cell}
@@ -60,7 +60,7 @@ pub length-shifted : (dx dy : ℤ) (cells : List Cell) → length (shifted dx dy
 length-shifted dx dy [] = refl
 length-shifted dx dy (c ∷ cs) = ap suc (length-shifted dx dy cs)
 
--- a moved pattern recurs as the pattern does
+-- a moved pattern has the recurrence of the pattern
 pub recurs-shifted : (dx dy : ℤ) (rule : Numbers) (cells : List Cell) (limit : ℕ) (r : Recurrence) → InOrder cells → Recurs rule cells limit r
     → Recurs rule (shifted dx dy cells) limit r
 recurs-shifted dx dy rule cells limit r order h = record {
@@ -71,7 +71,7 @@ recurs-shifted dx dy rule cells limit r order h = record {
       (shifted-same dx dy (after rule cells p) (shifted ex ey cells) (sym (after-shifted dx dy rule cells p order) ∙ is ∙ shifted-swap ex ey dx dy cells));
 }
 
--- a moved pattern has the image texts of the pattern
+-- a moved pattern has the image texts of the pattern, and no others
 text-shifted : (dx dy : ℤ) (rule : Numbers) (cells : List Cell) (period : ℕ) (t : List ℕ) → InOrder cells → IsImageText rule cells period t
     → IsImageText rule (shifted dx dy cells) period t
 text-shifted dx dy rule cells period t order h = record {

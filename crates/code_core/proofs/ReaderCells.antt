@@ -1,4 +1,5 @@
--- The cells of tokens: there are some exactly where there is a column, and those of a short text lie on the plane.
+-- The cells of tokens: there are cells if and only if a token is a column, and the cells of a short text are on the
+-- plane.
 use Rattle.std.proofs.Common.{◌≡◌, ◌<◌, ◌≤◌, ◌+◌, ◌-◌, ◌*◌, ℕ, zero, suc, pos, Bool, true, false, ◌||◌, ◌&&◌, cond, List, [], ◌∷◌, ◌++◌, length, map}
 use Rattle.std.proofs.Common.{filter, get_or, refl, sym, ◌∙◌, ap, subst, arith, length-append, append-nil, append_assoc, Option, None, Some, Result}
 use Rattle.std.proofs.Common.{Ok, Err, nat_lt, true≢false}
@@ -22,7 +23,7 @@ use Rattle.code_core.specs.Tokens.{IsToken}
 use Rattle.code_core.specs.Reading.{unless_empty}
 use Rattle.code_core.specs.ReadingSteps.{is_column}
 
--- cells in the first million of columns and rows are on the plane
+-- cells in columns and rows 0 to 1,000,000 are on the plane
 on_plane-small : (x y : ℕ) → x ≤ 1000000 → y ≤ 1000000 → on_plane (cell_at (pos x) (pos y)) ≡ true
 unfolding on_plane
 on_plane-small x y hx hy = grind (arith, nat_tests)
@@ -47,7 +48,7 @@ lit_cells-on_plane k x value hx hk =
     at : (i : ℕ) → i ≤ 4 → on_plane (cell_at (pos x) (pos (5 * k + i))) ≡ true
     at i h = on_plane-small x (5 * k + i) hx (omega arith)
 
--- each token takes at most 39 columns or five rows, so the cells of few enough tokens lie on the plane
+-- each token moves on by at most 39 columns or by five rows, so the cells of few enough tokens are on the plane
 pub cells_from-on_plane : (tokens : List Token) → All IsToken tokens → (k x : ℕ) → x + 39 * length tokens ≤ 1000000
     → 5 * k + 4 + 5 * length tokens ≤ 1000000 → list_all on_plane (cells_from k x tokens) ≡ true
 unfolding cells_from
@@ -81,7 +82,7 @@ length-lit_cells k x value low high = omega (
   length-map (filter (is_lit value) (range_with_len 0 5)) (λ i. cell_at (pos x) (pos (5 * k + i))),
 )
 
--- tokens without a column have no cell, and tokens with a column have one
+-- if no token is a column, there are no cells, and if a token is a column, there is a cell
 pub cells_from-none : (tokens : List Token) (k x : ℕ) → list_any is_column tokens ≡ false → cells_from k x tokens ≡ []
 unfolding cells_from
 cells_from-none [] k x h = refl
@@ -119,7 +120,7 @@ unless_empty-some tokens each h = unless_empty-set_of (cells_from 0 0 tokens) (l
 pub unless_empty-none : (tokens : List Token) → list_any is_column tokens ≡ false → unless_empty (token_cells tokens) ≡ Err Empty
 unless_empty-none tokens h = ap (λ (cells : List Cell). unless_empty (set_of cells)) (cells_from-none tokens 0 0 h)
 
--- the cells of a token come before those of the next
+-- the cells of tokens are those of the first token, followed by those of the others, which begin where the first ends
 pub cells_from-column : (cells more : List Cell) (k x value : ℕ) (token : Token) (tokens : List Token) → token ≡ Column value
     → more ≡ cells ++ lit_cells k x value → more ++ cells_from k (x + 1) tokens ≡ cells ++ cells_from k x (token ∷ tokens)
 unfolding cells_from
@@ -133,7 +134,7 @@ pub cells_from-next_strip : (k x : ℕ) (token : Token) (tokens : List Token) �
 unfolding cells_from
 cells_from-next_strip k x token tokens e = rw e refl
 
--- the live cells in the first n rows of a column
+-- the live cells in the first n rows of a column with this value, which is column x of strip k
 unfoldable pub lit_above : ℕ → ℕ → ℕ → ℕ → List Cell
 lit_above n k x value = map (λ i. cell_at (pos x) (pos (5 * k + i))) (filter (is_lit value) (range_with_len 0 n))
 
@@ -162,7 +163,7 @@ lit_above-all n k x value e = rw e refl
 
 pub ruleset lit = (lit_above-none, lit_above-lit, lit_above-dark, lit_above-all, append-nil, append_assoc)
 
--- if all cells lie on the plane, none is refused
+-- if all cells are on the plane, no cell is found that is off the plane
 position_or_len-all : (cells : List Cell) → list_all on_plane cells ≡ true → position_or_len off_plane cells ≡ length cells
 position_or_len-all [] h = refl
 position_or_len-all (c ∷ cells) h = go (on_plane c) refl h (position_or_len-all cells)

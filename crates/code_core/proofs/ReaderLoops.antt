@@ -1,4 +1,4 @@
--- What the reader's loops have done when a remainder of the text is left.
+-- What the loops of the reader have done when they have come to a remainder of the text.
 use Rattle.std.proofs.Common.{◌≡◌, ◌<◌, ◌≤◌, ◌+◌, ◌-◌, ◌*◌, ℕ, Bool, true, false, ◌||◌, List, [], ◌∷◌, ◌++◌, length, refl, sym, ◌∙◌, ap, arith}
 use Rattle.std.proofs.Common.{append_assoc, append-nil, length-append, Some, None, Result, Ok, Err}
 use Rattle.std.specs.List.{All, list_all, list_any, flat_map}
@@ -20,7 +20,7 @@ use Rattle.code_core.proofs.TokenReading.{tokens_at-bad, tokens_at-short_run, to
 use Rattle.code_core.proofs.TokenReading.{Spells-tokens_at, length-Begins, length-spelled}
 use Rattle.code_core.proofs.ReaderCells.{unless_empty-some, unless_empty-none, cells_from-on_plane}
 
--- tokens spell the text up to the remainder, and `has_cell` says whether one of them is a column
+-- some tokens spell the text up to the remainder, and `has_cell` says whether one of these tokens is a column
 pub record Passed (text remainder : List ℕ) (has_cell : Bool) : Type 0 where
   pub tokens : List Token
   pub each : All IsToken tokens
@@ -48,7 +48,7 @@ Passed_more text remainder after token has_cell p b = record {
       ∙ or-false has_cell (is_column token));
 }
 
--- if no token begins the remainder, its fault is what is read from it
+-- if no token begins the remainder, reading tokens from it gives the fault of the remainder
 tokens_at-stuck : (place : ℕ) (remainder : List ℕ) (fault : WechslerFault) → IsStuck remainder → fault_without_token place remainder ≡ Some fault → tokens_at place remainder ≡ Err fault
 tokens_at-stuck place [] fault stuck e = absurd (cc)
 tokens_at-stuck place (b ∷ remainder) fault stuck e = go (is_character b) refl
@@ -68,7 +68,7 @@ Passed_fault text remainder has_cell fault p stuck e =
     rw (tokens_at-stops p.tokens remainder text 0 (length text - length remainder) fault p.each p.whole at
     (tokens_at-stuck (length text - length remainder) remainder fault stuck e)) refl
 
--- without a fault the text is read to its end, and `has_cell` says whether it has a cell
+-- if the remainder has no fault, it is empty; then the tokens spell the text, and `has_cell` says whether it has a cell
 fault_at-none : (place : ℕ) (remainder : List ℕ) → fault_without_token place remainder ≡ None → remainder ≡ []
 fault_at-none place [] e = refl
 fault_at-none place (b ∷ remainder) e = absurd (cc)
@@ -116,7 +116,7 @@ Spells_stuck tokens (b ∷ remainder) s stuck =
     let e : Err (if is_character b then ShortRun 0 else BadByte 0) ≡ Ok tokens = sym told ∙ tokens_at-Spells tokens (b ∷ remainder) 0 s in
     absurd (cc)
 
--- the list has the cells up to the remainder, and the cells of the tokens that spell the remainder are to come
+-- `cells`, followed by the cells of the tokens that spell the remainder, is the list of all cells
 pub record ToCome (remainder : List ℕ) (cells : List Cell) (strip x : ℕ) (all : List Cell) : Type 0 where
   pub tokens : List Token
   pub spells : Spells tokens remainder

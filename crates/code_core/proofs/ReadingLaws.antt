@@ -1,4 +1,4 @@
--- What is read, and each fault, in terms of tokens that spell the text.
+-- The laws of reading a text: which pattern is read, and when each fault is found, in terms of tokens.
 use Rattle.std.proofs.Common.{◌≡◌, ◌≢◌, ◌<◌, ◌≤◌, ◌+◌, ◌↔◌, ℕ, Bool, true, false, List, [], ◌∷◌, ◌++◌, length, take, drop, get_or, refl, sym, ◌∙◌, ap}
 use Rattle.std.proofs.Common.{subst, arith, length-append, length-take-le, Result, Ok, Err, nat_lt}
 use Rattle.std.specs.List.{flat_map}
@@ -21,14 +21,14 @@ use Rattle.code_core.specs.ReadingSteps.{has_character}
 use Rattle.code_core.proofs.TokenReading.{Outcome, tokens_at-outcome, Stops, IsBad, IsShort, Stops-bad, Stops-short, tokens_at-Stops_bad}
 use Rattle.code_core.proofs.TokenReading.{tokens_at-Stops_short, tokens_at-Spells, Spells-tokens_at}
 
--- within the length limit, reading a text gives its pattern or its fault
+-- a text of at most 10,000 bytes is read as its pattern or its fault, and a longer text is too long
 read-short : (text : List ℕ) → length text ≤ 10000 → wechsler_read text ≡ wechsler_pattern text
 read-short text h = let e : nat_lt 10000 (length text) ≡ false = grind (arith, nat_tests) in rw e refl
 
 read-long : (text : List ℕ) → 10000 < length text → wechsler_read text ≡ Err TooLong
 read-long text h = let e : nat_lt 10000 (length text) ≡ true = grind (arith, nat_tests) in rw e refl
 
--- a text that is read as a pattern is within the length limit
+-- a text that is read as a pattern has at most 10,000 bytes
 short-read : (text : List ℕ) (cells : List Cell) → wechsler_read text ≡ Ok cells → length text ≤ 10000
 short-read text cells e = go (nat_lt 10000 (length text)) refl
   where
@@ -36,7 +36,7 @@ short-read text cells e = go (nat_lt 10000 (length text)) refl
     go true h = absurd (let k = rw h at e in cc)
     go false h = grind (arith, nat_tests)
 
--- the tokens and the cells of a pattern that is read
+-- a text that is read as a pattern says this pattern
 Says-pattern_of : (text : List ℕ) (r : Result (List Token) WechslerFault) (cells : List Cell) → tokens_at 0 text ≡ r → pattern_of_tokens r ≡ Ok cells → Says text cells
 Says-pattern_of text (Ok tokens) cells t e = record { tokens = tokens; spells = Spells-tokens_at tokens text 0 t; pattern = go (token_cells tokens) refl e }
   where
@@ -57,7 +57,7 @@ pub wechsler_read-Says : (text : List ℕ) (cells : List Cell) → Says text cel
 wechsler_read-Says text cells s some short =
     read-short text short ∙ rw (tokens_at-Spells s.tokens text 0 s.spells, ← s.pattern) (unless_empty-some cells some)
 
--- a fault other than `Empty` is a fault of the tokens
+-- a fault other than `Empty` was found when the tokens were read
 pattern_of-err : (r : Result (List Token) WechslerFault) (fault : WechslerFault) → fault ≢ Empty → pattern_of_tokens r ≡ Err fault → r ≡ Err fault
 pattern_of-err (Ok tokens) fault other e = absurd (go (token_cells tokens) e)
   where
@@ -66,7 +66,7 @@ pattern_of-err (Ok tokens) fault other e = absurd (go (token_cells tokens) e)
     go (c ∷ cells) h = cc
 pattern_of-err (Err f) fault other e = let k : f ≡ fault = cc in ap (λ (g : WechslerFault). Err g) k
 
--- a fault that `Outcome` excludes is never read
+-- a fault that `Outcome` excludes is never found when tokens are read
 tokens_at-other : (text : List ℕ) (fault : WechslerFault) → (Outcome 0 text (Err fault) → ⊥) → tokens_at 0 text ≡ Err fault → ⊥
 tokens_at-other text fault none e = none (subst (λ (r : Result (List Token) WechslerFault). Outcome 0 text r) e (tokens_at-outcome text 0))
 
@@ -95,7 +95,9 @@ no_cell text short = (
     there (Err fault) t e = let k : fault ≡ Empty = cc in let f : tokens_at 0 text ≡ Err Empty = t ∙ ap (λ (g : WechslerFault). Err g) k in
         absurd (tokens_at-other text Empty (λ o. o) f)
 
--- the place of a fault, by parts of the text and by bytes
+-- For the two faults that have a place: tokens spell the text up to the place, and a faulty remainder begins there
+-- (`Stops`), if and only if the bytes at the place are as the definition of the fault says (`IsBadByte`, `IsShortRun`).
+-- This is also when reading finds the fault.
 IsBadByte-Stops : (text : List ℕ) (place : ℕ) → Stops IsBad 0 text place → IsBadByte text place
 IsBadByte-Stops text place s = go s.remainder s.whole s.so
   where
@@ -175,12 +177,12 @@ short_run text place short =
       λ s. read-short text short ∙ rw (tokens_at-Stops_short text 0 place (Stops-IsShortRun text place s)) refl,
     )
 
--- a law about what is read carries over to a result that says the same
+-- if a result has a fault exactly if reading finds it, a law about when reading finds it is a law about the result
 pub told : (P : Type 0) (text : List ℕ) (r : Result (List Cell) WechslerError) (fault : WechslerFault)
     → (IsErrOf r (Fault fault) ↔ (wechsler_read text ≡ Err fault)) → (wechsler_read text ≡ Err fault) ↔ P → IsErrOf r (Fault fault) ↔ P
 told P text r fault f law = (λ e. law.0 (f.0 e), λ p. f.1 (law.1 p))
 
--- a result that says what is read has the pattern that is read, unless there is no memory
+-- if a result agrees with what is read, and a pattern is read, the result is this pattern, unless memory ran out
 pub read_as : (text : List ℕ) (r : Result (List Cell) WechslerError) (cells : List Cell) → IfOk r (λ read. wechsler_read text ≡ Ok read)
     → ((fault : WechslerFault) → IsErrOf r (Fault fault) ↔ (wechsler_read text ≡ Err fault))
     → wechsler_read text ≡ Ok cells → MatchResult r (λ read. read ≡ cells) (λ error. error ≡ Memory out_of_memory)

@@ -1,4 +1,4 @@
--- Following a pattern until it recurs.
+-- A search that follows a pattern until it recurs: the states of the search, and how it ends.
 use Rattle.std.proofs.Common.{◌≡◌, ◌≢◌, ◌∙◌, sym, ap, refl, subst, ℕ, suc, ℤ, ◌+◌, ◌<◌, ◌≤◌, List, [], ◌∷◌, ◌++◌, false, arith, below_more}
 use Rattle.std.proofs.Common.{eq-or-lt_of_le, inl, inr, ◌⊎◌, true, Bool, Option, Some, None, Result, Ok, Err, IsErrAnd, is_ok}
 use Rattle.std.proofs.lemmas.Bool.{false≢true}
@@ -17,7 +17,7 @@ use Rattle.plane_core.proofs.lemmas.plane.GenerationLemmas.{after-none, after-mo
 use Rattle.plane_core.proofs.lemmas.plane.SpeedLemmas.{run_inside}
 use Rattle.code_core.specs.Recurrences.{Follows, MeetsEdge, Recurs, SearchEnds, StaysInside, phases}
 
--- one more phase
+-- the first n + 1 phases are the first n phases and generation n
 pub phases-more : (rule : Numbers) (cells : List Cell) (n : ℕ) → phases rule cells (n + 1) ≡ phases rule cells n ++ after rule cells n ∷ []
 unfolding phases
 phases-more rule cells n = map-range_with_len_more (after rule cells) 0 n n (omega arith)
@@ -25,7 +25,7 @@ phases-more rule cells n = map-range_with_len_more (after rule cells) 0 n n (ome
 pub le_or_lt : (a b : ℕ) → (a ≤ b) ⊎ (b < a)
 le_or_lt a b = elim (leb_tells a b) [ inl h ↦ inl h.1 | inr h ↦ inr h.1 ]
 
--- at the start there is the pattern itself
+-- the search begins with the pattern itself as generation 0, and without earlier generations
 pub follows-none : (rule : Numbers) (cells latest : List Cell) → latest ≡ cells → Follows rule cells 0 [] latest
 unfolding phases
 follows-none rule cells latest is = record {
@@ -35,7 +35,7 @@ follows-none rule cells latest is = record {
   inside = λ g low. absurd (omega arith);
 }
 
--- the generation after the latest
+-- if the latest generation is generation n, the next one is generation n + 1
 next_of : (rule : Numbers) (cells latest later : List Cell) (n : ℕ) → latest ≡ after rule cells n → later ≡ next rule latest → later ≡ after rule cells (n + 1)
 next_of rule cells latest later n is next_is = next_is ∙ ap (next rule) is ∙ sym (after-more rule cells n)
 
@@ -45,7 +45,7 @@ pub inside-more : (rule : Numbers) (cells : List Cell) (n : ℕ) (before : List 
     → (g : ℕ) → g < n + 1 → touches_edge (after rule cells g) ≡ false
 inside-more rule cells n before latest h off = below_more _ _ h.inside (ap touches_edge (sym h.latest) ∙ off)
 
--- one more generation, which isn't the pattern again
+-- the search goes on with the next generation if this isn't the pattern again
 pub follows-more : (rule : Numbers) (cells : List Cell) (n : ℕ) (before : List (List Cell)) (latest later : List Cell) → Follows rule cells n before latest
     → touches_edge latest ≡ false → later ≡ next rule latest → ((dx dy : ℤ) → shifted dx dy cells ≢ later)
     → Follows rule cells (n + 1) (before ++ latest ∷ []) later
@@ -65,7 +65,7 @@ follows-more rule cells n before latest later h off next_is other = record {
       | inr less ↦ h.new p dx dy some (omega arith) back
     ]
 
--- the search ends where a generation is the pattern again
+-- if the next generation is the pattern again, displaced, the pattern recurs with this period and this displacement
 pub recurs_then : (rule : Numbers) (cells : List Cell) (n limit : ℕ) (before : List (List Cell)) (latest later : List Cell) (dx dy : ℤ)
     → Follows rule cells n before latest
     → n < limit → later ≡ next rule latest → shifted dx dy cells ≡ later → Recurs rule cells limit (record { period = suc n; dx = dx; dy = dy })
@@ -87,7 +87,7 @@ inside_then rule cells n before latest later dx dy h off next_is is g new =
       | inr near ↦ inside-more rule cells n before latest h off g near
     ]
 
--- the phases that were kept, with the latest one
+-- the generations that were kept, and after them the latest one, are the phases
 pub phases_then : (rule : Numbers) (cells : List Cell) (n : ℕ) (before : List (List Cell)) (latest : List Cell) → Follows rule cells n before latest
     → before ++ latest ∷ [] ≡ phases rule cells (suc n)
 phases_then rule cells n before latest h =
@@ -95,12 +95,12 @@ phases_then rule cells n before latest h =
 
 -- ---- at the edge
 
--- a pattern that touches the edge meets it at once
+-- the search for a pattern that touches the edge meets the edge at once
 pub meets_at_once : (rule : Numbers) (cells : List Cell) (limit : ℕ) → 1 ≤ limit → touches_edge cells ≡ true → MeetsEdge rule cells limit
 meets_at_once rule cells limit some on =
     (0, omega arith, λ p dx dy least most back. absurd (omega arith), ap touches_edge (after-none rule cells) ∙ on)
 
--- a pattern that lies far enough inside never meets the edge
+-- the search for a pattern that is far enough from the edge never meets the edge
 pub never_meets : (rule : Numbers) (cells : List Cell) (limit reach : ℕ) → lies_within reach cells ≡ true → reach + limit ≤ plane_bound
     → MeetsEdge rule cells limit → ⊥
 never_meets rule cells limit reach inside far (g, low, new, on) = false≢true (sym (run_inside rule cells reach g limit inside far low) ∙ on)
@@ -116,7 +116,7 @@ memory_is_no_edge e = cc
 -- ---- how a search ends
 
 module _ {X : Type 0} (F : X → Type 0) (rule : Numbers) (cells : List Cell) (limit : ℕ) where
-  -- the search finds something
+  -- the search found something
   pub ends_found : (x : X) → F x → StaysInside rule cells limit → touches_edge cells ≡ false → SearchEnds F rule cells limit (Ok (Some x))
   ends_found x is inside off = record {
     found = is;
@@ -149,7 +149,7 @@ module _ {X : Type 0} (F : X → Type 0) (rule : Numbers) (cells : List Cell) (l
     never_edge = λ reach within far e. never_meets rule cells limit reach within far (meets_at_once rule cells limit some on);
   }
 
-  -- a generation was refused
+  -- the step to the next generation was refused
   pub ends_refused : (r : Result (Option X) StepError) (y : StepError) → IsErrAnd r (λ e. e ≡ y) → (y ≡ Edge → MeetsEdge rule cells limit)
       → touches_edge cells ≡ false → SearchEnds F rule cells limit r
   ends_refused (Ok x) y told meets off = absurd told
@@ -171,7 +171,7 @@ module _ {X : Type 0} (F : X → Type 0) (rule : Numbers) (cells : List Cell) (l
   ends_by_memory r told off = ends_refused r (Memory out_of_memory) told (λ e. absurd (memory_is_no_edge e)) off
 
 module _ {X Y : Type 0} (F : X → Type 0) (G : Y → Type 0) (rule : Numbers) (cells : List Cell) (limit : ℕ) where
-  -- a search that returned `Ok` didn't begin at the edge
+  -- if a search returned `Ok`, its pattern doesn't touch the edge
   pub off_edge : (o : Option X) → SearchEnds F rule cells limit (Ok o) → touches_edge cells ≡ false
   off_edge o ends = split (touches_edge cells) refl
     where
@@ -179,6 +179,6 @@ module _ {X Y : Type 0} (F : X → Type 0) (G : Y → Type 0) (rule : Numbers) (
       split false e = e
       split true e = absurd (false≢true (sym (ap is_ok (ends.edge_first e))))
 
-  -- the result of a search may be described by another predicate
+  -- if a search ended with x, and y has the property G, a search for something with the property G may end with y
   pub found_as : (x : X) (y : Y) → SearchEnds F rule cells limit (Ok (Some x)) → G y → SearchEnds G rule cells limit (Ok (Some y))
   found_as x y ends is = ends_found G rule cells limit y is ends.inside (off_edge (Some x) ends)

@@ -1,4 +1,4 @@
--- The text of a pattern is read back as the pattern.
+-- The text of a pattern is read as the pattern, moved to the corner.
 use Rattle.std.proofs.Common.{◌≡◌, ◌∙◌, ap, refl, ℕ, ◌≤◌, false, List, [], ◌∷◌, Some, Ok, arith, length, nat_lt, le-ltb}
 use Rattle.plane_core.specs.declared.plane.cell.Cell.{Cell}
 use Rattle.plane_core.specs.plane.Bounds.{at_corner}
@@ -14,7 +14,7 @@ unfolding text
 not_empty [] t is = absurd cc
 not_empty (c ∷ cs) t is = refl
 
--- a text that isn't too long is read
+-- a text that isn't too long is read as its pattern or its fault
 looked_at : (t : List ℕ) → length t ≤ 10000 → wechsler_read t ≡ wechsler_pattern t
 looked_at t short = let low : nat_lt 10000 (length t) ≡ false = le-ltb 10000 (length t) short in rw low refl
 

@@ -14,7 +14,7 @@ use Rattle.code_core.specs.Tokens.{character, gap_text, spelling}
 abbrev pub spelled : List Token → List ℕ
 spelled tokens = flat_map spelling tokens
 
--- empty columns at a strip's end are left out
+-- empty columns at the end of a strip have no token
 pub strip_tokens-empty : (n : ℕ) → strip_tokens (replicate n 0) ≡ []
 unfolding strip_tokens
 strip_tokens-empty zero = refl
@@ -25,7 +25,7 @@ unfolding strip_tokens
 strip_tokens-live zero values h = absurd (omega arith)
 strip_tokens-live (suc value) values h = refl
 
--- empty columns before one with a live cell are one gap
+-- empty columns before a column with a live cell are one gap
 pub strip_tokens-gap : (n value : ℕ) (values : List ℕ) → 1 ≤ value
     → strip_tokens (replicate (suc n) 0 ++ value ∷ values) ≡ Gap (suc n) ∷ Column value ∷ strip_tokens values
 unfolding strip_tokens
@@ -33,7 +33,7 @@ strip_tokens-gap zero value values h = ap (before 0) (strip_tokens-live value va
 strip_tokens-gap (suc n) value values h = ap (before 0) (strip_tokens-gap n value values h)
     ∙ ap (λ m. Gap m ∷ Column value ∷ strip_tokens values) (add-one (suc n))
 
--- the text of a column with a live cell and of the empty ones before it
+-- the text of a column with a live cell and of the empty columns before it
 pub gap_and_column : (n value : ℕ) → 1 ≤ value → spelled (strip_tokens (replicate n 0 ++ value ∷ [])) ≡ (if n == 0 then [] else gap_text n)
     ++ character value ∷ []
 unfolding strip_tokens
@@ -42,7 +42,7 @@ gap_and_column (suc n) value h =
     ap spelled (strip_tokens-gap n value [] h) ∙ ap (λ none. cond {A = List ℕ} none [] (gap_text (suc n)) ++ character value ∷ [])
     (sym (ne_eqb (suc n) 0 (λ e. absurd (omega arith))))
 
--- a column with a live cell splits a strip's text in two
+-- the text of columns is the text up to the first column with a live cell, followed by the text of the columns after it
 pub spelled-parted : (n value : ℕ) (values : List ℕ) → 1 ≤ value
     → spelled (strip_tokens (replicate n 0 ++ value ∷ values)) ≡ spelled (strip_tokens (replicate n 0 ++ value ∷ [])) ++ spelled (strip_tokens values)
 unfolding strip_tokens
@@ -57,13 +57,13 @@ one_more_empty : (n : ℕ) (values : List ℕ) → replicate n 0 ++ 0 ∷ values
 one_more_empty zero values = refl
 one_more_empty (suc n) values = ap (λ vs. 0 ∷ vs) (one_more_empty n values)
 
--- two pieces are written, one after the other
+-- if first a is written and then b, c = a ++ b is written
 pub written_on : {T E : Type 0} (r : Result T E) (old middle new a b c : List ℕ) → middle ≡ old ++ a → c ≡ a ++ b → OnOk r (new ≡ middle ++ b)
     → OnOk r (new ≡ old ++ c)
 written_on (Ok x) old middle new a b c e f h = h ∙ ap (λ t. t ++ b) e ∙ append_assoc old a b ∙ ap (λ t. old ++ t) (sym f)
 written_on (Err x) old middle new a b c e f h = tt
 
--- what is left to write of strip k from column x on, after `gap` empty columns
+-- the text of strip k that is still to be written at column x, if the `gap` columns before it are empty
 unfoldable pub remainder_text : List Cell → ℕ → ℕ → ℕ → ℕ → List ℕ
 remainder_text cells width k gap x = spelled (strip_tokens (replicate gap 0 ++ map (column cells k) (range_with_len x (width - x))))
 
@@ -98,7 +98,7 @@ remainder_text-end cells width k gap x h =
     ap (λ n. spelled (strip_tokens (replicate gap 0 ++ map (column cells k) (range_with_len x n)))) e
     ∙ ap (λ vs. spelled (strip_tokens vs)) (append-nil (replicate gap 0)) ∙ ap spelled (strip_tokens-empty gap)
 
--- a loop's step at a column with a live cell
+-- the loop's step at a column with a live cell: the gap and the column are written
 pub strip_more-live : (cells : List Cell) (width k gap x value : ℕ) (whole text new : List ℕ) → x < width → 1 ≤ value → value ≡ column cells k x
     → text ++ remainder_text cells width k gap x ≡ whole → new ≡ text ++ spelled (strip_tokens (replicate gap 0 ++ value ∷ []))
     → new ++ remainder_text cells width k 0 (x + 1) ≡ whole
@@ -107,13 +107,13 @@ strip_more-live cells width k gap x value whole text new h some is so_far e =
     ap (λ t. t ++ remainder) e ∙ append_assoc text (spelled (strip_tokens (replicate gap 0 ++ value ∷ []))) remainder
     ∙ ap (λ t. text ++ t) (sym (remainder_text-live cells width k gap x value h some is)) ∙ so_far
 
--- a loop's step at an empty column
+-- the loop's step at an empty column: the gap grows by 1, and nothing is written
 pub strip_more-empty : (cells : List Cell) (width k gap x value : ℕ) (whole text : List ℕ) → x < width → value ≡ 0 → value ≡ column cells k x
     → text ++ remainder_text cells width k gap x ≡ whole → text ++ remainder_text cells width k (gap + 1) (x + 1) ≡ whole
 strip_more-empty cells width k gap x value whole text h none is so_far =
     ap (λ t. text ++ t) (sym (remainder_text-empty cells width k gap x value h none is)) ∙ so_far
 
--- the loop's end
+-- when the loop ends, the text of the strip has been written
 pub strip_done : (cells : List Cell) (width k gap x : ℕ) (start text : List ℕ) → width ≤ x
     → text ++ remainder_text cells width k gap x ≡ start ++ remainder_text cells width k 0 0 → text ≡ start ++ spelled (strip_tokens (strip cells width k))
 strip_done cells width k gap x start text h so_far =

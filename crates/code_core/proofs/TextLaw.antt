@@ -1,4 +1,4 @@
--- Each text is that of tokens whose cells are the pattern at the corner.
+-- The text of a pattern is spelled by tokens whose cells are the pattern at the corner.
 use Rattle.std.proofs.Common.{◌≡◌, ℕ, ℤ, zero, suc, pos, neg_ℤ, ◌+ℤ◌, ◌≤ℤ◌, ◌+◌, ◌*◌, ◌/◌, ◌%◌, ◌≤◌, ◌<◌, Bool, true, false, ◌&&◌, ◌||◌, ◌⊎◌, inl}
 use Rattle.std.proofs.Common.{inr, cond, List, ◌∷◌, nat_lt, Option, Some, None, filter, map, arith, refl, ap, subst, sym, ◌∙◌}
 use Rattle.std.specs.Prelude.{unsigned_abs}
@@ -21,7 +21,7 @@ use Rattle.code_core.proofs.TextLemmas.{tokens_of-lawful, tokens_of-shape}
 use Rattle.code_core.proofs.WholeGaps.{tokens_of-whole}
 use Rattle.code_core.proofs.TokenCells.{box_cells, cells_from-joined, column_cells, strip_cells}
 
--- ---- the box has each cell in its columns and rows
+-- ---- each cell in a box's columns and rows is one of the box's cells
 
 at_or_after : (a i n : ℕ) → a ≤ i → i < a + suc n → (i ≡ a) ⊎ ((a + 1 ≤ i) × (i < (a + 1) + n))
 at_or_after a i n h k = elim (cases_lt a i) [ inl past ↦ inr (omega arith, omega arith) | inr most ↦ inl (omega arith) ]
@@ -81,7 +81,7 @@ cells_of-tokens cells right bottom o inside =
     member c (x, y, is, l, m) = subst (λ d. has (box_cells (right + 1) 0 (bottom / 5 + 1)) d ≡ true) (sym is)
         (has-box_cells (right + 1) (bottom / 5 + 1) x y (omega arith) (omega arith))
 
--- where a cell of the box is, counted from the corner
+-- the column and the row of a cell of the box, counted from the box's corner
 counted : (b : Bounds) (c d : Cell) → IsWithin b d → c ≡ moved_by (neg_ℤ b.left) (neg_ℤ b.top) d
     → (x : ℕ) × (y : ℕ) × (c ≡ cell_at (pos x) (pos y)) × (x ≤ distance b.left b.right) × (y ≤ distance b.top b.bottom)
 counted b c d w is =
@@ -95,7 +95,7 @@ counted b c d w is =
       omega (arith, ints, w.top, w.bottom),
     )
 
--- a pattern at the corner lies in its box
+-- moved to the corner, a pattern lies in columns 0 to right - left and rows 0 to bottom - top of its box
 inside-corner : (cells : List Cell) (b : Bounds) → box_of cells ≡ Some b → LiesInside (at_corner cells) (distance b.left b.right) (distance b.top b.bottom)
 inside-corner cells b e c h =
     let moved : has (shifted (neg_ℤ b.left) (neg_ℤ b.top) cells) c ≡ true = subst (λ o. has (cornered o cells) c ≡ true) e h in

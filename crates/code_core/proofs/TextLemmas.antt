@@ -1,4 +1,4 @@
--- The tokens of a pattern's text: each is valid, and the text is short.
+-- The tokens of a pattern's text: each token is lawful, and the text is short and consists of characters.
 use Rattle.std.proofs.Common.{ℕ, zero, suc, ◌+◌, ◌*◌, ◌-◌, ◌/◌, ◌≤◌, ◌<◌, Bool, true, false, List, [], ◌∷◌, ◌∙◌, ◌≡◌, cond, length, map, get_or}
 use Rattle.std.proofs.Common.{refl, arith}
 use Rattle.std.specs.List.{All, list_all, range_with_len}
@@ -30,7 +30,7 @@ pub column_at_most : (cells : List Cell) (k x : ℕ) → column cells k x ≤ 31
 unfolding column
 column_at_most cells k x = five_at_most _ _ _ _ _
 
--- how many columns the first column with a live cell takes, and the gap before it
+-- the number of columns of the first token, and if that is a gap, also of the column with a live cell after it
 abbrev reach : List Token → ℕ
 reach [] = 0
 reach (Gap n ∷ tokens) = n + 1
@@ -70,7 +70,7 @@ lawful-joined (tokens ∷ more ∷ strips) all =
     All-append IsToken tokens (NextStrip ∷ joined_strips (more ∷ strips)) (all 0 [] (omega arith))
     (All-cons IsToken NextStrip (joined_strips (more ∷ strips)) tt (lawful-joined (more ∷ strips) (All-tail (All IsToken) tokens (more ∷ strips) all)))
 
--- the tokens of a strip that is at most 40 columns wide are valid
+-- the tokens of a strip that is at most 40 columns wide are lawful
 lawful-strip_of : (cells : List Cell) (right k : ℕ) → right < 40 → All IsToken (strip_tokens (strip cells (right + 1) k))
 lawful-strip_of cells right k h =
     lawful-strip (strip cells (right + 1) k)
@@ -86,12 +86,12 @@ tokens_of-lawful cells right bottom h =
 
 -- ---- the text is short
 
--- a run of 4 columns or more takes two bytes
+-- the text of a gap of 4 columns or more has two bytes
 long_gap_text : (n : ℕ) → 4 ≤ n → length (gap_text n) ≡ 2
 unfolding gap_text
 long_gap_text n low = rw (ne_eqb n 1 (λ e. absurd (omega arith)), ne_eqb n 2 (λ e. absurd (omega arith)), ne_eqb n 3 (λ e. absurd (omega arith))) refl
 
--- one more empty column costs at most one byte
+-- the text of a gap grows by at most one byte if the gap gets one column longer
 gap_text_more : (n : ℕ) → length (gap_text (n + 1)) ≤ length (gap_text n) + 1
 unfolding gap_text
 gap_text_more zero = omega arith
@@ -110,7 +110,7 @@ length-before zero (Column value ∷ tokens) = omega arith
 length-before zero (NextStrip ∷ tokens) = omega arith
 length-before (suc value) tokens = omega arith
 
--- a strip takes at most one byte per column
+-- the text of a strip has at most one byte per column
 length-strip : (values : List ℕ) → length (spelled (strip_tokens values)) ≤ length values
 unfolding strip_tokens
 length-strip [] = omega arith
@@ -119,7 +119,7 @@ length-strip (value ∷ values) = omega (arith, length-before value (strip_token
 length-strip_of : (cells : List Cell) (right k : ℕ) → right < 40 → length (spelled (strip_tokens (strip cells (right + 1) k))) ≤ 40
 length-strip_of cells right k h = omega (arith, length-strip (strip cells (right + 1) k), length-map-range_with_len (column cells k) 0 (right + 1))
 
--- each strip adds at most 40 bytes, and one to begin the next
+-- the text of strips has at most 40 bytes for each strip, and one byte between each strip and the next
 length-joined : (tokens : List Token) (strips : List (List Token)) → All (λ tokens. length (spelled tokens) ≤ 40) (tokens ∷ strips)
     → length (spelled (joined_strips (tokens ∷ strips))) ≤ 41 * length strips + 40
 length-joined tokens [] all = let h = all 0 [] (omega arith) in omega arith
@@ -128,7 +128,7 @@ length-joined tokens (more ∷ strips) all =
     let remainder = length-joined more strips (All-tail (λ tokens. length (spelled tokens) ≤ 40) tokens (more ∷ strips) all) in
     rw (flat_map-append spelling tokens (NextStrip ∷ joined_strips (more ∷ strips)), length-append) (omega arith)
 
--- at most eight strips take at most 327 bytes
+-- the text of at most eight strips has at most 327 bytes
 few_strips : (strips : List (List Token)) → All (λ tokens. length (spelled tokens) ≤ 40) strips → length strips ≤ 8 → length (spelled (joined_strips strips)) ≤ 327
 few_strips [] all few = omega arith
 few_strips (tokens ∷ strips) all few = omega (arith, length-joined tokens strips all)
@@ -141,7 +141,7 @@ tokens_of-short cells right bottom h k =
     let each = All-map (λ tokens. length (spelled tokens) ≤ 40) f strips (λ i d l. length-strip_of cells right (get_or strips i d) h) in
     few_strips (map f strips) each (omega (arith, length-map-range_with_len f 0 (bottom / 5 + 1)))
 
--- ---- and all its bytes are characters
+-- ---- all bytes of the text are characters
 
 is_y : is_character 121 ≡ true
 unfolding is_character

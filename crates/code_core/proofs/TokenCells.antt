@@ -1,4 +1,4 @@
--- The cells of a pattern's tokens: those of its box that the pattern has.
+-- The cells of a pattern's tokens are those cells of its box that the pattern has.
 use Rattle.std.proofs.Common.{◌≡◌, ℕ, zero, suc, pos, ◌+◌, ◌*◌, ◌/◌, ◌%◌, eqb, Bool, true, false, cond, List, [], ◌∷◌, ◌++◌, filter, map, arith, refl}
 use Rattle.std.proofs.Common.{ap, sym, ◌∙◌}
 use Rattle.std.specs.List.{flat_map, range_with_len}
@@ -12,7 +12,7 @@ use Rattle.code_core.specs.Columns.{cells_from, column, is_lit, lit_cells, value
 use Rattle.code_core.specs.Texts.{before, joined_strips, strip, strip_tokens}
 use Rattle.code_core.proofs.TextLemmas.{one_at_most}
 
--- ---- a column's value has each of its cells in it
+-- ---- the value of a column says which of its five cells are alive
 
 abbrev one : Bool → ℕ
 one live = cond live 1 0
@@ -81,7 +81,7 @@ row_3 n = omega arith
 row_4 : (n : ℕ) → n + 1 + 1 + 1 + 1 ≡ n + 4
 row_4 n = omega arith
 
--- the cells of a column's value are those of the column that the pattern has
+-- the cells of a column's value are those cells of the column that the pattern has
 lit_cells-column : (cells : List Cell) (k x : ℕ) → lit_cells k x (column cells k x) ≡ filter (has cells) (column_cells k x)
 unfolding lit_cells column
 lit_cells-column cells k x =
@@ -102,7 +102,7 @@ lit_cells-column cells k x =
 abbrev pub FollowsStrip : ℕ → List Token → Type 0
 FollowsStrip k more = (a b : ℕ) → cells_from k a more ≡ cells_from k b more
 
--- a column that comes before a strip's tokens adds its cells
+-- a column that is put before the tokens of a strip adds its cells
 cells_from-before : (k x value : ℕ) (tokens more : List Token) → FollowsStrip k more
     → cells_from k x (before value tokens ++ more) ≡ lit_cells k x value ++ cells_from k (x + 1) (tokens ++ more)
 unfolding cells_from lit_cells
@@ -115,7 +115,7 @@ cells_from-before k x (suc value) tokens more end = refl
 abbrev pub columns : ℕ → ℕ → ℕ → List Cell
 columns k x n = flat_map (column_cells k) (range_with_len x n)
 
--- the cells of a strip's tokens are those of its columns that the pattern has
+-- the cells of a strip's tokens are those cells of its columns that the pattern has
 cells_from-strip : (cells : List Cell) (k x n : ℕ) (more : List Token) → FollowsStrip k more
     → cells_from k x (strip_tokens (map (column cells k) (range_with_len x n)) ++ more) ≡ filter (has cells) (columns k x n) ++ cells_from k 0 more
 unfolding strip_tokens
@@ -144,7 +144,7 @@ strip_next : (k : ℕ) (tokens : List Token) → FollowsStrip k (NextStrip ∷ t
 unfolding cells_from
 strip_next k tokens a b = refl
 
--- the cells of the tokens of some strips, from strip k on
+-- the cells of the tokens of n strips, from strip k on, are those cells of the strips that the pattern has
 pub cells_from-joined : (cells : List Cell) (width k n : ℕ) → cells_from k 0
     (joined_strips (map (λ k. strip_tokens (strip cells width k)) (range_with_len k n))) ≡ filter (has cells) (box_cells width k n)
 unfolding cells_from

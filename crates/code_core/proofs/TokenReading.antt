@@ -13,7 +13,7 @@ use Rattle.code_core.specs.Tokens.{character, gap_text, spelling, IsToken, Spell
 use Rattle.code_core.specs.Reading.{character_value, single, long_gap, with_token, tokens_at}
 use Rattle.code_core.specs.ReadingSteps.{Begins, IsStuck, has_character}
 
--- characters and their values
+-- each character has a value from 0 to 35, and each value a character
 pub character_value-small : (b : ℕ) → is_character b ≡ true → character_value b ≤ 35
 unfolding is_character character_value
 character_value-small b h = grind (arith, nat_tests)
@@ -30,7 +30,7 @@ pub character_value-character : (v : ℕ) → v ≤ 35 → character_value (char
 unfolding character character_value
 character_value-character v h = grind (arith, nat_tests)
 
--- the bytes of a token
+-- the token of one character, and the token of `y` (121) and a character: how it is spelled, and that it is lawful
 pub spelling-single : (b : ℕ) → is_character b ≡ true → (b == 121) ≡ false → spelling (single b) ≡ b ∷ []
 unfolding single gap_text
 spelling-single b h many = go (b == 48) refl (b == 119) refl (b == 120) refl (b == 122) refl
@@ -64,7 +64,7 @@ spelling-long_gap c h =
 pub IsToken-long_gap : (c : ℕ) → is_character c ≡ true → IsToken (long_gap c)
 IsToken-long_gap c h = (omega arith, omega (arith, character_value-small c h))
 
--- a text is read from the left
+-- how a text is read, depending on its first byte, and if that is `y` (121), on the byte after it
 pub tokens_at-bad : (place b : ℕ) (remainder : List ℕ) → is_character b ≡ false → tokens_at place (b ∷ remainder) ≡ Err (BadByte place)
 unfolding tokens_at
 tokens_at-bad place b [] bad = rw bad refl
@@ -89,7 +89,7 @@ pub tokens_at-end : (place : ℕ) → tokens_at place (121 ∷ []) ≡ Err (Shor
 unfolding is_character tokens_at
 tokens_at-end place = refl
 
--- a column's character is neither `0` (48) nor one of `w` (119) and later letters
+-- a column's character is neither `0` (48) nor `w` (119) or a later letter
 pub column-character : (v : ℕ) → 1 ≤ v → v ≤ 31 → (k : ℕ) → (k ≡ 48) ⊎ (119 ≤ k) → (character v == k) ≡ false
 unfolding character
 column-character v low high k (inl zero_byte) = grind (arith, nat_tests)
@@ -125,7 +125,7 @@ tokens_at-token (Gap (suc (suc (suc (suc n))))) h =
     subst (λ (m : ℕ). IsRead (Gap m)) e (λ place remainder. rw (spelling-long_gap (character n) c) (tokens_at-long place (character n) remainder c))
 tokens_at-token NextStrip h = λ place remainder. tokens_at-single place 122 remainder refl refl
 
--- a token takes at least one byte, so the remainder is shorter
+-- a token has at least one byte, so the remainder of a text after a token is shorter than the text
 length-gap_text : (n : ℕ) → 1 ≤ length (gap_text n)
 unfolding gap_text
 length-gap_text n = go (n == 1) (n == 2) (n == 3)
@@ -149,7 +149,7 @@ pub length-spelled : (tokens : List Token) → length tokens ≤ length (flat_ma
 length-spelled [] = omega arith
 length-spelled (token ∷ tokens) = omega (arith, length-spelled tokens, length-spelling token, length-append (spelling token) (flat_map spelling tokens))
 
--- tokens before those of a result, or its fault
+-- these tokens followed by those of a result, or the fault of the result
 abbrev pub with_tokens : List Token → Result (List Token) WechslerFault → Result (List Token) WechslerFault
 with_tokens [] r = r
 with_tokens (token ∷ tokens) r = with_token token (with_tokens tokens r)
@@ -181,7 +181,7 @@ unfolding tokens_at
 tokens_at-spelled tokens each place =
     ap (λ (text : List ℕ). tokens_at place text) (sym (append-nil (flat_map spelling tokens))) ∙ tokens_at-tokens tokens each place [] ∙ with_tokens-none tokens
 
--- the token that begins a text
+-- which token begins a text
 pub Begins_single : (text : List ℕ) (token : Token) (b : ℕ) (remainder : List ℕ) → text ≡ b ∷ remainder → token ≡ single b → is_character b ≡ true → b ≢ 121
     → Begins text token remainder
 Begins_single text token b remainder whole is h other =
@@ -191,7 +191,8 @@ Begins_single text token b remainder whole is h other =
 pub Begins_long_gap : (c : ℕ) (remainder : List ℕ) → is_character c ≡ true → Begins (121 ∷ c ∷ remainder) (long_gap c) remainder
 Begins_long_gap c remainder h = record { is_token = IsToken-long_gap c h; spelled = ap (λ (text : List ℕ). text ++ remainder) (sym (spelling-long_gap c h)) }
 
--- a nonempty text begins with a byte that is no character, with a token, or with `y` (121)
+-- a nonempty text begins with a byte that isn't a character, with a token, or with `y` (121); after a `y`, there is no
+-- character, or both are a token (`long_cases`)
 prefix_cases : (P : List ℕ → Type 0)
     → ((b : ℕ) (remainder : List ℕ) → is_character b ≡ false → P (b ∷ remainder))
     → ((token : Token) (remainder : List ℕ) → IsToken token → P remainder → P (spelling token ++ remainder))
@@ -213,7 +214,7 @@ long_cases P short more c remainder after = go (is_character c) refl
     go false h = short (c ∷ remainder) h
     go true h = subst (λ (text : List ℕ). P (text ++ remainder)) (spelling-long_gap c h) (more (long_gap c) remainder (IsToken-long_gap c h) after)
 
--- induction over texts: each is empty, or has a fault at its front, or begins with a token
+-- induction over texts: each text is empty, has a fault at its beginning, or begins with a token
 pub text_induction : (P : List ℕ → Type 0) → P []
     → ((b : ℕ) (remainder : List ℕ) → is_character b ≡ false → P (b ∷ remainder))
     → ((remainder : List ℕ) → has_character remainder ≡ false → P (121 ∷ remainder))
@@ -229,7 +230,7 @@ pub tokens_at-short_run : (place : ℕ) (remainder : List ℕ) → has_character
 tokens_at-short_run place [] h = tokens_at-end place
 tokens_at-short_run place (c ∷ remainder) h = tokens_at-short place c remainder h
 
--- the text begins with a byte that is no character, or with a `y` (121) that no character follows
+-- the text begins with a byte that isn't a character, or (`IsShort`) with a `y` (121) that no character follows
 abbrev pub IsBad : List ℕ → Type 0
 IsBad [] = ⊥
 IsBad (b ∷ remainder) = is_character b ≡ false
@@ -259,7 +260,7 @@ Stops-more BeginsSo start place token text h s = record {
   so = s.so;
 }
 
--- the tokens that are read spell the text; the place of a fault is where reading stops
+-- if tokens are read, they spell the text; if a fault is found, it is at the place where reading stops
 abbrev pub Outcome : ℕ → List ℕ → Result (List Token) WechslerFault → Type 0
 Outcome start text (Ok tokens) = Spells tokens text
 Outcome start text (Err (BadByte place)) = Stops IsBad start text place
@@ -298,14 +299,14 @@ tokens_at-outcome = text_induction (λ text. (start : ℕ) → Outcome start tex
     (λ token remainder h o start. rw (tokens_at-token token h start remainder)
     (Outcome-more token remainder h start (tokens_at (start + length (spelling token)) remainder) (o (start + length (spelling token)))))
 
--- the tokens that are read spell the text
+-- tokens are read from a text if and only if they spell it
 pub Spells-tokens_at : (tokens : List Token) (text : List ℕ) (place : ℕ) → tokens_at place text ≡ Ok tokens → Spells tokens text
 Spells-tokens_at tokens text place e = subst (λ (r : Result (List Token) WechslerFault). Outcome place text r) e (tokens_at-outcome text place)
 
 pub tokens_at-Spells : (tokens : List Token) (text : List ℕ) (place : ℕ) → Spells tokens text → tokens_at place text ≡ Ok tokens
 tokens_at-Spells tokens text place s = ap (λ (t : List ℕ). tokens_at place t) (sym s.spelled) ∙ tokens_at-spelled tokens s.each place
 
--- the place of a fault is where reading stops
+-- a fault is found at a place if and only if reading stops there
 pub Stops-bad : (text : List ℕ) (start place : ℕ) → tokens_at start text ≡ Err (BadByte place) → Stops IsBad start text place
 Stops-bad text start place e = subst (λ (r : Result (List Token) WechslerFault). Outcome start text r) e (tokens_at-outcome text start)
 

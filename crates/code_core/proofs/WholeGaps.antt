@@ -1,4 +1,4 @@
--- The gaps of a pattern's tokens are whole.
+-- The gaps of a pattern's tokens are whole: each is followed by a column with a live cell.
 use Rattle.std.proofs.Common.{ℕ, zero, suc, ◌+◌, ◌/◌, List, [], ◌∷◌, ◌++◌, map}
 use Rattle.std.specs.List.{AllByRecursion, range_with_len}
 use Rattle.plane_core.specs.declared.plane.cell.Cell.{Cell}
@@ -6,7 +6,7 @@ use Rattle.code_core.specs.declared.reader.Token.{Token}
 use Rattle.code_core.specs.declared.reader.Token.TheVariants.{Column, Gap, NextStrip}
 use Rattle.code_core.specs.Texts.{BeginsWithColumn, GapsAreWhole, before, joined_strips, strip, strip_tokens, tokens_of}
 
--- the gaps are whole, and there is one strip
+-- the gaps are whole, and the tokens are of a single strip
 abbrev IsWholeStrip : List Token → Type 0
 IsWholeStrip [] = Unit {0}
 IsWholeStrip (Gap n ∷ tokens) = BeginsWithColumn tokens × IsWholeStrip tokens

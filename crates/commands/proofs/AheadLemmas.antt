@@ -1,8 +1,8 @@
--- The bytes of an input that were read, but not used yet.
+-- The bytes of an input that have been read but not used yet.
 use Rattle.std.proofs.Common.{◌≡◌, ◌≤◌, ◌+◌, ◌-◌, ◌∙◌, ℕ, List, ap, arith, drop, drop-drop, length, length-take, slice_range, sym, take}
 use Rattle.std.proofs.lemmas.List.{drop-take}
 
--- using some of the bytes drops them from the front
+-- if some bytes from `start` on are used, they are dropped from the beginning of the bytes that aren't used yet
 pub further : (bytes : List ℕ) (start end amount : ℕ) → amount ≤ length (slice_range bytes start end)
     → slice_range bytes (start + amount) end ≡ drop amount (slice_range bytes start end)
 further bytes start end amount within =

@@ -33,13 +33,13 @@ use Rattle.pattern_commands.specs.Behaviours.{Made}
 use Rattle.commands.specs.CorrectLines.{GatherTakesCorrectLines, IsCorrectFor, TakesCorrectLines}
 use Rattle.commands.proofs.TakenLemmas.{taken_if_eligible, taken_once}
 
--- ---- a correct line is offered
+-- ---- the report of a correct line is offered
 
 -- the claim of a line is unique
 same_claim : (line : List ℕ) (one other : Claimed) → Claims line one → Claims line other → one ≡ other
 same_claim line one other h k = one_claim one other h.lawful k.lawful (h.spelled ∙ sym k.spelled)
 
--- a report that confirms a claim has the finding of the claim's soup, and the claim agrees with it
+-- a report that confirms a claim has the finding of the claim's soup, and the claim agrees with this finding
 found_for : (claim : Claimed) (job : Job) (report : Reported) → IsConfirmed claim job report → IsFoundFor claim report.finding
 found_for claim job report confirmed =
     subst (λ (c : Claimed). IsFoundFor c report.finding) confirmed.same_claim confirmed.lawful.finding
@@ -69,7 +69,7 @@ not_faulty terms n line (BadLine p) correct (Front place long fault) =
     let short : length line ≤ 2 ^ 24 = correct.short in
     omega (arith, long, short)
 
--- the report has this number, and is lawful: its job is the haul's, its worker known and its number in the set
+-- the report has this number, and is lawful: its job is the haul's, its worker is known, and its number is in the set
 abbrev pub IsLawfulFor : Terms → ℕ → Reported → Type 0
 IsLawfulFor terms n report = (report.number ≡ n) × (is_lawful terms report ≡ true)
 
@@ -103,7 +103,7 @@ correct_line : (terms : Terms) (line : List ℕ) (report : Reported) → IsLooke
 correct_line terms line report (Whole short checked) known =
     record { short = short; claim = checked.0; claims = checked.1; report = report; confirmed = checked.2; known = known; number = refl }
 
--- ---- lines one after another
+-- ---- the offers that come from lines, one line after another
 
 any-push : {X : Type 0} (P : X → Type 0) (xs ys : List X) → Any P xs → Any P (xs ++ ys)
 any-push P [] ys (k, x, low, is, h) = absurd (omega arith)
@@ -196,7 +196,7 @@ of_lines terms lines arrivals diagnostics Start = of_none terms
 of_lines terms lines arrivals diagnostics (Next earlier before told line arrived fault gathered comes) =
     of_more terms earlier before arrived line fault (of_lines terms earlier before told gathered) comes
 
--- ---- what is taken
+-- ---- which numbers are taken
 
 any_lawful : (terms : Terms) (n : ℕ) (reports : List Reported) → Any (IsLawfulFor terms n) reports
     → list_any (has_number n) (filter (is_lawful terms) reports) ≡ true
@@ -237,7 +237,7 @@ lawful_any terms n (r ∷ reports) h = go (is_lawful terms r) refl h (lawful_any
       | inr other ↦ next (more (sym (ap (λ (b : Bool). b || list_any (has_number n) (filter (is_lawful terms) reports)) other) ∙ h))
     ]
 
--- the worker of a lawful report is known, and its number is in the set
+-- the worker of a lawful report is known, and the report's number is in the set
 lawful_parts : (terms : Terms) (n : ℕ) (report : Reported) → IsLawfulFor terms n report → (report.worker ≤ terms.workers) × (is_in terms.ranges n ≡ true)
 lawful_parts terms n report (number, lawful) =
     let parts = and_parts (same_job terms.job report.job) (nat_le report.worker terms.workers && is_in terms.ranges report.number) lawful in

@@ -1,4 +1,4 @@
--- How gathering ends.
+-- How `gather` ends, and how far it has read its input then.
 use Rattle.std.proofs.Common.{◌≡◌, ◌∙◌, ◌+◌, ◌++◌, ◌<◌, ◌≤◌, ◌^◌, ◌⊎◌, ℕ, zero, suc, false, inl, inr, List, [], ◌∷◌, Option, None, Some, Ok, Err, IfErr, ap, arith, length, refl, subst, sym, true}
 use Rattle.std.specs.Prelude.{is_ok}
 use Rattle.std.specs.Io.KnownBytes.{prepend_known}
@@ -40,7 +40,7 @@ use Rattle.commands.proofs.GatherLemmas.{all_begun}
 use Rattle.commands.proofs.LineLemmas.{all_spent}
 use Rattle.commands.proofs.TakeLemmas.{job_refused}
 
--- if a set's range list is valid, each refusal of the set needs memory
+-- if a set's range list is valid, memory is needed to find out that the set is refused
 list_needs : (set : SoupSet) (refusal : Refusal) → IsListText set.also → IsRefused set refusal → NeedsMemory (Refused refusal)
 list_needs set refusal listed (Bad_list not place fault is) = absurd (not listed)
 list_needs set refusal listed (Too_large ranges named large is) = subst (λ (r : Refusal). NeedsMemory (Refused r)) (sym is) tt
@@ -64,7 +64,7 @@ gathers_job plan workers bytes reader (ReadFailed error) output errors named sil
 gathers_job plan workers bytes reader TooLong output errors named silent = absurd (job_refused plan TooLong named)
 gathers_job plan workers bytes reader (WriteFailed error) output errors named silent = absurd (job_refused plan (WriteFailed error) named)
 
--- how `gather` ends if the set is refused, or memory runs out over it
+-- how `gather` ends if the set is refused, or if memory runs out before this is known
 gathers_set : (plan : Plan) (workers : ℕ) (bytes : List ℕ) (reader : Option (List ℕ)) (job : Job)
     (complaint : Complaint) (output errors : Stream) → job_named plan ≡ Ok job → StopsSet plan.set complaint → IsSilent output errors
     → Reaches (gather_behaviour plan workers) reader bytes (Err complaint) output errors
@@ -135,7 +135,8 @@ gathers_memory terms bytes reader output errors begun nothing fine = record {
   fine = fine;
 }
 
--- how `gather` ends with a complaint about the lines, for bytes that may be the input
+-- how `gather` ends if a complaint ends the gathering of lines, for these bytes as its input; if the complaint is
+-- `TooLong`, they must be more than 2^32
 gathers_on : (terms : Terms) (bytes : List ℕ) (reader left : Option (List ℕ)) (complaint : Complaint) (output errors : Stream)
     → (complaint ≡ TooLong → 2 ^ 32 < length bytes)
     → EndsLines terms reader left errors complaint → Has output []
@@ -152,7 +153,7 @@ gathers_on terms bytes reader left TooLong output errors long ends nothing = (
 gathers_on terms bytes reader left (WriteFailed error) output errors long ends nothing =
     inr (record { cut = ends; nothing = nothing })
 
--- there are bytes that may be the input; if the input is too long, they are longer than `gather` may read
+-- how `gather` ends if a complaint ends the gathering of lines, for some bytes that may be its input
 pub gathers_lines : (terms : Terms) (reader left : Option (List ℕ)) (complaint : Complaint) (output errors : Stream)
     → EndsLines terms reader left errors complaint → Has output []
     → (bytes : List ℕ) × IsInput reader bytes × Reaches (haul_behaviour terms) reader bytes (Err complaint) output errors
@@ -211,7 +212,7 @@ gathers_haul terms held closed reader left outcome output errors all same kept t
     go (Err TooLong) is = absurd is
     go (Err (Refused refusal)) is = absurd is
 
--- a haul that was opened is over the set
+-- a haul that was opened for a set and a number of workers is a haul over this set with these workers
 pub is_over : (job : Job) (set : SoupSet) (workers : ℕ) (held : Held) → IsOpened job set workers held → IsHaulOver set workers job held.terms
 is_over job set workers held open_ = record {
   ranges = open_.over.ranges;
@@ -223,7 +224,7 @@ is_over job set workers held open_ = record {
   workers_are = open_.workers_are;
 }
 
--- the same for terms that are equal to the haul's
+-- a haul over a plan's set may be opened for the plan; this holds for all terms that are equal to those of the haul
 opens_over : (plan : Plan) (workers : ℕ) (job : Job) (terms others : Terms) → job_named plan ≡ Ok job
     → IsHaulOver plan.set workers job terms → others ≡ terms → gather_opens plan workers others
 opens_over plan workers job terms others named over same =
@@ -285,7 +286,7 @@ gathers_over plan workers bytes reader job terms outcome output errors named ove
 
 -- ---- how far the input was read
 
--- a haul that was not opened: nothing was read
+-- if no haul was opened, nothing was read
 pub unread_opening : {R : Type 0} (plan : Plan) (workers : ℕ) (remaining : R → Option (List ℕ)) (input : R) (complaint : Complaint)
     (errors : Stream) → StopsOpening plan complaint → Has errors []
     → HasReadUpTo (gather_opens plan workers) remaining input input errors (Err complaint)
@@ -328,7 +329,7 @@ stops_finished terms held remaining old new (Err (ReadFailed error)) output erro
 stops_finished terms held remaining old new (Err TooLong) output errors all same is = absurd is
 stops_finished terms held remaining old new (Err (WriteFailed error)) output errors all same is = tt
 
--- what is known for an open haul about how far the input was read holds for the plan
+-- how far the input was read is right for the plan if it is right for an open haul over the plan's set
 pub stops_over : {R : Type 0} (plan : Plan) (workers : ℕ) (job : Job) (terms : Terms) (remaining : R → Option (List ℕ)) (old new : R)
     (errors : Stream) (outcome : Outcome) → job_named plan ≡ Ok job → IsHaulOver plan.set workers job terms
     → HasReadUpTo (IsSame terms) remaining old new errors outcome
@@ -355,16 +356,16 @@ stops_over plan workers job terms remaining old new errors outcome named over = 
     go (Err TooLong) is = stops (2 ^ 16) is
     go (Err (WriteFailed error)) is = tt
 
--- ---- what holds only of some complaints
+-- ---- which outcomes have the status `Refused` or `Memory`
 
--- only a complaint has the status of a refusal
+-- only a complaint has the status `Refused`
 pub if_refused : {P : Type 0} (outcome : Outcome) → status_after outcome ≡ statuses.Refused
     → IfErr outcome (λ complaint. status_of complaint ≡ statuses.Refused → P) → P
 if_refused (Ok zero) is = cc
 if_refused (Ok (suc n)) is = cc
 if_refused (Err complaint) is = λ so. so is
 
--- only an outcome that memory ran out has the status of out of memory
+-- only the complaint that memory ran out has the status `Memory`
 pub if_memory : {P : Type 0} (outcome : Outcome) → status_after outcome ≡ statuses.Memory
     → IfErr outcome (λ complaint. complaint ≡ Memory out_of_memory → P) → P
 if_memory (Ok zero) is = cc

@@ -1,4 +1,4 @@
--- From the steps of `gather` to what became of each line.
+-- Lemmas about `gather`: the effect of each line on the haul, and what holds when gathering ends.
 use Rattle.std.proofs.Common.{◌≡◌, ◌≢◌, ◌+◌, ◌∙◌, ◌++◌, ◌<◌, ◌≤◌, ◌^◌, ℕ, suc, inl, inr, false, length-append, length-take, List, [], ◌∷◌, Option, None, Some, Result, Ok, Err, IfOk, ap, ap₂, append-nil, arith, flat_map, length, refl, subst, sym, take, take-take, take_all}
 use Rattle.survey_core.specs.FindingLaws.{FindingsAreDetermined}
 use Rattle.survey_core.specs.Soups.{soup}
@@ -38,14 +38,14 @@ use Rattle.commands.specs.Lines.{HasReadLine, HasReadPart, IsLongerThan, IsOneLi
 use Rattle.commands.proofs.LineLemmas.{after_read, all_lines, all_read, bare_part, ended_more, first_lines, lines_and, lines_bare, lines_ended, long_read, part_lines, with_ahead}
 use Rattle.commands.specs.GatheredLines.{Faulty, Front, Gathered, IsChecked, IsPrefixFault, IsLookedAt, IsWrong, ComesOf, Next, Offered, Start, Whole, offer_fault, fault_lines}
 
--- a line with a fault causes no arrival: a bad line, a line of another job, or a line that disagrees
+-- a line that is bad, of another job or disagrees causes no arrival
 pub faulty : {terms : Terms} {line : List ℕ} {fault : LineFault} {held : Held} (arrivals : List Arrival) → IsLookedAt terms.job line (Err fault)
     → StandsFor arrivals held → (arrived : List Arrival) × ComesOf terms arrivals line arrived (Some fault) × StandsFor (arrivals ++ arrived) held
 faulty {fault} {held} arrivals is stands =
     let P : List Arrival → Type 0 = λ l. StandsFor l held in
     ([], Faulty fault is, subst P (sym (append-nil arrivals)) stands)
 
--- a report that is taken
+-- a report that the haul takes is the arrival of its line, which has no fault
 pub taken : {terms : Terms} {line : List ℕ} {held : Held} (arrivals : List Arrival) (report : Reported) → IsLookedAt terms.job line (Ok report)
     → IsReply None (refusal_of terms arrivals report) → StandsFor (arrivals ++ Offer report ∷ []) held
     → (arrived : List Arrival) × ComesOf terms arrivals line arrived None × StandsFor (arrivals ++ arrived) held
@@ -54,7 +54,8 @@ taken {terms} {line} arrivals report is (inl reply) stands =
     (Offer report ∷ [], subst P (sym (ap (offer_fault report) reply)) (Offered report is), stands)
 taken arrivals report is (inr reply) stands = absurd (cc (reply.0))
 
--- a report that is refused
+-- a report that the haul refuses is still the arrival of its line, and the line has the fault for the reason; out of
+-- memory is excluded
 pub refused : {terms : Terms} {line : List ℕ} {held : Held} (arrivals : List Arrival) (report : Reported) (reason : OfferError) (fault : Option LineFault)
     → IsLookedAt terms.job line (Ok report) → IsReply (Some reason) (refusal_of terms arrivals report) → reason ≢ offer_error.Memory out_of_memory
     → fault ≡ offer_fault report (Some reason) → StandsFor (arrivals ++ Offer report ∷ []) held
@@ -64,7 +65,7 @@ refused {terms} {line} arrivals report reason fault is (inl reply) memory diagno
     (Offer report ∷ [], subst P (sym (diagnostics ∙ ap (offer_fault report) reply)) (Offered report is), stands)
 refused arrivals report reason fault is (inr reply) memory diagnostics stands = absurd (memory cc)
 
--- the same for any result of the call that finds the fault
+-- `refused` if the fault is the result of a call, which may fail
 pub refused_told : {E : Type 0} (terms : Terms) (line : List ℕ) (held : Held) (arrivals : List Arrival) (report : Reported) (reason : OfferError)
     (result : Result (Option LineFault) E) → IsLookedAt terms.job line (Ok report) → IsReply (Some reason) (refusal_of terms arrivals report)
     → IfOk result (λ _. reason ≢ offer_error.Memory out_of_memory) → IfOk result (λ fault. fault ≡ offer_fault report (Some reason))
@@ -79,7 +80,7 @@ wrong unique claim found is differs finding right agrees =
     let same = unique claim.job.rule claim.job.profile (soup claim.job.seed claim.number) found finding is right in
     differs (ap (said_of claim.version) same ∙ agrees)
 
--- one more line was gathered in the haul
+-- gathering one more line adds its arrival, if any, to the haul, and its fault, if any, to the diagnostics
 pub come_more : (lines : List (List ℕ)) (line diagnostics : List ℕ) (old new : Held) (before : ℕ) (fault : Option LineFault)
     → before ≡ length lines → (come : HasCome lines old diagnostics) → new.terms ≡ old.terms
     → (arrived : List Arrival) × ComesOf old.terms come.arrivals line arrived fault
@@ -101,7 +102,7 @@ abbrev passage : (reader left : Option (List ℕ)) → Stream → ℕ → ℕ �
 passage reader left errors count size =
     record { reader = reader; left = left; errors = errors; count = count; size = size }
 
--- no line was gathered yet, and no bytes are ahead
+-- `HasGatheredLines` holds at the start: the haul is empty, no bytes are ahead, and nothing was written
 pub none_gathered : (reader : Option (List ℕ)) (ahead : List ℕ) (errors : Stream) (held : Held) → ahead ≡ [] → Has errors []
     → StandsFor [] held → HasGatheredLines (passage reader (prepend_known ahead reader) errors 0 0) held
 none_gathered reader ahead errors held none silent stands = record {
@@ -118,7 +119,7 @@ none_gathered reader ahead errors held none silent stands = record {
   written = silent;
 }
 
--- no line is left
+-- if reading the next line gives no bytes, all lines of the input were gathered
 pub no_more : (room : ℕ) (reader left new : Option (List ℕ)) (errors : Stream) (count size : ℕ) (held : Held) (kept : List ℕ)
     (line : LineRead)
     → HasGatheredLines (passage reader left errors count size) held → (read : HasReadLine room left new kept line) → line.size ≡ 0
@@ -146,7 +147,7 @@ no_more room reader left new errors count size held kept line gathered read none
           written = gathered.written;
         }
 
--- one more line was gathered, after which others may follow or none
+-- if one more line was gathered, all lines up to its line end were gathered
 pub goes_on : {V : Type 0} (contents : V → Option (List ℕ)) (room : ℕ) (reader left new : Option (List ℕ))
     (first old later : Output V) (count size : ℕ) (held next : Held) (kept : List ℕ) (line : LineRead)
     → (gathered : HasGatheredLines (passage reader left (stream contents first old) count size) held)
@@ -192,13 +193,13 @@ goes_on contents room reader left new first old later count size held next kept 
           written = written;
         }
 
--- there is no fault
+-- a fault that isn't `Some` is `None`
 pub no_fault : (fault : Option LineFault) → ((x : LineFault) → fault ≢ Some x) → fault ≡ None
 no_fault None not = refl
 no_fault (Some x) not = absurd (not x refl)
 
--- The lines gathered so far are the first of the input, if at most one line was read after them. If that line has no
--- line feed, all lines that end with a line feed were gathered.
+-- If at most one line (`more`) was read after the gathered lines, `HasBegunUpTo` holds. If `more` has no line feed, all
+-- lines with a line feed were gathered.
 begun_and : (way : Passage) (held : Held) (terms : Terms) (new : Option (List ℕ)) (more : List ℕ) → HasGatheredLines way held
     → held.terms ≡ terms → Consumes way.left new more → length (input_lines more) ≤ 1
     → (begun : HasBegunUpTo terms way.reader new way.errors.before way.errors.after)
@@ -233,7 +234,7 @@ begun_part way held terms new complaint gathered same part =
     (begun_and way held terms new (part.line ++ piece_end part.end) gathered same part.consumed
     (part_lines part.line part.end part.one)).0
 
--- the same after a failed read
+-- `begun_part` after a failed read; all lines with a line feed were gathered
 begun_cut : (way : Passage) (held : Held) (terms : Terms) (new : Option (List ℕ)) (error : ReadError) → HasGatheredLines way held
     → held.terms ≡ terms → HasReadPart way.left new (ReadFailed error)
     → (begun : HasBegunUpTo terms way.reader new way.errors.before way.errors.after) × AreAllEnded begun.read begun.lines
@@ -244,7 +245,7 @@ begun_cut way held terms new error gathered same part =
     (bare_part part.line part.one) in
     (is.0, is.1 part.one)
 
--- the same if all lines were gathered
+-- if all lines of the input were gathered, `HasBegunUpTo` holds
 pub all_begun : (reader left : Option (List ℕ)) (errors : Stream) (size : ℕ) (held : Held) (terms : Terms)
     → HasGatheredAll reader left errors size held
     → held.terms ≡ terms → HasBegunUpTo terms reader left errors.before errors.after
@@ -264,25 +265,25 @@ all_begun reader left errors size held terms all same = record {
   written = all.written;
 }
 
--- if the line isn't the last, others may follow
+-- if the line end isn't the end of the input, more lines may follow
 pub goes_further : (way : Passage) (held : Held) (end : LineEnd) → (end ≡ Input → ⊥) → HasGatheredTo way held end → HasGatheredLines way held
 goes_further way held Feed more gathered = gathered
 goes_further way held Input more all = absurd (more refl)
 
--- if the line is the last, all lines were gathered
+-- if the line end is the end of the input, all lines were gathered
 pub goes_no_further : (way : Passage) (held : Held) (end : LineEnd) → end ≡ Input → HasGatheredTo way held end
     → HasGatheredAll way.reader way.left way.errors way.size held
 goes_no_further way held Feed is gathered = let bad : Feed ≡ Input = is in cc
 goes_no_further way held Input is all = all
 
--- if more is left of an input than there is room for, the input is too long
+-- if the bytes read and `room` make at least 2^32, and more than `room` bytes are left, the input is too long
 longer : (room : ℕ) (reader left : Option (List ℕ)) (read : List ℕ) → Consumes reader left read → 2 ^ 32 ≤ length read + room
     → IsLongerThan room left → IsTooLong reader
 longer room None left read consumed whole long = tt
 longer room (Some xs) None read consumed whole long = absurd consumed
 longer room (Some xs) (Some ys) read consumed whole long = let all = ap length consumed ∙ length-append read ys in omega (arith, all, whole, long)
 
--- there are at most as many ended lines as they have bytes
+-- there are at most as many lines as bytes, since each line ends with a line feed
 bytes_of_lines : (lines : List (List ℕ)) → length lines ≤ length (flat_map (with_end Feed) lines)
 bytes_of_lines [] = omega arith
 bytes_of_lines (line ∷ lines) =
@@ -298,28 +299,28 @@ many_lines way held gathered many =
     long_read (2 ^ 32) way.reader way.left gathered.read gathered.consumed
     (omega (arith, spelled, count, many, bytes_of_lines gathered.lines))
 
--- the bytes read so far, including those ahead, are at most `most`
+-- if the bytes used and those ahead are at most `most`, at most `most` bytes were read
 pub read_so_far : (most : ℕ) (reader left : Option (List ℕ)) (ahead : List ℕ) (errors : Stream) (count size : ℕ) (held : Held)
     → HasGatheredLines (passage reader (prepend_known ahead left) errors count size) held → size + length ahead ≤ most
     → HasReadAtMost most reader left
 read_so_far most reader left ahead errors count size held gathered few =
     let size_is = gathered.size_is in with_ahead most reader left gathered.read ahead gathered.consumed (omega (arith, size_is, few))
 
--- the same after the next line was read
+-- if `size + room` is at most `most`, at most `most` bytes were read after up to `room` more
 pub read_further : (room most : ℕ) (reader left new : Option (List ℕ)) (errors : Stream) (count size : ℕ) (held : Held)
     → HasGatheredLines (passage reader left errors count size) held → size + room ≤ most → HasReadAtMost room left new
     → HasReadAtMost most reader new
 read_further room most reader left new errors count size held gathered few more =
     let size_is = gathered.size_is in after_read room most reader left new gathered.read gathered.consumed (omega (arith, size_is, few)) more
 
--- if a line could not be read, nothing was written
+-- if reading a line fails, nothing is written
 pub next_unread : {V : Type 0} (room : ℕ) (left : Option (List ℕ)) (old : Output V) (fault : InputError)
     → (fault ≡ input_error.TooLong → IsLongerThan room left) → EndsNext room left old old (input_complaint fault)
 next_unread room left old (input_error.Unreadable failed) long = refl
 next_unread room left old input_error.TooLong long = (refl, long refl)
 next_unread room left old (input_error.Memory refused) long = refl
 
--- what holds after a complaint about a line that was read holds after a complaint about the next line
+-- if gathering a line that was read ends with a complaint, `EndsNext` holds
 pub next_read : {V : Type 0} (room : ℕ) (left : Option (List ℕ)) (old new : Output V) (complaint : Complaint) → EndsLine old new complaint
     → EndsNext room left old new complaint
 next_read room left old new (Refused refusal) ends = ends
@@ -328,7 +329,7 @@ next_read room left old new (ReadFailed error) ends = absurd ends
 next_read room left old new TooLong ends = absurd ends
 next_read room left old new (WriteFailed error) ends = ends
 
--- after such a complaint, up to 2^16 bytes may be ahead, since it isn't a failed read
+-- after a complaint about gathering a line that was read, up to 2^16 bytes may be ahead, since no read failed
 pub line_most : {V : Type 0} (old new : Output V) (complaint : Complaint) (ahead : List ℕ) → EndsLine old new complaint
     → length ahead ≤ 2 ^ 16 → length ahead ≤ most_ahead complaint
 line_most old new (Refused refusal) ahead ends few = few
@@ -337,7 +338,7 @@ line_most old new (ReadFailed error) ahead ends few = absurd ends
 line_most old new TooLong ahead ends few = few
 line_most old new (WriteFailed error) ahead ends few = few
 
--- for the same reason, the line may have ended
+-- after a complaint about gathering a line that was read, the line may have any end, since no read failed
 pub line_may_end : {V : Type 0} (old new : Output V) (complaint : Complaint) (end : Option LineEnd) → EndsLine old new complaint
     → MayEnd complaint end
 line_may_end old new (Refused refusal) end ends = tt
@@ -346,7 +347,7 @@ line_may_end old new (ReadFailed error) end ends = absurd ends
 line_may_end old new TooLong end ends = tt
 line_may_end old new (WriteFailed error) end ends = tt
 
--- a complaint about a line, after all lines before it
+-- if reading or gathering the next line ends with a complaint, `EndsLines` holds
 pub lines_ended_by : {V : Type 0} (contents : V → Option (List ℕ)) (room : ℕ) (reader left now : Option (List ℕ)) (first : Output V)
     (count size : ℕ) (held : Held) (terms : Terms) (old new : Output V) (complaint : Complaint)
     → HasGatheredLines (passage reader left (stream contents first old) count size) held
@@ -367,9 +368,9 @@ lines_ended_by contents room reader left now first count size held terms old new
 lines_ended_by contents room reader left now first count size held terms old new (Refused refusal) gathered same fine whole none part =
     absurd none
 
--- ---- what is looked at of a line
+-- ---- how much of a line is examined
 
--- a line that was kept completely
+-- if at most 2^24 bytes of a line are kept, the whole line is kept and examined
 pub looked_whole : {outcome : Result Reported LineFault} (job : Job) (kept line : List ℕ) → kept ≡ take (2 ^ 24 + 1) line → length kept ≤ 2 ^ 24
     → IsChecked job kept outcome → IsLookedAt job line outcome
 looked_whole {outcome} job kept line is short checked =
@@ -378,13 +379,13 @@ looked_whole {outcome} job kept line is short checked =
     let same : kept ≡ line = is ∙ take_all (2 ^ 24 + 1) line (omega (arith, fits)) in
     Whole fits (subst (λ (l : List ℕ). IsChecked job l outcome) same checked)
 
--- the same for any result of the call
+-- `looked_whole` if the outcome is the result of a call, which may fail
 pub ok_whole : {E : Type 0} (job : Job) (kept line : List ℕ) (result : Result (Result Reported LineFault) E) → kept ≡ take (2 ^ 24 + 1) line
     → length kept ≤ 2 ^ 24 → IfOk result (IsChecked job kept) → IfOk result (IsLookedAt job line)
 ok_whole job kept line (Ok outcome) is short checked = looked_whole job kept line is short checked
 ok_whole job kept line (Err e) is short checked = tt
 
--- a line of which only a prefix was kept
+-- if more than 2^24 bytes of a line are kept, only the first 2^24 are examined, and the line is bad
 pub looked_prefix : (job : Job) (kept line : List ℕ) (place : ℕ) → kept ≡ take (2 ^ 24 + 1) line → 2 ^ 24 < length kept
     → IsPrefixFault (take (2 ^ 24) kept) place → IsLookedAt job line (Err (BadLine place))
 looked_prefix job kept line place is long fault =

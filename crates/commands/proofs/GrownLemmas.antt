@@ -1,4 +1,4 @@
--- What a crew does to a haul.
+-- The effect of a crew on a haul.
 use Rattle.std.proofs.Common.{◌≡◌, ◌∙◌, ◌++◌, ℕ, All, List, [], ap, map, subst, sym}
 use Rattle.std.proofs.lemmas.List.Elements.{All-map}
 use Rattle.haul_core.specs.Books.{Held, entry}
@@ -29,7 +29,7 @@ let_in_by {lets} {workers} old new h = record {
       let by = h.by_workers k d low in record { least = by.0; most = by.1; let_in = h.let_in k d low });
 }
 
--- if nothing was taken before, the same holds for all soups that the haul has taken
+-- if the haul was empty before, each soup that it has taken comes from a worker that the gate let survey it
 pub let_in_all : {lets : ℕ → ℕ → Type 0} {workers : ℕ} (old new : Held) → old.taken ≡ [] → HasLetIn lets workers old new
     → All (IsLetIn lets workers) new.taken
 let_in_all {lets} {workers} old new none h =

@@ -1,4 +1,4 @@
--- From what an observer was handed to right lines of reports.
+-- The reports that an observer was handed are right for the plan.
 use Rattle.std.proofs.Common.{◌≡◌, ◌∙◌, ◌≤◌, ◌++◌, ℕ, All, Bool, List, [], ◌∷◌, Option, ap, arith, cond, false, map, nat_eq, refl, subst, sym, true, true≢false, ⊎_elim}
 use Rattle.std.specs.Prelude.{count_by}
 use Rattle.haul_core.specs.Books.{Held, Terms, entry}
@@ -19,7 +19,7 @@ use Rattle.commands.specs.TakeSteps.{IsOpenedFor}
 use Rattle.commands.proofs.TakeLemmas.{in_set}
 use native.Mathlib.Decide.{dec_le}
 
--- a subsequence of some reports has each soup at most as often
+-- a soup occurs in a subsequence of reports at most as often as in all of them
 times_part : (n : ℕ) (part reports : List Reported) → IsSubsequence part reports → times_reported n part ≤ times_reported n reports
 times_part n part [] p = let same = ap (times_reported n) p in omega (arith, same)
 times_part n part (r ∷ rs) p =
@@ -31,7 +31,7 @@ times_part n part (r ∷ rs) p =
     let both = ap (times_reported n) q.1 ∙ count_cons (nat_eq n) r.number (map number q.0) in
     omega (arith, all, few, both)) p
 
--- the taken numbers are those of the reports
+-- the entries of reports have the numbers of the reports
 entry_numbers : (reports : List Reported) → numbers_in (map entry reports) ≡ map (λ r. r.number) reports
 entry_numbers [] = refl
 entry_numbers (r ∷ rs) = ap (λ (l : List ℕ). r.number ∷ l) (entry_numbers rs)
@@ -55,7 +55,7 @@ module _ {lets : ℕ → ℕ → Type 0} {V : Type 0} {contents : V → Option (
     once = h.once;
   }
 
-  -- if the haul is complete, the reports are on all soups
+  -- if the haul is complete, there is one report on each soup of the plan
   pub reports_on_all : AreAll held.terms.ranges (numbers_in held.taken) → AreAll is.opened.over.ranges (map (λ r. r.number) h.reports)
   reports_on_all all n = go (is_in is.opened.over.ranges n) refl
     where

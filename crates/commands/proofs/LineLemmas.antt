@@ -19,7 +19,7 @@ use Rattle.commands.specs.Lines.{HasPiece, HasReadLine, HasReadPart, IsLongerTha
 abbrev IsNotFeed : ℕ → Type 0
 IsNotFeed byte = byte ≢ 10
 
--- the first n bytes of a line to which a piece is added depend only on the first n before, and on the piece
+-- the first `n` bytes of `prefix ++ piece` depend only on the first `n` bytes of `prefix`, and on `piece`
 pub kept_more : (n : ℕ) (prefix piece : List ℕ) → take n (take n prefix ++ piece) ≡ take n (prefix ++ piece)
 kept_more zero prefix piece = refl
 kept_more (suc n) [] piece = refl
@@ -29,7 +29,7 @@ kept_more (suc n) (x ∷ xs) piece = ap (λ l. x ∷ l) (kept_more n xs piece)
 pub kept_short : (n : ℕ) (kept prefix : List ℕ) → kept ≡ take n prefix → length kept ≤ n
 kept_short n kept prefix is = subst (λ (l : List ℕ). length l ≤ n) (sym is) (omega (arith, length-take n prefix))
 
--- one more piece of a line, after the prefix that was read
+-- what holds for the prefix of a line that was read holds after one more piece of the line
 pub read_more : (start old new : Option (List ℕ)) (kept after prefix more : List ℕ) (size : ℕ) (piece : Piece)
     → kept ≡ take (2 ^ 24 + 1) prefix
     → IsOneLine prefix → Consumes start old prefix → size ≡ length prefix → after ≡ take (2 ^ 24 + 1) (kept ++ more)
@@ -55,7 +55,7 @@ long_read most None left read consumed long = tt
 long_read most (Some xs) None read consumed long = absurd consumed
 long_read most (Some xs) (Some ys) read consumed long = let all = ap length consumed ∙ length-append read ys in omega (arith, all, long)
 
--- an input that ends after a prefix of it was read
+-- an input that is spent since `old` is spent since `start`
 pub spent_from : (start old new : Option (List ℕ)) (prefix : List ℕ) → Consumes start old prefix → IsSpent old new → IsSpent start new
 spent_from None old new prefix consumed spent = tt
 spent_from (Some all) None new prefix consumed spent = absurd consumed
@@ -71,7 +71,7 @@ all_read (Some all) (Some left) (Some remainder) read line before now end =
     let whole : all ≡ read ++ (line ++ []) = before ∙ ap (λ l. read ++ l) (now ∙ ap (λ l. line ++ l) end) in
     sym (whole ∙ ap (λ l. read ++ l) (append-nil line))
 
--- one more line, which a line feed ends
+-- `AreEnded` holds after one more line and its line feed
 pub ended_more : (read : List ℕ) (lines : List (List ℕ)) (line : List ℕ) → AreEnded read lines → IsOneLine line
     → AreEnded (read ++ (line ++ 10 ∷ [])) (lines ++ line ∷ [])
 ended_more read lines line before one = record {
@@ -81,7 +81,7 @@ ended_more read lines line before one = record {
   whole = All-push IsOneLine lines line before.whole one;
 }
 
--- a line that a line feed ends is the first line, followed by the lines of the other bytes
+-- the lines of `line`, a line feed and `more` are `line` and then the lines of `more`
 first_line : (line more : List ℕ) → IsOneLine line → input_lines ((line ++ 10 ∷ []) ++ more) ≡ line ∷ input_lines more
 first_line [] more one = refl
 first_line (x ∷ xs) more one =
@@ -89,7 +89,7 @@ first_line (x ∷ xs) more one =
     let remainder = input_lines ((xs ++ 10 ∷ []) ++ more) in
     ap (λ b. cond b ([] ∷ remainder) (begun_with x remainder)) miss ∙ ap (begun_with x) (first_line xs more (All-tail IsNotFeed x xs one))
 
--- the same for several lines
+-- `first_line` for several lines
 ended_lines : (lines : List (List ℕ)) (more : List ℕ) → All IsOneLine lines → input_lines (flat_map (with_end Feed) lines ++ more) ≡ lines ++ input_lines more
 ended_lines [] more whole = refl
 ended_lines (line ∷ lines) more whole =
@@ -105,19 +105,19 @@ bare_line x (y ∷ ys) one =
     ap (λ b. cond b ([] ∷ remainder) (begun_with x remainder)) (ne_eqb x 10 (All-head IsNotFeed x (y ∷ ys) one))
     ∙ ap (begun_with x) (bare_line y ys (All-tail IsNotFeed x (y ∷ ys) one))
 
--- the lines of all that was read, if nothing stands after the last line feed
+-- if the bytes read are ended lines, these are all their lines
 pub lines_ended : (read : List ℕ) (lines : List (List ℕ)) → AreEnded read lines → input_lines (read ++ []) ≡ lines
 lines_ended read lines ended =
     ap (λ l. input_lines (l ++ [])) ended.spelled ∙ ended_lines lines [] ended.whole ∙ append-nil lines
 
--- the lines of all that was read, if a line without a line feed stands after the last line feed
+-- if ended lines and then bytes without a line feed were read, these bytes are the last line
 pub lines_bare : (read : List ℕ) (lines : List (List ℕ)) (line : List ℕ) → AreEnded read lines → IsOneLine line → 0 < length line
     → input_lines (read ++ line) ≡ lines ++ line ∷ []
 lines_bare read lines [] ended one some = absurd (omega (arith, some))
 lines_bare read lines (x ∷ xs) ended one some =
     ap (λ l. input_lines (l ++ x ∷ xs)) ended.spelled ∙ ended_lines lines (x ∷ xs) ended.whole ∙ ap (λ l. lines ++ l) (bare_line x xs one)
 
--- the lines that were read are the first of the input
+-- the ended lines that were read are the first lines of the input
 pub first_lines : (reader left : Option (List ℕ)) (read : List ℕ) (lines : List (List ℕ)) → Consumes reader left read → AreEnded read lines
     → IfSome reader (λ bytes. (more : List (List ℕ)) × (input_lines bytes ≡ lines ++ more))
 first_lines None left read lines consumed ended = tt
@@ -183,13 +183,13 @@ part_kept start old new complaint prefix one consumed same = record {
   cut = no_end complaint;
 }
 
--- a whole line was read before the complaint
+-- a whole line that was read before the complaint is the part that was read
 pub part_of_line : (room : ℕ) (old new : Option (List ℕ)) (kept : List ℕ) (read : LineRead) (complaint : Complaint) → HasReadLine room old new kept read
     → MayEnd complaint (Some read.end) → HasReadPart old new complaint
 part_of_line room old new kept read complaint is cut =
     record { line = is.line; end = Some read.end; one = is.one; consumed = is.consumed; cut = cut }
 
--- ---- what is at hand, and what a reader has left
+-- ---- the bytes that are ahead, and those that a reader has left
 
 -- an input at its end has nothing left, whatever was known before
 spent : (old new : Option (List ℕ)) → IsAtEnd new → IsSpent old new
@@ -215,7 +215,7 @@ piece_taken old left ahead shown next read same piece kept is end =
 
 -- ---- how much was read
 
--- the bytes read from a reader are those used and those ahead
+-- if the bytes used and those ahead are at most `most`, at most `most` bytes were read
 pub with_ahead : (most : ℕ) (old left : Option (List ℕ)) (read ahead : List ℕ) → Consumes old (prepend_known ahead left) read
     → length read + length ahead ≤ most → HasReadAtMost most old left
 with_ahead most old left read ahead consumed few =
@@ -226,13 +226,13 @@ with_ahead most old left read ahead consumed few =
     go (Some xs) None consumed = absurd consumed
     go (Some xs) (Some ys) consumed = consumed ∙ sym (append_assoc read ahead ys)
 
--- a prefix of a line was read, and at most the bytes of one read are ahead
+-- if at most `room` bytes were used and at most `once` are ahead, at most `room + once` bytes were read
 pub little : (room once size : ℕ) (old left : Option (List ℕ)) (read ahead : List ℕ) → Consumes old (prepend_known ahead left) read
     → size ≡ length read → size ≤ room → length ahead ≤ once → HasReadAtMost (room + once) old left
 little room once size old left read ahead consumed is short few =
     with_ahead (room + once) old left read ahead consumed (omega (arith, is, short, few))
 
--- one more piece was taken from the bytes that were ahead
+-- `little` after a piece of `more` bytes was taken from the bytes that were ahead
 pub little_more : (room once size more : ℕ) (old left : Option (List ℕ)) (read ahead : List ℕ) → Consumes old (prepend_known ahead left) read
     → size + more ≡ length read → size ≤ room → more + length ahead ≤ once → HasReadAtMost (room + once) old left
 little_more room once size more old left read ahead consumed is short few =
@@ -242,7 +242,7 @@ little_more room once size more old left read ahead consumed is short few =
 pub less_room : (room size more : ℕ) → 0 < more → size + more ≤ room → room + 1 - (size + more) < room + 1 - size
 less_room room size more some within = omega arith
 
--- bytes that were read after others
+-- if at most `room` bytes were read after `read`, and both are at most `most` bytes, at most `most` bytes were read
 pub after_read : (room most : ℕ) (reader old new : Option (List ℕ)) (read : List ℕ) → Consumes reader old read → length read + room ≤ most
     → HasReadAtMost room old new → HasReadAtMost most reader new
 after_read room most reader old new read consumed few (more, next, short) =

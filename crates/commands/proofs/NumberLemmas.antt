@@ -14,7 +14,7 @@ range_push : (a n : ℕ) → range_with_len a (suc n) ≡ range_with_len a n ++ 
 range_push a zero = ap (λ (k : ℕ). k ∷ []) (sym (add-zero a))
 range_push a (suc n) = ap (λ (more : List ℕ). a ∷ more) (range_push (a + 1) n ∙ ap (λ (k : ℕ). range_with_len (a + 1) n ++ k ∷ []) (omega arith))
 
--- a range with one more number
+-- a range with one more number has the same numbers and then that number
 pub range_more : (a n j : ℕ) → a + n ≡ j → range_with_len a (n + 1) ≡ range_with_len a n ++ j ∷ []
 range_more a n j e = ap (range_with_len a) (add-one n) ∙ range_push a n ∙ ap (λ (k : ℕ). range_with_len a n ++ k ∷ []) e
 

@@ -1,4 +1,4 @@
--- The piece of a line that some bytes have.
+-- The piece of a line at the beginning of some bytes.
 use Rattle.std.proofs.Common.{◌≡◌, ◌≢◌, ◌<◌, ◌≤◌, ◌+◌, ◌∙◌, ◌++◌, ◌==◌, ℕ, zero, suc, false, true}
 use Rattle.std.proofs.Common.{List, [], ◌∷◌, Some, None, ap, append-nil, arith, get_or, length, refl, sym, take}
 use Rattle.std.proofs.lemmas.Bool.{eqb-false, eqb-true}
@@ -8,14 +8,14 @@ use Rattle.memchr.specs.Find.{IsFirstByte, Nowhere, Passes, is_byte}
 use Rattle.commands.specs.declared.lines.LineEnd.TheVariants.{Feed, Input}
 use Rattle.commands.specs.Lines.{IsOneLine, IsPieceOf}
 
--- the bytes before the first line feed have none
+-- if none of the first `n` bytes is a line feed, these bytes are part of one line
 none_before : (bytes : List ℕ) (n : ℕ) → n ≤ length bytes → Nowhere (Passes (is_byte 10) bytes) 0 n → IsOneLine (take n bytes)
 none_before bytes n within nowhere =
     All-from_get_or (λ byte. byte ≢ 10) (take n bytes) 0 (λ i less is.
     let below : i < n = omega (arith, less, length-take n bytes) in
     nowhere i (omega arith) below (ap (λ x. is_byte 10 x) (sym (get_or-take n bytes i 0 below) ∙ is)))
 
--- a line feed ends a piece
+-- the bytes up to the first line feed are a piece that ends its line
 pub ended_piece : (bytes : List ℕ) (n : ℕ) → IsFirstByte (is_byte 10) bytes (Some n) → IsPieceOf bytes (record { length = n; size = n + 1; end = Some Feed })
 ended_piece bytes n first =
     let high = first.0.high in record {
@@ -28,7 +28,7 @@ ended_piece bytes n first =
       some = λ is. cc;
     }
 
--- bytes without a line feed are a piece, if there are any
+-- if there are bytes, but no line feed, all of them are a piece
 pub whole_piece : (bytes : List ℕ) → IsFirstByte (is_byte 10) bytes None → (length bytes == 0) ≡ false
     → IsPieceOf bytes (record { length = length bytes; size = length bytes; end = None })
 whole_piece bytes nowhere there = record {
@@ -45,7 +45,7 @@ whole_piece bytes nowhere there = record {
     go zero not = absurd (not refl)
     go (suc n) not = omega arith
 
--- if there are no bytes, the input has ended
+-- if there are no bytes, the piece is empty and ends with the input
 pub empty_piece : (bytes : List ℕ) → (length bytes == 0) ≡ true → IsPieceOf bytes (record { length = 0; size = 0; end = Some Input })
 empty_piece [] none = record { within = omega arith; bound = omega arith; one = All-nil (λ byte. byte ≢ 10); ended = refl; last = λ is. refl; whole = λ is. cc; some = λ is. cc }
 empty_piece (x ∷ xs) none = let bad : length (x ∷ xs) ≡ 0 = eqb-true (length (x ∷ xs)) 0 none in absurd (omega (arith, bad))

@@ -1,4 +1,4 @@
--- From the steps of `take --report-from` to how it ends.
+-- Lemmas about `take --report-from`: each way in which it ends is right.
 use Rattle.std.proofs.Common.{◌≡◌, ◌≢◌, ◌∙◌, ◌↔◌, ℕ, Bool, List, [], None, Option, Result, Ok, Err, inl, inr, false, length, refl, subst, sym}
 use Rattle.std.specs.Prelude.{IfErr, IfOk, MatchResult, OnOk}
 use Rattle.memory.specs.Witness.{out_of_memory}
@@ -51,12 +51,12 @@ module _ {V : Type 0} {contents : V → Option (List ℕ)} {plan : Plan} {worker
   abbrev pub ReachesReporting : Option (List ℕ) → List ℕ → Outcome → Stream → Type 0
   ReachesReporting reader bytes outcome output = Reaches (reporting_behaviour plan workers from) reader bytes outcome output told_on
 
-  -- while no write has failed, whole lines were added
+  -- if no write has failed, the lines of late soups were added completely
   told_so_far : new.failed ≡ false → TellsLate plan workers from told_on.before told_on.after
   told_so_far fine =
       record { reports = h.heard.reports; are = reports_of_plan is h.heard; written = (h.heard.heard.whole fine).1 }
 
-  -- memory runs out
+  -- out of memory is a right end if no write has failed
   lacks : (reader : Option (List ℕ)) (bytes : List ℕ) (output : Stream) → Has output [] → new.failed ≡ false
       → ReachesReporting reader bytes (Err (Memory out_of_memory)) output
   lacks reader bytes output nothing fine = record {
@@ -66,7 +66,7 @@ module _ {V : Type 0} {contents : V → Option (List ℕ)} {plan : Plan} {worker
     fine = fine;
   }
 
-  -- the crew was stopped
+  -- a complaint that stops the crew is a right end of the command
   pub reporting_gives_up : (reader : Option (List ℕ)) (bytes : List ℕ) (complaint : Complaint) (output : Stream) → StopsReporting new.failed complaint
       → Has output [] → ReachesReporting reader bytes (Err complaint) output
   reporting_gives_up reader bytes (Memory error) output fine nothing = lacks reader bytes output nothing fine
@@ -79,7 +79,7 @@ module _ {V : Type 0} {contents : V → Option (List ℕ)} {plan : Plan} {worker
   reporting_gives_up reader bytes (ReadFailed error) output stops nothing = absurd stops
   reporting_gives_up reader bytes TooLong output stops nothing = absurd stops
 
-  -- nothing stopped it: the haul text is printed, or writing it stops
+  -- if nothing stopped the crew, each way in which writing the haul text ends is a right end of the command
   finishes : (reader : Option (List ℕ)) (bytes : List ℕ) (outcome : Outcome) (output : Stream)
       → (new.failed ≡ false) × IsComplete held.terms.ranges held.taken × AreAll held.terms.ranges (numbers_in held.taken)
       → (length (missing_of held.terms.ranges held.taken) ≡ 0) ↔ IsComplete held.terms.ranges held.taken → Finishes held outcome output
@@ -130,7 +130,7 @@ module _ {V : Type 0} {contents : V → Option (List ℕ)} {plan : Plan} {worker
       go (Err TooLong) not = absurd not
       go (Err (Refused refusal)) not = absurd not
 
--- how the command ends once its haul is open
+-- once the haul is open, each way in which the command ends is right
 pub reporting_ends : {V : Type 0} {contents : V → Option (List ℕ)} {plan : Plan} {workers from : ℕ} {opened held : Held} {old new : Output V}
     (taken : Result (Unit {0}) Complaint) (is : IsOpenedFor plan workers opened) (h : HasReportedBy contents workers from opened held old new taken)
     (reader : Option (List ℕ)) (bytes : List ℕ) (outcome : Outcome) (output : Stream)
@@ -143,7 +143,7 @@ reporting_ends {contents = contents} {plan = plan} {workers = workers} {from = f
     subst (λ (o : Outcome). Reaches (reporting_behaviour plan workers from) reader bytes o output (stream contents old new)) (sym gives_up.0)
     (reporting_gives_up is h reader bytes complaint output h.stops gives_up.1)
 
--- what was printed is the census of the plan
+-- if the command is done, it has printed the census of the plan
 pub reporting_prints : (plan : Plan) (workers from : ℕ) (reader : Option (List ℕ)) (bytes : List ℕ) (status : Status) (output errors : Stream)
     → Ends (reporting_behaviour plan workers from) reader bytes status output errors → status ≡ statuses.Done
     → PrintsCensus plan output.before output.after
@@ -160,7 +160,7 @@ pub fine_if_done : (plan : Plan) (workers from : ℕ) (outcome : Outcome) (outpu
 fine_if_done plan workers from (Ok missing) output errors is = is.fine
 fine_if_done plan workers from (Err complaint) output errors is = tt
 
--- what stops the crew isn't a refusal
+-- a complaint that stops the crew isn't a refusal
 pub not_refused : (failed : Bool) (taken : Result (Unit {0}) Complaint) → IfErr taken (StopsReporting failed)
     → IfErr taken (λ complaint. status_of complaint ≢ statuses.Refused)
 not_refused failed (Ok u) stops = tt
@@ -187,7 +187,7 @@ heard_as hears others turn h = record {
   added = h.added;
 }
 
--- the same for both ways in which a crew ends
+-- `heard_as` for both ways in which a crew ends
 pub heard_by_both : {E : Type 0} (lets : ℕ → ℕ → Type 0) (workers : ℕ) (old : Held) (hears others : List Reported → Type 0)
     → ((reports : List Reported) → hears reports → others reports) → (ended : Result Held (Held × E))
     → MatchResult ended (λ done. HasHeardCrew lets workers old done hears) (λ back. HasHeardCrew lets workers old back.0 hears)
@@ -195,7 +195,7 @@ pub heard_by_both : {E : Type 0} (lets : ℕ → ℕ → Type 0) (workers : ℕ)
 heard_by_both lets workers old hears others turn (Ok done) h = heard_as hears others turn h
 heard_by_both lets workers old hears others turn (Err back) h = heard_as hears others turn h
 
--- how a crew that has reported ended
+-- `HasReportedBy` holds for a crew that has reported, whether or not it was stopped
 pub reported_by : {V : Type 0} {contents : V → Option (List ℕ)} {workers from : ℕ} {opened held : Held} {old new : Output V}
     (failed : Bool) (taken : Result (Unit {0}) Complaint) → HasPutBy contents workers from opened held old new → failed ≡ new.failed
     → IfOk taken (λ _. (failed ≡ false) × IsComplete held.terms.ranges held.taken × AreAll held.terms.ranges (numbers_in held.taken))

@@ -1,4 +1,4 @@
--- What holds of each complaint with which a command ends.
+-- Complaints that aren't refusals.
 use Rattle.std.proofs.Common.{◌≡◌, ◌≢◌, ℕ, List, Result, Ok, Err}
 use Rattle.std.specs.Prelude.{IfErr}
 use Rattle.pattern_commands.specs.declared.ending.complaint.Complaint.{Complaint}
@@ -10,7 +10,7 @@ use Rattle.pattern_commands.specs.Streams.{Stream}
 use Rattle.pattern_commands.specs.TextSteps.{TextOutcome}
 use Rattle.commands.specs.WorkSteps.{Puts, reports_on}
 
--- if a command never refuses, any property holds if it refuses
+-- if a call never refuses, anything follows from its refusal
 pub never_refused : {A : Type 0} (P : Type 0) (r : Result A Complaint) → IfErr r (λ complaint. status_of complaint ≢ Refused)
     → IfErr r (λ complaint. status_of complaint ≡ Refused → P)
 never_refused P (Ok a) accepted = tt

@@ -1,4 +1,4 @@
--- From the steps of `take` to a right answer.
+-- Lemmas about `take`: each way in which it ends is right.
 use Rattle.std.proofs.Common.{◌≡◌, ◌≢◌, ◌∙◌, ◌≤◌, ◌⊎◌, ◌↔◌, ℕ, zero, suc, Bool, true, false, cond, inl, inr, nat_eq, nat_le, not, length}
 use Rattle.std.proofs.Common.{List, [], Option, Result, Ok, Err, All, ap, sym, subst, refl, arith}
 use Rattle.std.specs.Prelude.{Contains, IfErr, IfOk}
@@ -59,7 +59,7 @@ use Rattle.commands.proofs.NumberLemmas.{numbers_within}
 
 -- ---- refusals
 
--- if a set's range list is valid, each refusal of the set needs memory
+-- if a set's range list is valid, finding a refusal of the set needs memory
 refused_needs_memory : (set : SoupSet) (refusal : Refusal) → IsListText set.also → IsRefused set refusal → NeedsMemory (Refused refusal)
 refused_needs_memory set refusal list (Bad_list not_list place fault diagnostics) = absurd (not_list list)
 refused_needs_memory set refusal list (Too_large ranges named large diagnostics) = subst (λ (r : Refusal). NeedsMemory (Refused r)) (sym diagnostics) tt
@@ -102,7 +102,7 @@ Reaches_stopped right (ReadFailed error) output stops nothing = absurd stops
 Reaches_stopped right TooLong output stops nothing = absurd stops
 Reaches_stopped right (WriteFailed error) output stops nothing = absurd stops
 
--- the same for a command whose job is valid
+-- if the job is valid, a complaint about the set stops the command
 pub Stops_given : (plan : Plan) (tells : Job → List Range → List ℕ → Type 0) (job : Job)
     (complaint : Complaint)
     → job_named plan ≡ Ok job → StopsSet plan.set complaint
@@ -171,7 +171,7 @@ Stops_job plan next (ReadFailed error) refused = absurd (job_refused plan (ReadF
 Stops_job plan next TooLong refused = absurd (job_refused plan TooLong refused)
 Stops_job plan next (WriteFailed error) refused = absurd (job_refused plan (WriteFailed error) refused)
 
--- a complaint that may end a command before its haul is open stops it
+-- a complaint that may end a command before its haul is open stops the command
 pub Stops_opening : (plan : Plan) (tells : Job → List Range → List ℕ → Type 0) (complaint : Complaint)
     → StopsOpening plan complaint
     → Stops (IsRightGiven (job_named plan) (λ j. IsRightForSet plan.set (tells j))) complaint
@@ -205,9 +205,9 @@ pub Stops_memory : {workers : ℕ} (plan : Plan) (held : Held)
 Stops_memory plan held is =
     Stops_given plan TellsAll is.job (Memory out_of_memory) is.named (listed plan.set is.opened.over.ranges is.opened.over.named)
 
--- ---- a haul that was opened
+-- ---- small ranges
 
--- ranges that can't be too large are small enough
+-- `AreSmall` holds if it can't be false
 pub small_from : (ranges : List Range) → ((AreSmall ranges → ⊥) → ⊥) → AreSmall ranges
 small_from ranges never = record {
   below = λ k d low. at_most (λ small. small.below k d low);
@@ -221,9 +221,9 @@ small_from ranges never = record {
         go (inl yes_) = leb-true a b yes_
         go (inr no_) = absurd (never (λ small. let less = leb-false a b no_ in let most = says small in omega arith))
 
--- ---- a haul of which something was taken
+-- ---- the soups that a haul has taken
 
--- a missing number is one of the set
+-- each missing number is in the ranges of the set
 pub in_set : (ranges normal : List Range) (taken : List (ℕ × ℕ)) (n : ℕ) → IsNormalForm ranges normal → Contains (missing_of normal taken) n
     → is_in ranges n ≡ true
 in_set ranges normal taken n form missing =
@@ -260,11 +260,11 @@ complete_right job set opened held census open_ h all is = record {
   };
 }
 
--- what the text says of the ranges of a set if some numbers are missing
+-- if numbers are missing, the text is right if the gate may have stopped a worker and the text tells what was taken
 abbrev stopped_text : (may_stop lets : ℕ → ℕ → Type 0) → (workers missing : ℕ) → Job → List Range → List ℕ → Type 0
 stopped_text may_stop lets workers missing job ranges text = MayStop may_stop ranges × TellsTaken lets workers job ranges missing text
 
--- if some numbers are missing, the haul text says what was taken
+-- if numbers are missing, the haul text of what was taken is right
 pub stopped_told : (may_stop lets : ℕ → ℕ → Type 0) (workers : ℕ) (job : Job) (set : SoupSet) (opened held : Held) (census : Census) (missing : ℕ)
     → IsOpened job set workers opened → HasTakenMore opened held → All (λ t. is_in held.terms.ranges t.1 ≡ true) held.taken
     → IsDistinct nat_eq (numbers_in held.taken) → All (IsLetIn lets workers) held.taken → missing ≡ length (missing_of held.terms.ranges held.taken)
@@ -295,7 +295,7 @@ stopped_told may_stop lets workers job set opened held census missing open_ h wi
   );
 }
 
--- the haul text of what was taken is right, with this many numbers missing
+-- the haul text of what was taken is right, whether or not numbers are missing
 taken_told : (may_stop lets : ℕ → ℕ → Type 0) (workers : ℕ) (plan : Plan) (held : Held) (census : Census)
     (missing : ℕ) → IsTaken may_stop lets plan workers held → missing ≡ length (missing_of held.terms.ranges held.taken)
     → (missing ≡ 0) ↔ IsComplete held.terms.ranges held.taken → IsCensusOf held census
@@ -328,7 +328,7 @@ take_stops may_stop lets workers plan reader bytes (ReadFailed error) output err
 take_stops may_stop lets workers plan reader bytes TooLong output errors stops nothing still = absurd stops
 take_stops may_stop lets workers plan reader bytes (WriteFailed error) output errors stops nothing still = absurd stops
 
--- how `take` ends once its haul was finished
+-- each way in which writing the haul text ends is a right end of `take`
 take_finishes : (may_stop lets : ℕ → ℕ → Type 0) (workers : ℕ) (plan : Plan) (reader : Option (List ℕ))
     (bytes : List ℕ) (held : Held) (outcome : Outcome) (output errors : Stream) → IsTaken may_stop lets plan workers held
     → (length (missing_of held.terms.ranges held.taken) ≡ 0) ↔ IsComplete held.terms.ranges held.taken → Finishes held outcome output → IsUntouched errors
@@ -364,7 +364,7 @@ take_finishes may_stop lets workers plan reader bytes held (Err (ReadFailed erro
 take_finishes may_stop lets workers plan reader bytes held (Err TooLong) output errors h none not still = absurd not
 take_finishes may_stop lets workers plan reader bytes held (Err (Refused refusal)) output errors h none not still = absurd not
 
--- the same, or memory ran out before the haul was complete
+-- each way in which the crew ends, and then writing the haul text, is a right end of `take`
 pub take_ends : (may_stop lets : ℕ → ℕ → Type 0) (workers : ℕ) (plan : Plan)
     (reader : Option (List ℕ)) (bytes : List ℕ) (opened held : Held) (taken : Result (Unit {0}) Complaint) (outcome : Outcome) (output errors : Stream)
     → IsOpenedFor plan workers opened → HasTakenMore opened held → All (λ t. is_in held.terms.ranges t.1 ≡ true) held.taken
@@ -405,7 +405,7 @@ never_right may_stop lets workers plan missing text never = go (job_named plan)
     go (Ok job) diagnostics = let stops = diagnostics.is_text.0 in never stops.0 stops.1 stops.3
     go (Err complaint) is = cc
 
--- so `take` with such a gate makes only the text of the complete haul
+-- if a gate stops no worker, `take` makes only the haul text of the complete haul
 never_less : (may_stop lets : ℕ → ℕ → Type 0) (workers : ℕ) (plan : Plan) (made : Made)
     → ((worker n : ℕ) → may_stop worker n → ⊥) → taken_right may_stop lets plan workers (Ok made) → alone (take_right plan) (Ok made)
 never_less may_stop lets workers plan made never is = go made.missing refl is.0
@@ -455,9 +455,9 @@ never_stopped may_stop lets workers plan reader bytes status output errors never
         inl (record { left = (made, never_less may_stop lets workers plan made never right, prefix, diagnostics); cut = is.cut; fine = is.fine })
     go (Err (WriteFailed error)) (inr is) = absurd is.cut
 
--- ---- the same without a behaviour of commands
+-- ---- what `take` prints
 
--- what is right for a plan is the census of its job over its set
+-- a text that is right for a plan is the census of its job over its set
 pub prints_right : (plan : Plan) (text : List ℕ) (before after : Option (List ℕ)) → take_right plan (Ok text)
     → Appends before after text → PrintsCensus plan before after
 prints_right plan text before after right grown = go (job_named plan) refl right
@@ -475,7 +475,7 @@ prints_right plan text before after right grown = go (job_named plan) refl right
     }
     go (Err complaint) is right_for = cc
 
--- no complaint has the status of a command that was done
+-- no complaint has the status `Done`
 pub not_done : (complaint : Complaint) → status_of complaint ≡ statuses.Done → ⊥
 not_done (Refused refusal) is = cc
 not_done (Memory error) is = cc

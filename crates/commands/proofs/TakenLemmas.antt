@@ -52,7 +52,7 @@ map_part {X = X} f a (x ∷ b) s =
     ⊎_elim (λ (h : IsSubsequence a b). inl (map_part f a b h))
     (λ (h : (remainder : List X) × (a ≡ x ∷ remainder) × IsSubsequence remainder b). inr (map f h.0, ap (map f) h.1, map_part f h.0 b h.2)) s
 
--- ---- the first of each number
+-- ---- the first report on each number
 
 pub first_part : (rs : List Reported) → IsSubsequence (first_of_each rs) rs
 first_part [] = refl
@@ -60,7 +60,7 @@ first_part (r ∷ rs) =
     let remainder : List Reported = filter (λ s. not (has_number r.number s)) (first_of_each rs) in
     inr (remainder, refl, part_trans remainder (first_of_each rs) rs (part_filter (λ s. not (has_number r.number s)) (first_of_each rs)) (first_part rs))
 
--- ---- each number once
+-- ---- no number is taken twice
 
 abbrev pub numbers : List Reported → List ℕ
 numbers rs = map (λ (r : Reported). r.number) rs
@@ -130,7 +130,6 @@ taken_once terms arrivals n =
 
 -- ---- what is taken
 
--- something was found
 abbrev is_found : {X : Type 0} → Option X → Bool
 is_found None = false
 is_found (Some x) = true

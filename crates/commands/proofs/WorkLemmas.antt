@@ -1,4 +1,4 @@
--- Reports one after another, and that their lines are those of every right text.
+-- Lemmas about `work`: the lines of reports are written one after another, and they are the only right text.
 use Rattle.std.proofs.Common.{◌≡◌, ◌∙◌, ◌+◌, ◌-◌, ◌<◌, ◌≤◌, ◌++◌, ℕ, zero, suc, Bool, true, false, List, [], ◌∷◌, Option, Ok, Err, flat_map, refl, sym, ap, ap₂}
 use Rattle.std.proofs.Common.{IfErr, length, take, drop, get_or, inr, subst, arith, append_assoc, append-nil, add-zero, zero-add}
 use Rattle.std.proofs.lemmas.List.{take-append-drop, take_more}
@@ -46,18 +46,18 @@ each-append job worker [] ms (r ∷ rs) ss one two = absurd one
 each-append job worker (n ∷ ns) ms [] ss one two = absurd one
 each-append job worker (n ∷ ns) ms (r ∷ rs) ss one two = (one.0, each-append job worker ns ms rs ss one.1 two)
 
--- no numbers need no reports
+-- if no numbers are wanted, nothing needs to be written
 pub puts_nothing : (job : Job) (worker : ℕ) (reader : Option (List ℕ)) (failed : Bool) → failed ≡ false
     → Puts (reports_on job worker []) (Ok tt) (over reader reader failed)
 puts_nothing job worker reader failed fine = record { reports = []; each = tt; is_written = Appends-nil reader; fine = fine }
 
--- memory ran out at the first of the numbers
+-- if memory runs out at the first number, nothing was written
 pub puts_no_memory : (job : Job) (worker : ℕ) (numbers : List ℕ) (reader : Option (List ℕ)) (failed : Bool) (error : OutOfMemory)
     → Puts (reports_on job worker numbers) (Err (Memory error)) (over reader reader failed)
 puts_no_memory job worker numbers reader failed error =
     record { done = []; more = numbers; parts = refl; reports = []; each = tt; is_written = Appends-nil reader }
 
--- a report on one number
+-- if one number is wanted, writing the report on it is enough
 pub puts_one : (job : Job) (worker n : ℕ) (report : Reported) (output : Stream) → IsReportOn job worker n report → Has output (report_text report)
     → output.failed ≡ false → Puts (reports_on job worker (n ∷ [])) (Ok tt) output
 puts_one job worker n report output is wrote fine = record {
@@ -67,7 +67,7 @@ puts_one job worker n report output is wrote fine = record {
   fine = fine;
 }
 
--- a report on one number that could not be written completely
+-- if one number is wanted and writing the report on it fails, a prefix of the report was written
 pub puts_failed : (job : Job) (worker n : ℕ) (report : Reported) (output : Stream) (error : WriteError) → IsReportOn job worker n report → HasPrefix output (report_text report)
     → output.failed ≡ true → Puts (reports_on job worker (n ∷ [])) (Err (WriteFailed error)) output
 puts_failed job worker n report output error is wrote diagnostics = (
@@ -82,7 +82,7 @@ puts_failed job worker n report output error is wrote diagnostics = (
   diagnostics,
 )
 
--- reports on some numbers and then on others
+-- if the reports on `ns` were written, and then `Puts` holds for those on `ms`, it holds for those on `ns ++ ms`
 pub puts_then : (job : Job) (worker : ℕ) (ns ms : List ℕ) (outcome : TextOutcome) (x y z : Option (List ℕ)) (was failed : Bool)
     → Puts (reports_on job worker ns) (Ok tt) (over x y was) → Puts (reports_on job worker ms) outcome (over y z failed)
     → Puts (reports_on job worker (ns ++ ms)) outcome (over x z failed)
@@ -118,7 +118,7 @@ puts_then job worker ns ms (Err (ReadFailed error)) x y z was failed one two = a
 puts_then job worker ns ms (Err TooLong) x y z was failed one two = absurd two
 puts_then job worker ns ms (Err (Refused refusal)) x y z was failed one two = absurd two
 
--- what stops the reports on the first of some numbers stops those on all
+-- a complaint that ends the reports on `ns` ends those on `ns ++ ms`
 pub puts_stops : (job : Job) (worker : ℕ) (ns ms : List ℕ) (complaint : Complaint) (output : Stream)
     → Puts (reports_on job worker ns) (Err complaint) output
     → Puts (reports_on job worker (ns ++ ms)) (Err complaint) output
@@ -155,7 +155,7 @@ range_split a (suc n) k =
     ap (range_with_len a) here
     ∙ ap (λ (more : List ℕ). a ∷ more) (range_split (a + 1) n k ∙ ap (λ (m : ℕ). range_with_len (a + 1) n ++ range_with_len m k) there)
 
--- the reports on one more number of a range
+-- `puts_then` for one more number of a range
 pub puts_next : (job : Job) (worker first number : ℕ) (outcome : TextOutcome) (x y z : Option (List ℕ)) (was failed : Bool) → first ≤ number
     → Puts (reports_on job worker (range_with_len first (number - first))) (Ok tt) (over x y was)
     → Puts (reports_on job worker (number ∷ [])) outcome (over y z failed)
@@ -166,7 +166,7 @@ puts_next job worker first number outcome x y z was failed low one two =
     (sym (range_more first (number - first) number (omega arith)) ∙ ap (range_with_len first) one_more)
     (puts_then job worker (range_with_len first (number - first)) (number ∷ []) outcome x y z was failed one two)
 
--- what stops the reports at one number of a range stops those on the range
+-- a complaint that ends the reports at one number of a range ends those on the range
 pub puts_short : (job : Job) (worker first number count : ℕ) (complaint : Complaint) (output : Stream) → first ≤ number → number < first + count
     → Puts (reports_on job worker (range_with_len first (number + 1 - first))) (Err complaint) output
     → Puts (reports_on job worker (range_with_len first count)) (Err complaint) output
@@ -177,7 +177,7 @@ puts_short job worker first number count complaint output low high h =
     (sym (range_split first k (count - k)) ∙ ap (range_with_len first) whole)
     (puts_stops job worker (range_with_len first k) (range_with_len (first + k) (count - k)) complaint output h)
 
--- the reports on one more of some ranges
+-- `puts_then` for one more range
 pub puts_more : (job : Job) (worker : ℕ) (ranges : List Range) (i : ℕ) (d : Range) (outcome : TextOutcome) (x y z : Option (List ℕ)) (was failed : Bool)
     → i < length ranges → Puts (reports_on job worker (numbers_of (take i ranges))) (Ok tt) (over x y was)
     → Puts (reports_on job worker (numbers_of_range (get_or ranges i d))) outcome (over y z failed)
@@ -189,7 +189,7 @@ puts_more job worker ranges i d outcome x y z was failed more one two =
     ∙ ap (λ (ns : List ℕ). numbers_of (take i ranges) ++ ns) (append-nil (numbers_of_range r))))
     (puts_then job worker (numbers_of (take i ranges)) (numbers_of_range r) outcome x y z was failed one two)
 
--- what stops the reports on the first of some ranges stops those on all
+-- a complaint that ends the reports on the first `k` ranges ends those on all of them
 pub puts_early : (job : Job) (worker : ℕ) (ranges : List Range) (k : ℕ) (complaint : Complaint) (output : Stream)
     → Puts (reports_on job worker (numbers_of (take k ranges))) (Err complaint) output
     → Puts (reports_on job worker (numbers_of ranges)) (Err complaint) output
@@ -198,7 +198,7 @@ puts_early job worker ranges k complaint output h =
     (sym (flat_map-append numbers_of_range (take k ranges) (drop k ranges)) ∙ ap numbers_of (take-append-drop k ranges))
     (puts_stops job worker (numbers_of (take k ranges)) (numbers_of (drop k ranges)) complaint output h)
 
--- ---- there is one right text
+-- ---- there is only one right text
 
 -- two reports of a worker on one soup are equal
 same_report : FindingsAreDetermined → (job : Job) (worker n : ℕ) (r s : Reported) → IsReportOn job worker n r → IsReportOn job worker n s → r ≡ s
@@ -214,7 +214,7 @@ same_report determined job worker n r s one other = λ i. record {
         subst (λ (j : Job). IsFinding j.rule j.profile (soup j.seed n) t.finding) is.job_is
         (subst (λ (k : ℕ). IsFinding t.job.rule t.job.profile (soup t.job.seed k) t.finding) is.number_is is.found.finding)
 
--- reports on the first of some numbers are the first of the reports on all
+-- the reports on `done` are a prefix of the reports on `done ++ more`
 first_reports : FindingsAreDetermined → (job : Job) (worker : ℕ) (done more : List ℕ) (rs all : List Reported) → AreReportsOn job worker done rs
     → AreReportsOn job worker (done ++ more) all → (remainder : List Reported) × (all ≡ rs ++ remainder)
 first_reports determined job worker [] more [] all each every = (all, refl)
@@ -225,7 +225,7 @@ first_reports determined job worker (n ∷ done) more (r ∷ rs) (s ∷ all) eac
     let after = first_reports determined job worker done more rs all each.1 every.1 in
     (after.0, ap₂ (λ (t : Reported) (ts : List Reported). t ∷ ts) (same_report determined job worker n s r every.0 each.0) after.1)
 
--- a right answer is the lines of the reports on these numbers
+-- the answer is the lines of the worker's reports on these numbers
 record AreLines (job : Job) (worker : ℕ) (numbers : List ℕ) (answer : Answer) : Type 0 where
   pub reports : List Reported
   pub each : AreReportsOn job worker numbers reports
@@ -255,7 +255,7 @@ only_text one_form job worker set normal over (Err (ReadFailed error)) is = absu
 only_text one_form job worker set normal over (Err TooLong) is = absurd is
 only_text one_form job worker set normal over (Err (WriteFailed error)) is = absurd is
 
--- the lines of the first reports are a prefix of each right text
+-- if a prefix of the first reports' lines was written, it is a prefix of the right text
 prefix_of : FindingsAreDetermined → (job : Job) (worker : ℕ) (numbers : List ℕ) (answer : Answer) (output : Stream) → AreLines job worker numbers answer
     → IsBegun (reports_on job worker numbers) (HasPrefix output) → HasPrefix output (output_text answer)
 prefix_of determined job worker numbers answer output tells begun =
@@ -267,7 +267,7 @@ prefix_of determined job worker numbers answer output tells begun =
     subst (HasPrefix output) (sym is)
     (AppendsPrefix-longer output.before output.after (flat_map report_text begun.reports) (flat_map report_text remainder.0) begun.is_written)
 
--- whole lines are a prefix of themselves
+-- if the first reports' lines were written completely, a prefix of them was written
 begun_whole : (job : Job) (worker : ℕ) (numbers : List ℕ) (output : Stream)
     → IsBegun (reports_on job worker numbers) (Has output)
     → IsBegun (reports_on job worker numbers) (HasPrefix output)
@@ -280,7 +280,7 @@ begun_whole job worker numbers output begun = record {
   is_written = (flat_map report_text begun.reports, [], sym (append-nil (flat_map report_text begun.reports)), begun.is_written);
 }
 
--- what became of the reports on the soups of a plan is a right end of the command
+-- each way in which the reports on a plan's soups end is a right end of `work`
 pub reaches_work : FindingsAreDetermined → OneNormalForm → (plan : Plan) (worker : ℕ) (job : Job) (normal : List Range)
     (outcome : TextOutcome) (output : Stream) → job_named plan ≡ Ok job → AreNormalRanges plan.set normal
     → Puts (reports_on job worker (numbers_of normal)) outcome output
@@ -323,7 +323,7 @@ reaches_work determined one_form plan worker job normal outcome output named ove
     go (Err TooLong) put = absurd put
     go (Err (Refused refusal)) put = absurd put
 
--- if memory ran out over the soups of a plan, whole lines were written
+-- if memory ran out at a soup of a plan, nothing or only whole lines were written
 pub whole_lines : (plan : Plan) (worker : ℕ) (job : Job) (normal : List Range) (outcome : TextOutcome) (output : Stream)
     → job_named plan ≡ Ok job → AreNormalRanges plan.set normal
     → Puts (reports_on job worker (numbers_of normal)) outcome output

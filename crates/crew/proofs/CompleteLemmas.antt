@@ -1,9 +1,8 @@
 -- If no worker was stopped and memory never ran out, each missing soup was taken.
 --
--- The collector has received as many notes "done" as there are workers, and each worker presents at most one, so it has
--- received exactly one from each worker. This is the worker's last note, so the collector has received all the worker's
--- notes. No worker stopped early, so each was told that no number is left. So all numbers were drawn, and each of them
--- was reported.
+-- The collector has received as many notes "done" as there are workers, and each worker presents at most one, so exactly
+-- one was received from each worker. This is the worker's last note, so all the worker's notes were received. No worker
+-- stopped early, so each went on until no number was left. So all numbers were drawn, and each of them was reported.
 use Rattle.std.proofs.Common.{◌≡◌, ◌<◌, ◌≤◌, ◌+◌, ◌++◌, ◌∙◌, ℕ, zero, suc, All, Bool, true, false, true≢false, List, [], ◌∷◌, ap}
 use Rattle.std.proofs.Common.{◌&&◌, arith, cond, drop, get_or, length, map, nat_eq, nat_le, nat_lt, not, refl, subst, sym}
 use Rattle.std.specs.Prelude.{None, count_by, slice_index}
@@ -48,11 +47,11 @@ done_in notes = count_by is_done notes
 
 -- ---- one note 'done' of each worker was received
 
--- 1 for a note that says that a worker is done
+-- 1 for a note that says that a worker is done, and otherwise 0
 abbrev once_done : Note → ℕ
 once_done note = cond {A = ℕ} (is_done note) 1 0
 
--- if there is at most one note "done" of each worker, there are at most as many as workers
+-- if at most one note "done" was received from each worker, at most `workers` of them were received
 up_to_few : (workers : ℕ) (got : List (ℕ × Note)) → up_to once_done 0 got ≡ 0
     → ((w : ℕ) → 1 ≤ w → w ≤ workers → done_in (notes_of w got) ≤ 1) → up_to once_done workers got ≤ workers
 up_to_few zero got none each = omega (arith, none)
@@ -62,7 +61,7 @@ up_to_few (suc n) got none each =
     let more = up_to_more once_done n got in
     omega (arith, fewer, last, more)
 
--- so if there are as many such notes as workers, there is exactly one of each worker
+-- if at most one note "done" was received from each worker, and `workers` altogether, exactly one is from each worker
 one_of_each : (workers : ℕ) (got : List (ℕ × Note)) → up_to once_done 0 got ≡ 0
     → ((w : ℕ) → 1 ≤ w → w ≤ workers → done_in (notes_of w got) ≤ 1) → up_to once_done workers got ≡ workers
     → (w : ℕ) → 1 ≤ w → w ≤ workers → done_in (notes_of w got) ≡ 1
@@ -78,7 +77,7 @@ one_of_each (suc n) got none each all w some le =
 
 -- ---- all notes of each worker were received
 
--- if a list ends with a note "done", a remainder of it without such a note is empty
+-- if the last note is "done", a remainder without a note "done" is empty
 nothing_after : (prefix remainder body : List Note) (worker : ℕ) → prefix ++ remainder ≡ body ++ Done worker ∷ [] → done_in remainder ≡ 0
     → remainder ≡ []
 nothing_after prefix [] body worker is none = refl
@@ -103,7 +102,7 @@ of_worker P worker (m ∷ ms) all =
     (All-append P (report_in m.1) (reported (notes_of worker ms)) (all_left P (report_in m.1) (reports_in ms) all) more))
     (λ apart. subst (λ (notes : List Note). All P (reported notes)) (sym (notes_other m.0 worker m.1 ms apart)) more)
 
--- what holds for the numbers at the places of each worker holds for the number at each place that some worker drew
+-- if `P` holds for the numbers at the places that each worker drew, it holds for the number at any place that was drawn
 drawn_somewhere : (P : ℕ → Type 0) (missing : List ℕ) (t : ℕ) (results : List WorkerResult)
     → All (λ s. All P (map (slice_index missing) s.pass.numbers)) results
     → 1 ≤ count_by (nat_eq t) (drawn_by_all (map (λ s. s.pass) results)) → P (slice_index missing t)
@@ -116,7 +115,8 @@ drawn_somewhere P missing t (s ∷ ss) all some =
       | no not_here ↦ drawn_somewhere P missing t ss (All-tail Q s ss all) (omega (arith, parts, some, not_here))
     ]
 
--- what is known about a worker that neither lacked memory nor was stopped by its gate
+-- At most one note "done" was received from the worker. If one was, the worker ended because no number was left, and
+-- all its notes were received.
 record IsHeard (got : List (ℕ × Note)) (worker_result : WorkerResult) : Type 0 where
   few : done_in (notes_of worker_result.sender.number got) ≤ 1
   drained : done_in (notes_of worker_result.sender.number got) ≡ 1 → worker_result.end ≡ Drained
@@ -168,7 +168,7 @@ module _ {may_stop lets : ℕ → ℕ → Type 0} {shared : Shared} where
       go CalledOff is = off is
       go (Unstarted error) is = absurd (true≢false (sym (ap lacks_memory is) ∙ not_lacking))
 
--- ---- from all workers to all soups
+-- ---- each drawn number was reported
 
 module _ {may_stop lets : ℕ → ℕ → Type 0} {shared : Shared} (workers : ℕ) (got : List (ℕ × Note)) (results : List WorkerResult)
     (numbers : map (λ (s : WorkerResult). s.sender.number) results ≡ range_with_len 1 workers)
@@ -193,7 +193,7 @@ module _ {may_stop lets : ℕ → ℕ → Type 0} {shared : Shared} (workers : �
       (subst (All P) (sym numbers) (range_within 1 workers workers (omega arith))) k d lt in
       one_received (get_or results k d).sender.number within.0 within.1
 
-  -- each worker was told that no number is left
+  -- each worker ended because no number was left
   pub all_drained : All (λ (s : WorkerResult). s.end ≡ Drained) results
   all_drained k d lt = (all_heard k d lt).drained (one_of_result k d lt)
 
@@ -201,7 +201,7 @@ module _ {may_stop lets : ℕ → ℕ → Type 0} {shared : Shared} (workers : �
   all_received : All (λ (s : WorkerResult). notes_of s.sender.number got ≡ s.sender.notes) results
   all_received k d lt = (all_heard k d lt).whole (one_of_result k d lt)
 
-  -- what holds for all reports that were received holds for the numbers at the places that each worker drew
+  -- what holds for the numbers of all received reports holds for the numbers at the places that each worker drew
   of_result : (P : ℕ → Type 0) → All (λ (r : Reported). P r.number) (reports_in got)
       → All (λ (s : WorkerResult). All P (map (slice_index shared.missing.items) s.pass.numbers)) results
   of_result P all k d lt =
@@ -214,12 +214,12 @@ module _ {may_stop lets : ℕ → ℕ → Type 0} {shared : Shared} (workers : �
       subst (λ (places : List ℕ). All P (map (slice_index shared.missing.items) places)) (sym (worked.all (all_drained k d lt)))
       (subst (All P) worked.reports.numbers (All-map P number (reported s.sender.notes) reports))
 
-  -- so it holds for the number at each place that some worker drew
+  -- what holds for the numbers of all received reports holds for the number at any place that some worker drew
   pub of_all_drawn : (P : ℕ → Type 0) → All (λ (r : Reported). P r.number) (reports_in got) → (t : ℕ)
       → 1 ≤ count_by (nat_eq t) (drawn_by_all (map (λ (s : WorkerResult). s.pass) results)) → P (slice_index shared.missing.items t)
   of_all_drawn P all t some = drawn_somewhere P shared.missing.items t results (of_result P all) some
 
-  -- some worker was told that no number is left
+  -- for some worker, a draw returned `None`
   pub some_heard : 1 ≤ workers → 0 < how_many_heard (map (λ (s : WorkerResult). s.pass) results)
   some_heard some =
       let long : length results ≡ workers = sym (length-map results (λ (s : WorkerResult). s.sender.number)) ∙ ap length numbers ∙ length-range_with_len 1 workers in
@@ -229,9 +229,9 @@ module _ {may_stop lets : ℕ → ℕ → Type 0} {shared : Shared} (workers : �
       let same = length-map results (λ (s : WorkerResult). s.pass) in
       omega (arith, some, long, all, same)
 
--- ---- what is lawful
+-- ---- missing numbers, and workers that were started
 
--- the numbers of the ranges are in the set that they give
+-- the numbers listed from ranges are in these ranges
 numbers_in_set : (ranges : List Range) → All (λ n. is_in ranges n ≡ true) (numbers_of ranges)
 numbers_in_set [] = All-nil (λ n. is_in [] n ≡ true)
 numbers_in_set (r ∷ rs) =
@@ -245,12 +245,12 @@ numbers_in_set (r ∷ rs) =
     (lt-ltb n (r.first + r.count) (omega (arith, here, lt, long)))))
     (λ k d lt. or_right (is_in_range (get_or (numbers_of rs) k d) r) (is_in rs (get_or (numbers_of rs) k d)) (numbers_in_set rs k d lt))
 
--- the missing numbers are in the set
+-- the missing numbers are in the ranges
 missing_in_set : (ranges : List Range) (taken : List (ℕ × ℕ)) → All (λ n. is_in ranges n ≡ true) (missing_of ranges taken)
 missing_in_set ranges taken =
     All-filter (λ n. not (is_taken taken n)) (λ n. is_in ranges n ≡ true) (numbers_of ranges) (numbers_in_set ranges)
 
--- a worker to whom memory was not refused was started
+-- a worker that lacked no memory was started
 not_lacking_started : (ended : End) → lacks_memory ended ≡ false → was_started ended ≡ true
 not_lacking_started Drained h = refl
 not_lacking_started Stopped h = refl
@@ -260,7 +260,7 @@ not_lacking_started (Unstarted error) h = absurd (cc)
 
 -- ---- the whole crew
 
--- what is known when a crew ends, if no worker was stopped and no worker lacked memory
+-- all workers are back, and none was stopped or lacked memory
 module _ {may_stop lets : ℕ → ℕ → Type 0} (shared : Shared) (workers : ℕ) (old new : Crew) (ran : HasRunAll may_stop lets shared old new)
     (begun : old.receiver ≡ deaf shared.belt) (as_many : shared.belt.workers ≡ workers)
     (listed : shared.missing.items ≡ was_missing old.haul) (up : IsStrictlyIncreasing shared.missing.items)

@@ -95,7 +95,7 @@ soups_after r old new rs added h =
     ⊎_elim (λ (same : new ≡ old). subst (λ (held : Held). All (HasSoupOf held) rs) (sym same) h)
     (λ (more : HasAdded (r ∷ []) old new). soups_stay (r ∷ []) old new rs more h) added
 
--- if only the last test of a refusal is left, the soup was taken from some worker
+-- if a haul refuses a report, and each test except the last is passed, the report's soup was taken from some worker
 double_of : (closed job over inside : Bool) (worker : Option ℕ) (reason : OfferError) → closed ≡ false → job ≡ true → over ≡ false
     → inside ≡ true
     → Some reason
@@ -120,7 +120,7 @@ of_worker_taken (t ∷ ts) n w is = go (nat_eq n t.1) is (λ h. of_worker_taken 
     go true found more = refl
     go false found more = more found
 
--- if an open haul refuses a lawful report, and not for memory, the report's soup was already taken
+-- if an open haul refuses a lawful report, and not for lack of memory, the report's soup was already taken
 pub refused_was_taken : (held : Held) (r : Reported) (reason : OfferError) → IsReply (Some reason) (refusal_at held r)
     → (Some reason ≢ Some (Memory out_of_memory)) → HasSoupOf held r
 refused_was_taken held r reason (inr none) answered is_open lawful = absurd (answered none.0)
@@ -152,7 +152,7 @@ collected_none begun = record {
 }
 
 module _ {before after : Collector} {answered : Bool} (c : Collected before after answered) where
-  -- a part of the reports before this one, and this report or nothing, are a part of all reports
+  -- a subsequence of the reports before, followed by this report or nothing, is a subsequence of all reports
   some_more : (r : Reported) (sender : ℕ) (part more : List Reported) → IsSubsequence part (reports_in c.notes)
       → IsSubsequence more (r ∷ [])
       → IsSubsequence (part ++ more) (reports_in (c.notes ++ (sender, Report r) ∷ []))
@@ -160,7 +160,8 @@ module _ {before after : Collector} {answered : Bool} (c : Collected before afte
       subst (λ (l : List Reported). IsSubsequence (part ++ more) l) (sym (reports_push c.notes (sender, Report r)))
       (part_append part (reports_in c.notes) more (r ∷ []) p q)
 
-  -- a report was lost before, and from this one the haul has taken `more`: the report or nothing
+  -- if a report was lost before, one is lost after the next report, whether or not the haul takes that next report
+  -- (`more`)
   lost_more : (r : Reported) (sender : ℕ) (more : List Reported) → IsSubsequence more (r ∷ [])
       → HasLost (reports_in c.notes) c.part before.haul
       → HasLost (reports_in (c.notes ++ (sender, Report r) ∷ [])) (c.part ++ more) before.haul
@@ -176,7 +177,7 @@ module _ {before after : Collector} {answered : Bool} (c : Collected before afte
         eligible = lost.eligible;
       }
 
-  -- the haul after a report, and which reports it has taken
+  -- what the haul has taken after one more report
   record Takes (r : Reported) (sender : ℕ) (new : Held) : Type 0 where
     part : List Reported
     some : IsSubsequence part (reports_in (c.notes ++ (sender, Report r) ∷ []))
@@ -217,7 +218,7 @@ module _ {before after : Collector} {next : Received Note} {answered : Bool} (c 
       g.got ∙ ap (λ (l : List (ℕ × Note)). l ++ (g.sender, note) ∷ []) c.got
       ∙ append_assoc before.receiver.got c.notes ((g.sender, note) ∷ [])
 
-  -- a report that was answered
+  -- `Collected` holds after a report that the haul took or refused
   pub collected_heard : (r : Reported) (new : Held) → GotOne after.receiver next (Report r) → 0 < after.awaited
       → (new ≡ after.haul) ⊎ HasAdded (r ∷ []) after.haul new
       → HasComeAll (r ∷ []) after.haul new → HasSoupOf new r → Collected before (collector_with after.awaited next new) answered
@@ -241,7 +242,7 @@ module _ {before after : Collector} {next : Received Note} {answered : Bool} (c 
         lost = λ no. t.lost (c.lost no);
       }
 
-  -- a report for which there was no memory
+  -- `Collected` holds after a report that was lost because there was no memory for it
   pub collected_unheard : (r : Reported) (new : Held) → GotOne after.receiver next (Report r) → 0 < after.awaited
       → new ≡ after.haul
       → ((arrivals : List Arrival) → StandsFor arrivals after.haul → refusal_of after.haul.terms arrivals r ≡ None)
@@ -271,7 +272,7 @@ module _ {before after : Collector} {next : Received Note} {answered : Bool} (c 
         };
       }
 
-  -- a worker that is done
+  -- `Collected` holds after a note "done"
   pub collected_done : (worker : ℕ) → GotOne after.receiver next (Done worker) → 0 < after.awaited
       → Collected before (collector_with (after.awaited - 1) next after.haul) answered
   collected_done worker g some =
@@ -294,13 +295,14 @@ module _ {before after : Collector} {next : Received Note} {answered : Bool} (c 
 
 -- ---- what an observer was handed
 
--- `hears` is the observer's relation, and its laws are known
+-- `hears s reports t` says that the observer went from `s` to `t` when it was handed the reports. If it was handed one
+-- list and then another, it was handed both lists joined.
 module _ {O : Type 0} (hears : O → List Reported → O → Type 0)
     (hears_more : (s m t : O) (xs ys : List Reported) → hears s xs m → hears m ys t → hears s (xs ++ ys) t) where
   pub heard_none : (pass : Received Note) (s t : O) → hears s [] t → HasHeard pass pass (λ reports. hears s reports t)
   heard_none pass s t nothing = record { notes = []; got = sym (append-nil pass.got); heard = nothing }
 
-  -- the observer was then handed nothing more
+  -- `HasHeard` still holds if the observer is handed nothing more
   pub heard_still : {old new : Received Note} (s m t : O) → HasHeard old new (λ reports. hears s reports m) → hears m [] t
       → HasHeard old new (λ reports. hears s reports t)
   heard_still s m t h nothing = record {
@@ -309,12 +311,12 @@ module _ {O : Type 0} (hears : O → List Reported → O → Type 0)
     heard = subst (λ (l : List Reported). hears s l t) (append-nil (reports_in h.notes)) (hears_more s m t (reports_in h.notes) [] h.heard nothing);
   }
 
-  -- the observer was first handed nothing, and then these reports
+  -- `HasHeard` still holds if the observer was handed nothing before
   pub heard_then : {old new : Received Note} (s m t : O) → hears s [] m → HasHeard old new (λ reports. hears m reports t)
       → HasHeard old new (λ reports. hears s reports t)
   heard_then s m t nothing h = record { notes = h.notes; got = h.got; heard = hears_more s m t [] (reports_in h.notes) nothing h.heard }
 
-  -- the observer was then handed the report in one more note, if there is one
+  -- `HasHeard` holds after one more note if the observer was handed the report in it, or nothing if it has none
   pub heard_note : {old new next : Received Note} (note : Note) (s m t : O) → HasHeard old new (λ reports. hears s reports m)
       → GotOne new next note → hears m (report_in note) t → HasHeard old next (λ reports. hears s reports t)
   heard_note {old} note s m t h g more = record {

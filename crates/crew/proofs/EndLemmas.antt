@@ -19,12 +19,12 @@ use Rattle.crew.specs.declared.take.CrewError.{CrewError}
 use Rattle.crew.specs.declared.take.CrewError.TheVariants as crew_error
 use Rattle.crew.proofs.TakeLemmas.{all_numbers}
 
--- a property of the value, if there is one
+-- `IfSome` holds if the property holds for the value of the option, if it has one
 pub if_some : {X : Type 0} (P : X → Type 0) (o : Option X) → ((x : X) → o ≡ Some x → P x) → IfSome o P
 if_some P None each = tt
 if_some P (Some x) each = each x refl
 
--- how a worker ended, in the terms of contracts
+-- the `WorkerEnd` that corresponds to an `End`
 abbrev kind : End → WorkerEnd
 kind Drained = NoneLeft
 kind Stopped = StoppedByGate
@@ -73,7 +73,7 @@ may_of {may_stop} {lets} shared missing listed s left = go s.end refl
     go CalledOff is = tt
     go (Unstarted error) is = tt
 
--- if a worker was stopped, the error names the first one that was
+-- if a worker was stopped, the error names the first stopped worker
 stopped_of : (stopped : Option ℕ) (lacking : Option OutOfMemory) (error : CrewError) → cause_of stopped lacking ≡ Some error
     → IfSome stopped (λ worker. error ≡ crew_error.Stopped worker)
 stopped_of (Some worker) lacking error is = cc
@@ -85,7 +85,7 @@ memory_of (Some worker) lacking error is = tt
 memory_of None (Some refused) error is = let same : error ≡ crew_error.Memory refused = cc in same
 memory_of None None error is = absurd (cc)
 
--- no worker has begun
+-- the ends of workers with these numbers, of which none has begun
 abbrev never_begun : (numbers : List ℕ) → List (ℕ × WorkerEnd)
 never_begun numbers = map (λ worker. (worker, NeverBegan)) numbers
 
@@ -97,7 +97,7 @@ never_stopped : (numbers : List ℕ) → lowest_stopped (never_begun numbers) �
 never_stopped [] = refl
 never_stopped (n ∷ ns) = never_stopped ns
 
--- there was no memory for what the workers share
+-- `EndsWith` holds if memory ran out before any worker had begun
 pub ends_unbegun : (may_stop lets : ℕ → ℕ → Type 0) (missing : List ℕ) (workers : ℕ) (refused : OutOfMemory)
     → EndsWith may_stop lets missing workers (crew_error.Memory refused)
 ends_unbegun may_stop lets missing workers refused =
@@ -110,7 +110,7 @@ ends_unbegun may_stop lets missing workers refused =
       memory = subst (λ (o : Option ℕ). IfNone o (crew_error.Memory refused ≡ crew_error.Memory out_of_memory)) (sym none) refl;
     }
 
--- the workers of a crew that ran have ended as the error says
+-- `EndsWith` holds for the error of a crew that has run
 pub crew_ends : {may_stop lets : ℕ → ℕ → Type 0} (shared : Shared) (workers : ℕ) (old new : Crew) (ran : HasRunAll may_stop lets shared old new)
     (begun : old.receiver ≡ deaf shared.belt) (as_many : shared.belt.workers ≡ workers)
     (listed : shared.missing.items ≡ was_missing old.haul) (up : IsStrictlyIncreasing shared.missing.items)

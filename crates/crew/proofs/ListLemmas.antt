@@ -13,7 +13,7 @@ use mathlib.Core.Logic.{dite}
 use native.Mathlib.Decide.{ℕ_discrete}
 use Rattle.haul_core.specs.Subsequences.{IsSubsequence}
 
--- ---- parts of a list
+-- ---- subsequences and parts of a list
 
 module _ {X : Type 0} where
   pub part_none : (xs : List X) → IsSubsequence [] xs
@@ -48,13 +48,13 @@ module _ {X : Type 0} (P : X → Type 0) where
       (λ (q : (remainder : List X) × (part ≡ x ∷ remainder) × IsSubsequence remainder xs).
       subst (All P) (sym q.1) (All-cons P x q.0 (All-head P x xs h) (all_part q.0 xs q.2 (All-tail P x xs h)))) p
 
--- a property of all images under f is a property of f x for each item x
+-- if all images under `f` have a property, `f x` has it for each item `x`
 pub all_unmap : {X Y : Type 0} (P : Y → Type 0) (f : X → Y) (xs : List X) → All P (map f xs) → All (λ x. P (f x)) xs
 all_unmap P f [] h = All-nil (λ x. P (f x))
 all_unmap P f (x ∷ xs) h =
     All-cons (λ y. P (f y)) x xs (All-head P (f x) (map f xs) h) (all_unmap P f xs (All-tail P (f x) (map f xs) h))
 
--- the count of a list with one more item
+-- one more item adds 1 to the count if it passes the test
 pub count_cons : {X : Type 0} (p : X → Bool) (x : X) (xs : List X) → count_by p (x ∷ xs) ≡ cond {A = ℕ} (p x) 1 0 + count_by p xs
 count_cons p x xs = sum_by-cons (λ y. cond {A = ℕ} (p y) 1 0) x xs
 
@@ -156,7 +156,7 @@ at_place P missing (u ∷ us) t all some =
 
 -- ---- ranges
 
--- what holds for all numbers of a range holds for each
+-- what holds for all numbers of a range holds for each number from `first` up to, but not including, `first + n`
 pub in_range : (P : ℕ → Type 0) (first n w : ℕ) → All P (range_with_len first n) → first ≤ w → w < first + n → P w
 in_range P first n w all le lt =
     let long = length-range_with_len first n in

@@ -29,7 +29,7 @@ times_append n xs ys =
     let number : Reported → ℕ = λ r. r.number in
     ap (count_by (nat_eq n)) (map-append number xs ys) ∙ count_append (nat_eq n) (map number xs) (map number ys)
 
--- how many reports on a soup a note has
+-- the number of reports on soup `n` in a note
 abbrev pub on : ℕ → Note → ℕ
 on n note = times_reported n (report_in note)
 
@@ -43,7 +43,7 @@ times_received n [] = refl
 times_received n (m ∷ ms) =
     sum_by-cons (λ (k : ℕ × Note). on n k.1) m ms ∙ ap (λ k. on n m.1 + k) (times_received n ms) ∙ sym (times_append n (report_in m.1) (reports_in ms))
 
--- what holds for the number of each report holds for each reported number
+-- what holds for the number of each report holds for a number that is reported
 pub of_reported : (P : ℕ → Type 0) (n : ℕ) (reports : List Reported) → All (λ r. P r.number) reports → 1 ≤ times_reported n reports → P n
 of_reported P n [] all some = absurd (let none : times_reported n [] ≡ 0 = refl in omega (arith, some, none))
 of_reported P n (r ∷ rs) all some =
@@ -67,7 +67,8 @@ once_if_some_below m numbers some n =
     let one = one_at_most (nat_lt n m) in
     omega (arith, below, one)
 
--- in an ascending list, a number occurs at these places at most as often as its own place does
+-- the number at place `t` of an ascending list occurs among the numbers at some places at most as often as `t` among
+-- the places
 module _ (missing : List ℕ) (up : Rises missing) (t : ℕ) (lt : t < length missing) where
   other_number : (p : ℕ) → p < length missing → t ≢ p → slice_index missing t ≢ slice_index missing p
   other_number p below apart same =
@@ -124,7 +125,8 @@ module _ {may_stop lets : ℕ → ℕ → Type 0} (shared : Shared) (got : List 
 
 -- ---- all workers
 
--- the values of the notes that were received from these workers add up to at most the number of times they drew t
+-- if the value of the notes received from each worker is at most the number of times that it drew `t`, that holds for
+-- the sums over all workers
 pub of_workers : (of : Note → ℕ) (t : ℕ) (got : List (ℕ × Note)) (results : List WorkerResult) (first : ℕ)
     → map (λ s. s.sender.number) results ≡ range_with_len (first + 1) (length results)
     → All (λ s. sum_by of (notes_of s.sender.number got) ≤ count_by (nat_eq t) s.pass.numbers) results

@@ -10,12 +10,12 @@ use Rattle.handover.specs.Belts.{notes_of}
 use Rattle.handover.proofs.BeltLemmas.{notes_first, notes_other}
 use Rattle.crew.specs.declared.note.Note.{Note}
 
--- the sum over the notes of the workers up to this one
+-- the sum of `of` over the notes of the workers with numbers up to this one
 abbrev pub up_to : (Note → ℕ) → ℕ → List (ℕ × Note) → ℕ
 up_to of worker [] = 0
 up_to of worker (m ∷ ms) = cond {A = ℕ} (nat_le m.0 worker) (of m.1) 0 + up_to of worker ms
 
--- the sum with one more worker
+-- one more worker adds the sum over its notes
 pub up_to_more : (of : Note → ℕ) (worker : ℕ) (got : List (ℕ × Note))
     → up_to of (suc worker) got ≡ up_to of worker got + sum_by of (notes_of (suc worker) got)
 up_to_more of worker [] = refl

@@ -1,4 +1,4 @@
--- A crew is run a worker at a time.
+-- A crew is run by starting one worker at a time.
 use Rattle.std.proofs.Common.{◌≡◌, ◌≢◌, ◌≤◌, ◌+◌, ◌-◌, ◌++◌, ◌∙◌, ◌<◌, ℕ, All, Bool, true, false, List, [], ◌∷◌, ap}
 use Rattle.std.proofs.Common.{arith, cond, length}
 use Rattle.std.proofs.Common.{map, refl, subst, subst₂, sym}
@@ -37,7 +37,7 @@ left_with crew endpoints started = record {
   lacking = crew.lacking;
 }
 
--- at first all endpoints are there, and no worker is back
+-- `MayRun` holds at the start, when no endpoints were used and no worker is back
 pub ready_first : (shared : Shared) (crew : Crew) (workers : ℕ)
     → All (λ p. p ≡ fresh shared.tickets) crew.endpoints.passes.items → length crew.endpoints.passes.items ≡ workers
     → crew.endpoints.senders.items ≡ map (silent shared.belt.name) (range_with_len 1 workers) → workers ≤ 16 → crew.away ≡ 0
@@ -57,11 +57,11 @@ ready_first shared crew workers passes many senders few away receiver room stopp
       stopped = stopped;
     }
 
--- if memory never ran out, all that was received was answered
+-- the flag `answered` is true if memory never ran out
 pub heard_if : {E : Type 0} (lacking : Option E) → lacking ≡ None → not (is_some lacking) ≡ true
 heard_if lacking none = ap (λ o. not (is_some o)) none
 
--- what the cause says about a crew
+-- if the cause of missing soups is a stopped worker, `stopped` holds this worker
 pub cause_stopped : (stopped : Option ℕ) (lacking : Option OutOfMemory) (worker : ℕ)
     → cause_of stopped lacking ≡ Some (crew_error.Stopped worker) → stopped ≡ Some worker
 cause_stopped (Some first) lacking worker is = cc
@@ -78,7 +78,7 @@ cause_open (Some first) lacking is = absurd (cc)
 cause_open None (Some error) is = absurd (cc)
 cause_open None None is = absurd (cc)
 
--- a test counts as at most 1
+-- a `Bool` as a number is at most 1
 pub one_at_most : (b : Bool) (n : ℕ) → n ≡ bool_byte b → n ≤ 1
 one_at_most true n is = omega (arith, is)
 one_at_most false n is = omega (arith, is)
@@ -87,7 +87,7 @@ one_at_most false n is = omega (arith, is)
 pub not_more : (a b n : ℕ) → n ≡ a + b → b ≤ n
 not_more a b n is = omega arith
 
--- one more worker, for which a thread was started or not
+-- one more worker adds 1 to the number of started workers if a thread was started for it, and otherwise 0
 started_more : (results : List WorkerResult) (worker_result : WorkerResult) (b : Bool) (n : ℕ) → was_started worker_result.end ≡ b → n ≡ bool_byte b
     → how_many_started (results ++ worker_result ∷ []) ≡ how_many_started results + n
 started_more results worker_result b n is byte =
@@ -166,7 +166,7 @@ module _ {may_stop lets : ℕ → ℕ → Type 0} {shared : Shared} where
       sym (length-map ran.results (λ (s : WorkerResult). s.sender.number)) ∙ ap length ran.numbers
       ∙ length-map old.endpoints.senders.items (λ (s : Presented Note). s.number)
 
-  -- once the others are back, there is room for one more pass
+  -- once the other workers are back, there is room for one more pass
   pub pass_room : (next : Endpoints) (crew mid : Crew) (endpoint : Drawn × Presented Note) (started : ℕ) → MayRun shared crew
       → IsTakenOut endpoint crew.endpoints next → HasRunAll may_stop lets shared (left_with crew next started) mid
       → length mid.back.passes.items < vec_capacity mid.back.passes
@@ -179,7 +179,7 @@ module _ {may_stop lets : ℕ → ℕ → Type 0} {shared : Shared} where
       let room = may.back.for_passes in
       omega (arith, senders, back, all, same, room)
 
-  -- once the others are back, there is room for one more sender
+  -- once the other workers are back, there is room for one more sender
   pub sender_room : (next : Endpoints) (crew mid : Crew) (endpoint : Drawn × Presented Note) (started : ℕ) → MayRun shared crew
       → IsTakenOut endpoint crew.endpoints next → HasRunAll may_stop lets shared (left_with crew next started) mid
       → length mid.back.senders.items < vec_capacity mid.back.senders
@@ -193,7 +193,7 @@ module _ {may_stop lets : ℕ → ℕ → Type 0} {shared : Shared} where
       let room = may.back.for_senders in
       omega (arith, senders, back, all, same, room)
 
-  -- no endpoints are left, and the notes of all workers that were started are collected
+  -- `HasRunAll` holds if no endpoints are left and the notes of all started workers were collected
   pub run_none : (crew new : Crew) (answered : Bool) → MayRun shared crew → crew.endpoints.senders.items ≡ []
       → Collected (collector_of crew.away crew) (collector_of 0 new) answered → (new.lacking ≡ None → answered ≡ true)
       → new.back ≡ crew.back → new.stopped ≡ crew.stopped → new.away ≡ crew.away → HasRunAll may_stop lets shared crew new
@@ -215,7 +215,7 @@ module _ {may_stop lets : ℕ → ℕ → Type 0} {shared : Shared} where
             subst (λ (n : ℕ). Collected (collector_of n crew) (collector_of 0 new) answered) same collected;
       }
 
-  -- the others are back, and then the worker that was started first
+  -- `HasRunAll` holds if the other workers are back, and then the worker that was started first
   pub run_more : (next : Endpoints) (crew mid new : Crew) (endpoint : Drawn × Presented Note) (worker_result : WorkerResult) (b : Bool) (started : ℕ)
       → IsTakenOut endpoint crew.endpoints next → HasRunAll may_stop lets shared (left_with crew next started) mid
       → Leaves may_stop lets shared endpoint.1.number worker_result → was_started worker_result.end ≡ b → started ≡ bool_byte b

@@ -1,4 +1,4 @@
--- From what each worker presented to what the haul has taken.
+-- From the notes that each worker presented: which reports the haul has taken, and which an observer was handed.
 use Rattle.std.proofs.Common.{◌≡◌, ◌≢◌, ◌≤◌, ◌+◌, ◌++◌, ◌∙◌, ℕ, zero, suc, Bool, cond, nat_eq, All, List, [], ◌∷◌, ap, arith, drop, filter, get_or, inl, inr}
 use Rattle.std.proofs.Common.{length, map, refl, subst, sym, ⊎_elim}
 use Rattle.std.specs.Prelude.{Contains, IfSome, Option, Some, count_by, slice_index, sum_by}
@@ -96,7 +96,7 @@ received_each {lets = lets} shared got results workers up numbers left whole =
 reported_first : (p : ℕ) (note : Note) (more : List (ℕ × Note)) → reported (notes_of p ((p, note) ∷ more)) ≡ report_in note ++ reported (notes_of p more)
 reported_first p note more = ap reported (notes_first p p note more refl)
 
--- what holds for the reports of each worker holds for each report beside its sender's number
+-- what holds for the reports received from each worker holds for each received report and its sender
 pub all_own : (Q : ℕ → Reported → Type 0) (got : List (ℕ × Note)) (workers : ℕ) → All (λ m. (1 ≤ m.0) × (m.0 ≤ workers)) got
     → ((w : ℕ) → 1 ≤ w → w ≤ workers → All (Q w) (reported (notes_of w got))) → All (λ m. All (Q m.0) (report_in m.1)) got
 all_own Q [] workers few each = All-nil (λ m. All (Q m.0) (report_in m.1))
@@ -119,7 +119,6 @@ all_reports Q P (m ∷ ms) turn all =
     All-append P (report_in m.1) (reports_in ms) (turn m (All-head (λ (n : ℕ × Note). All (Q n.0) (report_in n.1)) m ms all))
     (all_reports Q P ms turn (All-tail (λ (n : ℕ × Note). All (Q n.0) (report_in n.1)) m ms all))
 
--- if all reports were taken, the numbers taken from a worker are those received from it
 by_yes : (w : ℕ) (t : ℕ × ℕ) (ts : List (ℕ × ℕ)) → w ≡ t.0 → taken_by w (t ∷ ts) ≡ t.1 ∷ taken_by w ts
 by_yes w t ts e =
     ap (λ (b : Bool). map (λ (s : ℕ × ℕ). s.1) (cond b (t ∷ filter (λ (s : ℕ × ℕ). nat_eq w s.0) ts) (filter (λ (s : ℕ × ℕ). nat_eq w s.0) ts)))
@@ -149,6 +148,7 @@ taken_part w part (r ∷ rs) p =
     subst (λ (l : List ℕ). IsSubsequence l (taken_by w (map entry rs)))
     (sym (ap (λ (l : List Reported). taken_by w (map entry l)) q.1 ∙ by_no w (entry r) (map entry q.0) apart)) (taken_part w q.0 rs q.2)) p))
 
+-- if all received reports are taken, the numbers taken from a worker are those of the reports received from it
 taken_all : (lets : ℕ → ℕ → Type 0) (job : Job) (missing : List ℕ) (w : ℕ) (got : List (ℕ × Note))
     → All (λ m. All (IsOwn lets job missing m.0) (report_in m.1)) got
     → taken_by w (map entry (reports_in got)) ≡ map (λ r. r.number) (reported (notes_of w got))
@@ -170,7 +170,8 @@ taken_all lets job missing w ((p, Report r) ∷ ms) own =
 
 -- ---- the whole crew
 
--- some of the reports that were received from the workers
+-- Reports by the workers of a crew for its job, on missing numbers that the gate let each worker survey. The numbers of
+-- each worker ascend.
 pub record OfCrew (lets : ℕ → ℕ → Type 0) (workers : ℕ) (job : Job) (missing : List ℕ) (part : List Reported) : Type 0 where
   pub of_job : All (λ r. r.job ≡ job) part
   pub by_workers : All (λ r. (1 ≤ r.worker) × (r.worker ≤ workers)) part
@@ -233,7 +234,7 @@ taken_none lets workers held = record {
   in_order = λ w le ge i j d lt small. absurd (omega arith);
 }
 
--- an observer that was handed nothing, while the haul has taken nothing
+-- `HasHeardCrew` holds if the observer was handed nothing and the haul has taken nothing
 pub crew_heard_none : (lets : ℕ → ℕ → Type 0) (workers : ℕ) (held : Held) (hears : List Reported → Type 0) → hears []
     → HasHeardCrew lets workers held held hears
 crew_heard_none lets workers held hears nothing = record {
@@ -249,7 +250,7 @@ crew_heard_none lets workers held hears nothing = record {
   added = added_none held;
 }
 
--- an observer that was handed nothing before the crew ran and nothing after it
+-- `HasHeardCrew` still holds if the observer was handed nothing before the crew ran and nothing after it
 pub heard_between : {lets : ℕ → ℕ → Type 0} {workers : ℕ} {old new : Held} {O : Type 0} (hears : O → List Reported → O → Type 0)
     → ((s m t : O) (xs ys : List Reported) → hears s xs m → hears m ys t → hears s (xs ++ ys) t) → (begun first last ended : O)
     → hears begun [] first → HasHeardCrew lets workers old new (λ reports. hears first reports last) → hears last [] ended
@@ -290,7 +291,7 @@ silent_numbers name (n ∷ ns) = ap (λ (l : List ℕ). n ∷ l) (silent_numbers
 pub silent_length : (name : TableId) (workers : ℕ) → length (map (silent {N = Note} name) (range_with_len 1 workers)) ≡ workers
 silent_length name workers = length-map (range_with_len 1 workers) (silent {N = Note} name) ∙ length-range_with_len 1 workers
 
--- ---- what it leaves
+-- ---- a crew that has ended
 
 module _ {may_stop lets : ℕ → ℕ → Type 0} {shared : Shared} {old new : Crew} (ran : HasRunAll may_stop lets shared old new) where
   pub belts_of : All (λ (s : Presented Note). s.belt ≡ shared.belt.name) new.back.senders.items
@@ -305,7 +306,7 @@ module _ {may_stop lets : ℕ → ℕ → Type 0} {shared : Shared} {old new : C
       (All-map (λ (p : Drawn). p.series ≡ shared.tickets) (λ (s : WorkerResult). s.pass) ran.results
       (λ k d lt. (ran.left k d lt).worked.series))
 
--- what is known when a crew ends
+-- a crew has ended, and all its workers are back
 module _ {may_stop lets : ℕ → ℕ → Type 0} (shared : Shared) (workers : ℕ) (old new : Crew) (ran : HasRunAll may_stop lets shared old new)
     (begun : old.receiver ≡ deaf shared.belt) (as_many : shared.belt.workers ≡ workers)
     (listed : shared.missing.items ≡ was_missing old.haul) (up : IsStrictlyIncreasing shared.missing.items)
@@ -397,7 +398,7 @@ module _ {may_stop lets : ℕ → ℕ → Type 0} (shared : Shared) (workers : �
           let few : drew ≤ 1 = drawn at.0 in
           omega (arith, all, none, whole, last, same, few)
 
-  -- what an observer was handed
+  -- `HasHeardCrew` holds if an observer was handed the reports among the received notes
   pub crew_heard : (held : Held) → held ≡ new.haul → shared.job ≡ old.haul.terms.job
       → ((t : ℕ) → count_by (nat_eq t) (drawn_by_all new.back.passes.items) ≤ 1) → (hears : List Reported → Type 0)
       → HasHeard old.receiver new.receiver hears → HasHeardCrew lets workers old.haul held hears
@@ -428,7 +429,7 @@ module _ {may_stop lets : ℕ → ℕ → Type 0} (shared : Shared) (workers : �
       (subst (All P) (sym all_numbers) (range_within 1 workers workers (omega arith))) in
       subst (λ (o : Option ℕ). IfSome o P) (sym ran.stopped ∙ is) (of_first_stopped P ran.results (λ k d lt stopped. all k d lt))
 
-  -- the gate may stop the worker that was stopped at a missing number
+  -- if a worker was stopped, its gate may stop it at some missing number
   pub crew_stops : (worker : ℕ) → new.stopped ≡ Some worker → StopsAt may_stop (was_missing old.haul) worker
   crew_stops worker is =
       let P : ℕ → Type 0 = StopsAt may_stop (was_missing old.haul) in

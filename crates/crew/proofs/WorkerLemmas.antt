@@ -60,7 +60,7 @@ module _ {lets : ℕ → ℕ → Type 0} (shared : Shared) where
             (All-push (IsOwnReport lets shared.job sender.number) (reported sender.notes) r h.own own);
       }
 
-  -- the same for the pass after it drew and the sender after it presented the report
+  -- `reported_more` for the pass after it drew and the sender after it presented the report
   pub reported_next : (places now : List ℕ) (sender next : Presented Note) (n : ℕ) (r : Reported)
       → HasReported lets shared places sender
       → All (λ m. m < n) places → n < length shared.missing.items → IsOwnReport lets shared.job sender.number r
@@ -85,12 +85,12 @@ module _ {lets : ℕ → ℕ → Type 0} (shared : Shared) where
         own = subst (All (IsOwnReport lets shared.job sender.number)) (sym whole) h.own;
       }
 
--- a report of a soup that the gate let the worker survey
+-- `IsOwnReport` holds for a worker's report for the job if the gate let the worker survey the soup
 pub own_report : (lets : ℕ → ℕ → Type 0) {job : Job} {worker number sender : ℕ} (r : Reported) → sender ≡ worker → r.worker ≡ worker
     → r.job ≡ job → r.number ≡ number → lets worker number → IsOwnReport lets job sender r
 own_report lets r same mine of is let_in = (mine ∙ sym same, of, subst₂ lets (sym same) (sym is) let_in)
 
--- a report doesn't say that the worker is done
+-- if no note is "done", none is after one more report
 pub not_done_more : (notes now : List Note) (r : Reported) → AreNotDone notes → now ≡ notes ++ Report r ∷ [] → AreNotDone now
 not_done_more notes now r none is = subst AreNotDone (sym is) (All-push (λ note. is_done note ≡ false) notes (Report r) none refl)
 
@@ -98,7 +98,7 @@ not_done_more notes now r none is = subst AreNotDone (sym is) (All-push (λ note
 
 module _ {may_stop lets : ℕ → ℕ → Type 0} (shared : Shared) (worker : ℕ) (old new : Drawn) (sender : Presented Note)
     (series : old.series ≡ shared.tickets) (number : sender.number ≡ worker) (h : HasReported lets shared old.numbers sender) where
-  -- no number is left
+  -- `HasWorked` holds for a worker for which no number was left
   pub worked_drained : new ≡ with_none old → HasWorked may_stop lets shared worker Drained new sender
   worked_drained is = record {
     number = number;
@@ -112,7 +112,7 @@ module _ {may_stop lets : ℕ → ℕ → Type 0} (shared : Shared) (worker : �
     lacks = λ error lacking. absurd (let bad : false ≡ true = ap lacks_memory lacking in cc);
   }
 
-  -- the worker has drawn a number that it doesn't report: its gate stopped it, or memory ran out
+  -- `HasWorked` holds for a worker that has drawn a number and that its gate then stopped
   pub worked_stopped : (n : ℕ) → new ≡ with_drawn n old → StopsAt may_stop shared.missing.items worker
       → HasWorked may_stop lets shared worker Stopped new sender
   worked_stopped n is stops = record {
@@ -141,7 +141,7 @@ module _ {may_stop lets : ℕ → ℕ → Type 0} (shared : Shared) (worker : �
     lacks = λ _ lacking. record { place = n; drawn = ap (λ (p : Drawn). p.numbers) is; below = low; let_in = let_in };
   }
 
--- ---- what a shift leaves
+-- ---- the result of a worker
 
 begun_started : (ended : End) → has_begun ended ≡ true → was_started ended ≡ true
 begun_started Drained h = refl
@@ -151,7 +151,7 @@ begun_started CalledOff h = refl
 begun_started (Unstarted error) h = absurd (cc)
 
 module _ {may_stop lets : ℕ → ℕ → Type 0} (shared : Shared) where
-  -- a worker that was called off
+  -- the result of a worker that was called off
   pub returned_off : (pass : Drawn) (sender : Presented Note) → pass ≡ fresh shared.tickets → sender ≡ silent shared.belt.name sender.number
       → Returns may_stop lets shared sender.number (result_of pass sender CalledOff)
   returned_off pass sender unused still = record {
@@ -173,7 +173,7 @@ module _ {may_stop lets : ℕ → ℕ → Type 0} (shared : Shared) where
     started = refl;
   }
 
-  -- a worker that has worked, and has then said that it is done
+  -- the result of a worker that has worked and then presented a note "done"
   pub returned : (worker : ℕ) (ended : End) (pass : Drawn) (sender now : Presented Note)
       → HasWorked may_stop lets shared worker ended pass sender
       → has_begun ended ≡ true → AreNotDone sender.notes → now ≡ with_note (Done worker) sender
@@ -199,7 +199,7 @@ module _ {may_stop lets : ℕ → ℕ → Type 0} (shared : Shared) where
         started = begun_started ended begun;
       })
 
-  -- the closure of a worker for which no thread could be started was called in its place
+  -- the result of a worker for which no thread could be started, so that its closure was called without one
   pub unstarted : (worker : ℕ) (worker_result : WorkerResult) (error : OutOfMemory) → Returns may_stop lets shared worker worker_result
       → Leaves may_stop lets shared worker (result_of worker_result.pass worker_result.sender (Unstarted error))
   unstarted worker worker_result error h =
@@ -220,9 +220,9 @@ module _ {may_stop lets : ℕ → ℕ → Type 0} (shared : Shared) where
         silent_if = λ off. absurd (let bad : false ≡ true = ap was_started off in cc);
       }
 
--- ---- the first that was stopped
+-- ---- the first worker that was stopped
 
--- one more worker is back
+-- the first stopped worker after one more worker is back
 pub stopped_more : (results : List WorkerResult) (worker_result : WorkerResult)
     → first_stopped (results ++ worker_result ∷ []) ≡ stopped_with (first_stopped results) worker_result.sender.number worker_result.end
 stopped_more [] worker_result = go (was_stopped worker_result.end)
@@ -248,7 +248,7 @@ stopped_is (Memory error) h = absurd (cc)
 stopped_is CalledOff h = absurd (cc)
 stopped_is (Unstarted error) h = absurd (cc)
 
--- what holds for all workers that were stopped holds for the first
+-- what holds for all stopped workers holds for the first of them
 pub of_first_stopped : (P : ℕ → Type 0) (results : List WorkerResult) → All (λ s. s.end ≡ Stopped → P s.sender.number) results
     → IfSome (first_stopped results) P
 of_first_stopped P [] h = tt
@@ -260,7 +260,7 @@ of_first_stopped P (s ∷ ss) h =
     go true is more = All-head (λ t. t.end ≡ Stopped → P t.sender.number) s ss h (stopped_is s.end is)
     go false is more = more
 
--- if there is no first worker that was stopped, none was stopped
+-- if there is no first stopped worker, no worker was stopped
 pub none_stopped : (results : List WorkerResult) → first_stopped results ≡ None → All (λ s. was_stopped s.end ≡ false) results
 none_stopped [] none = All-nil (λ s. was_stopped s.end ≡ false)
 none_stopped (s ∷ ss) none = go (was_stopped s.end) refl none

@@ -324,7 +324,7 @@ module _ {N : Type 0} where
       let prefix = notes_of p.number got in
       ap (λ (l : List N). prefix ++ l) (ap (λ (l : List N). drop (length prefix) l) f.1 ∙ drop_prefix prefix f.0) ∙ sym f.1
 
-  -- the notes left over are the same by the rule and in contracts
+  -- the notes left over according to the rule are those that contracts see
   pub seen_remainder : (passes : List (Presented N)) (v : Share N) → v.senders ≡ []
       → map (left_over v.got) (with_senders passes v).senders ≡ map (left_of v.got) passes
   seen_remainder passes v none =
@@ -341,7 +341,7 @@ module _ {N : Type 0} where
       let e = get_or v.senders k z in
       (notes_of e.0 items, tells k z lt ∙ notes-append e.0 v.got items)
 
-  -- ---- notes taken out of the rest
+  -- ---- notes taken from those that are left
 
   took_one : (got : List (ℕ × N)) (x : ℕ × N) (e : ℕ × List N) → IsPrefix (notes_of e.0 (got ++ x ∷ [])) e.1
       → left_over got e ≡ with_first x.0 x.1 (left_over (got ++ x ∷ []) e)
@@ -386,7 +386,7 @@ module _ {N : Type 0} where
       (ap (λ (l : List N). drop (length prefix) l) (is ∙ sym (append-nil prefix)) ∙ drop_prefix prefix [])
       (left_none got es (All-tail (λ (e : ℕ × List N). e.1 ≡ notes_of e.0 got) e es whole))
 
-  -- if the queue is empty, nothing is left
+  -- if the queue is empty, no notes are left
   pub none_left : (v : Share N) → Held 0 (HoldsTheRest v)
       → NothingLeft (record { workers = v.made; lists = map (left_over v.got) v.senders })
   none_left v (items, none, tells) =

@@ -68,13 +68,13 @@ module _ {X : Type 0} (f : X → ℕ) where
       remainder g (x ∷ xs) (suc i) v at = let h = remainder g xs i v at in omega (arith, sum_by-cons g x xs)
 
 module _ {X : Type 0} (P : X → Type 0) where
-  -- a property of all views, after one of them changed
+  -- if one view is replaced, a property that the others and the new view have holds for all
   pub each_set : (l : List X) (i : ℕ) (w : X) → ((j : ℕ) (u : X) → j ≢ i → get_elem? l j ≡ some u → P u) → P w
       → (j : ℕ) (u : X) → get_elem? (set l i w) j ≡ some u → P u
   each_set l i w others mine j u e =
       ⊎_elim (λ (x : (j ≡ i) × (w ≡ u)). subst P x.1 mine) (λ (x : (j ≢ i) × (get_elem? l j ≡ some u)). others j u x.0 x.1) (at_set l i j w u e)
 
-  -- a property of all views, after one was appended
+  -- if one view is appended, a property that the others and the new view have holds for all
   pub each_push : (l : List X) (w : X) → ((j : ℕ) (u : X) → get_elem? l j ≡ some u → P u) → P w → (j : ℕ) (u : X) → get_elem? (l ++ w ∷ []) j ≡ some u → P u
   each_push l w others mine j u e =
       ⊎_elim (λ (x : get_elem? l j ≡ some u). others j u x) (λ (x : w ≡ u). subst P x mine) (at_snoc l w u j e)

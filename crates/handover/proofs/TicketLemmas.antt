@@ -90,7 +90,7 @@ distinct_of (x ∷ xs) once =
           apart x ys (omega (arith, zeros, sum)),
         )
 
--- if no number occurs more often than `once_below` allows, there are at most as many as the bound
+-- if no number occurs more often than `once_below` allows, the list is at most as long as the bound
 few_below : (m : ℕ) (xs : List ℕ) → ((n : ℕ) → times n xs ≤ once_below m n) → length xs ≤ m
 few_below m xs few =
     length-le_from_distinct_below xs m (distinct_of xs (λ n. let all = few n in let one = once_most n in omega (arith, all, one)))
@@ -140,8 +140,8 @@ begins issue few few_passes = record {
     one zero v e = subst (Fits issue 0) (some-injective _ _ e) (record { marks = omega arith; drained = λ h. absurd (omega arith); spent = λ _. refl })
     one (suc j) v e = absurd (some-ne-none v (sym e))
 
--- what has to be shown of a draw that reads n from the counter: a new holding, and an act that keeps the law and is a
--- draw of n
+-- A thread that reads `n` from the counter can draw: a new holding and an act keep the law, and together they are a
+-- draw that found the counter at `n`.
 abbrev Moves : Issue → ℕ → ℕ → Me (Unit {0}) Holding → State (Unit {0}) Holding → ℕ → Type 0
 Moves issue slots id me s n =
     (w : Holding) × (a : Act (Unit {0})) × Valid s.homes me.1 a × IsLawful issue (stepped s 0 ((n + 1) % 2 ^ 64) id me.1 w a)
@@ -306,7 +306,7 @@ joins issue id v other w s h at apart there =
     was other id b w views apart there = ⊎_elim (λ (x : (other ≡ id) × (b ≡ w)). absurd (apart x.0)) (λ (x : (other ≢ id) ×
         (get_elem? views other ≡ some w)). x.1) (at_set views id other b w there)
 
--- what the kept pass knows in the last state
+-- `KnowsAtEnd` holds for a pass in the last state
 pub closes : (issue : Issue) (id : ℕ) (v : Holding) (s : State (Unit {0}) Holding) (counter : ℕ) → IsLawful issue s → get_elem? s.views id ≡ some v
     → get_elem? s.words 0 ≡ some counter
     → KnowsAtEnd issue v (min counter issue.count)
@@ -344,12 +344,12 @@ joining_more all left old p before now w j is shares marks numbers = record {
       ∙ j.numbers;
 }
 
--- the last state of the counter, as the kept pass sees it
+-- `KnowsAtEnd` holds for the last state of the counter as the kept pass sees it
 pub ended : (issue : Issue) (id : ℕ) (v : Holding) (words : List ℕ) (slots : List (Unit {0})) (counter : ℕ) → Final (Seen (IsLawful issue) id v) words slots
     → get_elem? words 0 ≡ some counter → KnowsAtEnd issue v (min counter issue.count)
 ended issue id v words slots counter f is = closes issue id v f.0 counter f.1.0 f.1.1 (ap (λ (l : List ℕ). get_elem? l 0) f.2 ∙ is)
 
--- what is known at the end about all passes that were handed back
+-- `Gathers` holds for all passes that were handed back
 pub gathers : (issue : Issue) (name : TableId) (left : List Drawn) (first : Drawn) (before after : Holding) (m : ℕ) → before.shares ≡ 1
     → before.marks ≡ cond {A = ℕ} first.heard_none 1 0 → before.numbers ≡ first.numbers → Joining left [] before after → KnowsAtEnd issue after m
     → Gathers (series_of name issue) (left ++ first ∷ []) m

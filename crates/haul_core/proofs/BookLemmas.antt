@@ -24,7 +24,7 @@ use Rattle.survey_core.specs.Jobs.{same_job}
 use Rattle.ranges.specs.Ranges.{is_in}
 use Rattle.haul_core.specs.Reports.{Reported}
 
--- ---- one offer more
+-- ---- one more offer
 
 offered_open : (arrivals : List Arrival) (r : Reported) → has_closing arrivals ≡ false → offered (arrivals ++ Offer r ∷ []) ≡ offered arrivals ++ r ∷ []
 offered_open [] r h = refl
@@ -53,9 +53,8 @@ eligible_unlawful terms arrivals r before lawful =
     ap (filter (is_lawful terms)) (offered_open arrivals r before) ∙ filter-append (is_lawful terms) (offered arrivals) (r ∷ [])
     ∙ ap (λ (b : Bool). eligible terms arrivals ++ cond b (r ∷ []) []) lawful ∙ append-nil (eligible terms arrivals)
 
--- ---- the first of each number
+-- ---- the first report on each number
 
--- the first report of a number is the same among the first reports of each number as among all reports
 other : ℕ → Reported → Bool
 other n s = not (has_number n s)
 
@@ -74,6 +73,7 @@ find_other n m (r ∷ rs) h = go (cases_Bool (has_number m r)) (find_other n m r
         ap (λ (b : Bool). find (has_number n) (cond (not b) (r ∷ filter (λ s. not (has_number m s)) rs) (filter (λ s. not (has_number m s)) rs))) apart
         ∙ ap (λ (o : Option Reported). cond (has_number n r) (Some r) o) remainder
 
+-- the first report on a number is the same among the first reports on each number as among all reports
 pub find_first : (n : ℕ) (rs : List Reported) → find (has_number n) (first_of_each rs) ≡ find (has_number n) rs
 find_first n [] = refl
 find_first n (r ∷ rs) = go (cases_Bool (has_number n r)) (find_first n rs)
@@ -88,7 +88,7 @@ find_first n (r ∷ rs) = go (cases_Bool (has_number n r)) (find_first n rs)
         ap (λ (o : Option Reported). cond (has_number n r) (Some r) o)
         (find_other n r.number (first_of_each rs) (λ e. false≢true (sym apart ∙ eq-eqb n r.number e)) ∙ remainder)
 
--- one more report of a number that wasn't reported yet
+-- a report on a number that wasn't reported yet is added to the first reports
 pub first_new : (rs : List Reported) (r : Reported) → find (has_number r.number) rs ≡ None → first_of_each (rs ++ r ∷ []) ≡ first_of_each rs ++ r ∷ []
 first_new [] r h = refl
 first_new (s ∷ rs) r h = go (λ remainder. first_new rs r remainder) (cases_Bool (has_number r.number s))
@@ -105,7 +105,7 @@ first_new (s ∷ rs) r h = go (λ remainder. first_new rs r remainder) (cases_Bo
         ∙ filter-append (λ t. not (has_number s.number t)) (first_of_each rs) (r ∷ [])
         ∙ ap (λ (b : Bool). filter (λ t. not (has_number s.number t)) (first_of_each rs) ++ cond (not b) (r ∷ []) []) here)
 
--- one more report of a number that was already reported
+-- a report on a number that was already reported doesn't change the first reports
 pub first_old : (rs : List Reported) (r s : Reported) → find (has_number r.number) rs ≡ Some s → first_of_each (rs ++ r ∷ []) ≡ first_of_each rs
 first_old [] r s h = cc
 first_old (x ∷ rs) r s h = go (λ y found. first_old rs r y found) (cases_Bool (has_number r.number x))
@@ -143,7 +143,7 @@ refuses closed job over inside worker =
     else if not inside then Some OutOfRange
     else double worker
 
--- no reason holds
+-- the offer passes each test
 pub record None_holds (closed job over inside : Bool) (worker : Option ℕ) : Type 0 where
   pub not_closed : closed ≡ false
   pub own_job : job ≡ true
@@ -162,7 +162,7 @@ none_holds false true true inside worker e = absurd (cc)
 none_holds false true false false worker e = absurd (cc)
 none_holds false true false true worker e = record { not_closed = refl; own_job = refl; own_worker = refl; in_set = refl; new = double_none worker e }
 
--- why an offer is refused
+-- the kind of reason for which an offer is refused
 pub data Why (closed job over inside : Bool) (worker : Option ℕ) : Type 0 where
   Was_closed : closed ≡ true → Why closed job over inside worker
   Unlawful : closed ≡ false → (job && (not over && inside)) ≡ false → Why closed job over inside worker
@@ -319,7 +319,7 @@ pushed r more same ok = ap (λ (b : Bool). if b then more else same) ok
 pub reason_is : {r s : OfferError} → Some r ≡ Some s → r ≡ s
 reason_is e = cc
 
--- memory ran out for the next arrival, which the book takes
+-- if memory ran out at the next arrival, which the book takes, the haul has received the arrivals before it
 pub stopped_at : {T E : Type 0} (r : Result T E) (before arrivals prefix : List Arrival) (next : Arrival) (more : List Arrival) (held new : Held)
     → arrivals ≡ prefix ++ next ∷ more → new ≡ held → IsTakenNext held.terms (before ++ prefix) (next ∷ []) → StandsFor (before ++ prefix) held
     → OnErr r (StandsForPrefix before arrivals new)

@@ -20,7 +20,7 @@ module _ (held : Held) (count : ℕ) (workers : List (ℕ × ℕ)) (sums : Sums)
       let most = sum_within k.surveys rows are k.sum.few in
       omega (arith, most, long)
 
-  -- fewer than 2^104 objects, since each number is taken at most once and is below 2^40
+  -- fewer than 2^104 objects: at most 2^40 soups were taken, and each has fewer than 2^64
   pub bounded : objects < 2 ^ 104
   bounded =
       let counted = missing_counted held.terms.ranges held.taken k.normal k.within k.distinct in

@@ -1,4 +1,4 @@
--- A claim that agrees with the finding of its soup becomes its only report.
+-- A claim that agrees with the finding of its soup becomes a report, the only one that confirms the claim.
 use Rattle.std.proofs.Common.{◌≡◌, ◌∙◌, ◌+◌, ◌<◌, ◌≤◌, ◌^◌, ◌∷◌, [], ℕ, List, true, ap, arith, inr, sum, sym, subst, refl}
 use Rattle.std.proofs.lemmas.List.Elements.{All-from_recursion, recursion_from_All}
 use Rattle.std.proofs.lemmas.List.Sums.{sum_by-cons}
@@ -21,7 +21,7 @@ use Rattle.haul_core.specs.LawfulClaims.{Claimed, IsClaim, IsCount, IsFound}
 use Rattle.haul_core.specs.Reports.{IsReport, Reported}
 use Rattle.survey_core.proofs.lemmas.JobLemmas.{jobs_decide}
 
--- a lawful report with the wanted job, which is the claim's, and the claim's worker and number
+-- a lawful report with the wanted job, which is also the claim's job, and with the claim's worker and number
 pub record IsMade (claim : Claimed) (wanted : Job) (report : Reported) : Type 0 where
   pub same : same_job claim.job wanted ≡ true
   pub job : report.job ≡ wanted
@@ -29,7 +29,7 @@ pub record IsMade (claim : Claimed) (wanted : Job) (report : Reported) : Type 0 
   pub number : report.number ≡ claim.number
   pub lawful : IsReport report
 
--- the job of such a report is the claim's
+-- a report that was made for a claim has the claim's job
 own_job : (claim : Claimed) (wanted : Job) (report : Reported) → IsMade claim wanted report → report.job ≡ claim.job
 own_job claim wanted report m = m.job ∙ sym ((jobs_decide claim.job wanted).0 m.same)
 
@@ -46,7 +46,7 @@ found_for claim wanted report m =
     subst (λ (job : Job). IsFinding job.rule job.profile (soup job.seed claim.number) report.finding) (own_job claim wanted report m)
     (subst (λ n. IsFinding report.job.rule report.job.profile (soup report.job.seed n) report.finding) m.number m.lawful.finding)
 
--- the report of a right claim is unique
+-- if a report confirms the claim, it is the report that was made
 pub one_report : FindingsAreDetermined → (claim : Claimed) (wanted : Job) (made report : Reported) → IsMade claim wanted made → IsConfirmed claim wanted report
     → made ≡ report
 one_report determined claim wanted made report m k =
@@ -59,7 +59,7 @@ one_report determined claim wanted made report m k =
     let finding = determined made.job.rule made.job.profile (soup made.job.seed made.number) made.finding report.finding m.lawful.finding there in
     λ i. record { job = sym job i; worker = sym worker i; number = sym number i; finding = finding i }
 
--- a claim that is confirmed by a report agrees with the finding that was made
+-- if some report confirms the claim, the claim agrees with the finding that was made
 pub agrees_if_confirmed : FindingsAreDetermined → (claim : Claimed) (wanted : Job) (made report : Reported) → IsMade claim wanted made
     → IsConfirmed claim wanted report → Agrees claim made.finding
 agrees_if_confirmed determined claim wanted made report m k =

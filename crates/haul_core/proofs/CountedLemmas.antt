@@ -23,7 +23,7 @@ Counts = List (List ℕ × ℕ)
 pub counted_first : (line : List ℕ) (start : LineStart) (remainder : Option (List ℕ)) → HasReadStart line start remainder → HasCounts line start [] None remainder
 counted_first line start remainder h = record { lawful = h.lawful; follows = h.follows; settled = h.settled; latest = refl }
 
--- ---- a count more
+-- ---- one more count
 
 found_more : (version : ℕ) (settled : Option WhenSettled) (counts : Counts) (object : List ℕ × ℕ) → settled ≢ None → IsFound version (said_with settled counts)
     → MayFollow (last_code counts) object → IsFound version (said_with settled (counts ++ object ∷ []))
@@ -75,7 +75,7 @@ counted_more line start counts last here field more object h c k e =
       latest = sym (last_code-push counts object);
     }
 
--- ---- a fault
+-- ---- a field that no count may have
 
 pub one_count : (a b : List ℕ × ℕ) → IsCount a → IsCount b → count_field a ≡ count_field b → a ≡ b
 one_count a b h k e =
@@ -148,7 +148,7 @@ counted_bad line start counts last here field more h c none =
     (subst (λ (n : ℕ). IsFound n claim.found) v lawful.found) h.lawful.found k.1 in
     none s.0 (subst (λ (l : Option (List ℕ)). MayFollow l s.0) (sym h.latest) s.1.0) s.1.1)
 
--- ---- the end
+-- ---- the end of the line
 
 pub counted_end : (line : List ℕ) (start : LineStart) (counts : Counts) (last : Option (List ℕ)) → HasCounts line start counts last None
     → claim_line (claimed start counts) ≡ line

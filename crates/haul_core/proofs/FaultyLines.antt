@@ -1,4 +1,4 @@
--- Where a line stops being a claim's: at a field that no claim has there, or at a missing field.
+-- The first fault of a line that isn't a claim's: a field that no claim has at its place, or a missing field.
 use Rattle.std.proofs.Common.{◌≡◌, ◌≢◌, ◌∙◌, ◌+◌, ◌-◌, ◌<◌, ◌≤◌, ◌++◌, ◌==◌, ◌⊎◌, ◌∷◌, ℕ, List, Option, [], Some, None, ap, sym, refl, length, arith, append-nil}
 use Rattle.std.proofs.Common.{append_assoc, codes, drop, flat_map, get_or, inl, inr, length-append, subst, take, true, false, Bool}
 use Rattle.std.proofs.lemmas.List.{length-take-le, take-append-drop}
@@ -15,7 +15,7 @@ use Rattle.haul_core.specs.LawfulClaims.{Claimed, IsClaim, SaidOfSoup}
 use Rattle.haul_core.specs.declared.report.claim.read_start.LineStart.{LineStart}
 use Rattle.haul_core.proofs.SpaceLemmas.{claim_line-lined, fields_lack, begin_spaceless, followed-cons, line_of-lined, one_cut}
 
--- ---- a field more
+-- ---- one more field
 
 spaced_last : (before : List (List ℕ)) (field : List ℕ) → 32 ∷ (followed before ++ field) ≡ flat_map spaced (before ++ field ∷ [])
 spaced_last [] field = ap (λ (t : List ℕ). 32 ∷ t) (sym (append-nil field))
@@ -33,7 +33,7 @@ followed_last (b ∷ before) field remainder =
     followed-cons b before (field ++ 32 ∷ remainder) ∙ ap (λ (t : List ℕ). b ++ 32 ∷ t) (followed_last before field remainder)
     ∙ sym (followed-cons b (before ++ field ∷ []) remainder)
 
--- the line follows its fields past the next field
+-- if a line begins with the fields `before`, and then `field` is cut off, the line begins with `before` and `field`
 pub follows_more : (line : List ℕ) (before : List (List ℕ)) (here field : List ℕ) (more : Option (List ℕ)) → FollowsFields line before (Some here)
     → Cuts 32 here field more
     → FollowsFields line (before ++ field ∷ []) more
@@ -56,7 +56,7 @@ ends : (more : Option (List ℕ)) → (remainder_of more ≡ []) ⊎ has_byte 32
 ends None = inl refl
 ends (Some more) = inr refl
 
--- a field that no lawful claim has there is the first fault
+-- a field that no lawful claim has after the fields before it is the first fault
 pub bad_at : (line : List ℕ) (before : List (List ℕ)) (here field : List ℕ) (more : Option (List ℕ)) → FollowsFields line before (Some here) → Cuts 32 here field more
     → BeginClaim before → ((claim : Claimed) → IsClaim claim → (remainder : List (List ℕ)) → fields_of claim ≡ before ++ field ∷ remainder → ⊥)
     → IsFirstFaultOf line (length line - length here)
@@ -73,7 +73,7 @@ bad_at line before here field more f c b none =
       is = omega (arith, ap length f, length-append (followed before) here);
     })
 
--- a missing field is the first fault
+-- if the line ends where each lawful claim has another field, the missing field is the first fault
 pub lacks_at : (line : List ℕ) (before : List (List ℕ)) (there : List ℕ) → FollowsFields line before None → there ≡ [] → BeginClaim before
     → ((claim : Claimed) → IsClaim claim → fields_of claim ≢ before) → IsFirstFaultOf line (length line - length there)
 lacks_at line [] there f e b none = absurd f
@@ -163,7 +163,7 @@ head_lacks line place head there within h e =
       length-take-le place (head_of own) (omega (arith, head_length own)),
     )))
 
--- one more field of the head was read
+-- if the next field of a line fills the head, one more field of the head has been read
 pub head_more : (line : List ℕ) (place : ℕ) (head next : LineStart) (here field : List ℕ) (more : Option (List ℕ)) → HasHead line place head (Some here)
     → Cuts 32 here field more → HasFilled place head next field → HasHead line (place + 1) next more
 head_more line place head next here field more h c f = record {

@@ -98,7 +98,7 @@ cut_found byte text place e = go (nat_lt (prefix_of byte text) (length text)) re
         ap (λ (k : ℕ). drop k text) next ∙ sym (take_rest text (place + 1)) in
         (c.0 ∙ ap (λ (t : List ℕ). take place text ++ byte ∷ t) remainder, c.1)
 
--- if `position` finds no such byte, the text has none
+-- if `position` doesn't find the byte, the text lacks it
 pub cut_nowhere : (byte : ℕ) (text : List ℕ) → None ≡ position (λ b. b == byte) text → Lacks byte text
 cut_nowhere byte text e = go (nat_lt (prefix_of byte text) (length text)) refl e
   where

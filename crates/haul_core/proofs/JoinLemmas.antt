@@ -69,7 +69,7 @@ size_below bound (r ∷ rs) h below =
     let sum : size_of (r ∷ rs) ≡ r.count + size_of rs = sum_by-cons (λ r. r.count) r rs in
     omega arith
 
--- ---- numbers of both
+-- ---- the numbers taken by both hauls
 
 all-append : (P : ℕ → Type 0) (xs ys : List ℕ) → AllByRecursion P xs → AllByRecursion P ys → AllByRecursion P (xs ++ ys)
 all-append P [] ys h k = k
@@ -114,7 +114,7 @@ distinct_both a b taken others apart h k d e =
     subst (IsDistinct nat_eq) (sym (map-append (λ (t : ℕ × ℕ). t.1) taken others))
     (distinct-append (numbers_in taken) (numbers_in others) d e (other_numbers a b taken others apart h k))
 
--- ---- totals of both
+-- ---- the totals of both hauls
 
 score_both : (sa sb : List Survey) (code : List ℕ) → score_of (sa ++ sb) code ≡ together (together no_score (score_of sa code)) (score_of sb code)
 score_both sa sb code = λ i. record { total = sum i; samples = least i }
@@ -135,7 +135,7 @@ score_both sa sb code = λ i. record { total = sum i; samples = least i }
         ∙ sym (ap (λ (t : List ℕ). with_each t (samples sb code)) (least_of_both [] (map (λ (s : Survey). s.number) (filter (has_object code) sa)))
         ∙ least_of_both (map (λ (s : Survey). s.number) (filter (has_object code) sa)) (map (λ (s : Survey). s.number) (filter (has_object code) sb)))
 
--- the totals of two hauls have sums that don't overflow
+-- the sums of two hauls' totals don't overflow
 pub record HaveRoom (sa sb : Sums) : Type 0 where
   pub scores : (code : List ℕ) → (score_in sa.scores code).total + (score_in sb.scores code).total < 2 ^ 128
   pub unsettled_room : sa.unsettled + sb.unsettled < 2 ^ 64

@@ -16,7 +16,7 @@ use Rattle.haul_core.specs.Scores.{no_score, found_score, score_in, together}
 use Rattle.haul_core.proofs.CensusLemmas.{got, row_before}
 use Rattle.haul_core.proofs.ScoreLemmas.{code_itself, code_same, lookup_append, or_none, pair_written}
 
--- a code's score is replaced by its sum with another score
+-- if a code's score is replaced by its sum with another score, the scores of the other codes don't change
 pub score_set : (scores : List (List ℕ × Score)) (i : ℕ) (before score other : Score) (code : List ℕ)
     → position (pointwise nat_eq code) (keys_of scores) ≡ Some i → found_score scores code ≡ Some before → score ≡ together before other
     → (q : List ℕ) → found_score (set_value_at scores i score) q ≡ cond (pointwise nat_eq code q) (Some (together (score_in scores code) other)) (found_score scores q)

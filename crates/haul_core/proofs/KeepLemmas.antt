@@ -37,7 +37,7 @@ use Rattle.haul_core.specs.Totals.{Survey, count_in, has_object, is_for_good, is
 use Rattle.haul_core.proofs.SampleLemmas.{ascending_push, take_with}
 use Rattle.haul_core.proofs.ScoreLemmas.{score-Extends}
 
--- ---- one survey more
+-- ---- one more survey
 
 -- a count that is found is at least 1
 abbrev pub FoundSome : Option ℕ → Type 0
@@ -102,7 +102,7 @@ total_small surveys code few short =
     (All-weaker (λ s. objects_in s.finding < 2 ^ 64) (λ s. count_in code s.finding ≤ 2 ^ 64) (λ s low. omega (arith, count_small code s.finding)) surveys few) in
     omega arith
 
--- ---- a haul
+-- ---- the invariant of a haul
 
 pub same_length : (held : Held) (count : ℕ) (workers : List (ℕ × ℕ)) (sums : Sums) (k : KeepsBook held count workers sums) → length k.surveys ≡ length held.taken
 same_length held count workers sums k =
@@ -195,7 +195,7 @@ has_room held count workers sums short k =
       for_good_room = omega (arith, k.sum.for_good_sum, count_by-le-length (λ s. is_for_good s.finding) k.surveys);
     }
 
--- the invariant holds after room was made
+-- the invariant still holds after room was made for one more report
 pub keeps_mid : (terms : Terms) (closed : Bool) (taken more_taken : List (ℕ × ℕ)) (count : ℕ) (workers more_workers : List (ℕ × ℕ)) (old new : Sums)
     → more_taken ≡ taken → more_workers ≡ workers → Extends old.scores new.scores → new.unsettled ≡ old.unsettled → new.for_good ≡ old.for_good
     → KeepsBook (record { terms = terms; closed = closed; taken = taken }) count workers old
@@ -216,7 +216,7 @@ keeps_noted terms closed taken new_taken count workers new_workers sums t w r et
     (subst (λ (ws : List (ℕ × ℕ)). KeepsBook (record { terms = terms; closed = closed; taken = taken ++ entry r ∷ [] }) count ws sums)
     (sym (ew ∙ ap (λ (x : ℕ × ℕ). workers ++ x ∷ []) ew')) k)
 
--- the objects of a finding are lawful
+-- the objects of a finding are in ASCII order, each with a count of at least 1
 pub lawful_of : (rule : Numbers) (profile : Settling) (cells : List Cell) (finding : Finding) → IsFinding rule profile cells finding
     → HasLawfulObjects finding
 lawful_of rule profile cells (Settled t objects good) h = h.2.counted.lawful

@@ -1,4 +1,4 @@
--- The three lowest of some numbers, by order and by membership.
+-- `least_three` has the three lowest of some numbers, and it is the only such list.
 use Rattle.std.proofs.Common.{◌≡◌, ◌∙◌, ◌+◌, ◌≤◌, ◌++◌, ◌⊎◌, ℕ, zero, suc, cond, nat_eq, List, [], ◌∷◌, All, append-nil, drop, length, take}
 use Rattle.std.proofs.Common.{ap, arith, inl, inr, refl, sym}
 use Rattle.std.specs.List.{AllByRecursion}

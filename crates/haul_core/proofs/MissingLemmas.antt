@@ -1,4 +1,4 @@
--- Which numbers are taken, by counting.
+-- Taken and missing numbers, by counting how often each number occurs.
 use Rattle.std.proofs.Common.{◌≡◌, ◌∙◌, ◌+◌, ◌-◌, ◌<◌, ◌≤◌, ℕ, zero, suc, Bool, true, false, cond, not, nat_eq, nat_le, nat_lt, ◌&&◌, ◌||◌, List, [], ◌∷◌, ◌++◌}
 use Rattle.std.proofs.Common.{ap, sym, subst, refl, arith, append_assoc, inl, inr, count_by, filter, length, map, zero-add}
 use Rattle.std.specs.Cmp.{both_ways as both_true, nat_cmp_is, nat_eq_equiv}
@@ -229,7 +229,7 @@ all_taken ranges taken within distinct complete n =
     once n (numbers_in taken) distinct
     ∙ ap (λ (b : Bool). cond {A = ℕ} b 1 0) (both_true (is_taken taken n) (is_in ranges n) (taken_in ranges taken within n) (complete n))
 
--- ---- the list of those that are missing
+-- ---- the list of the missing numbers
 
 less : (x y : ℕ) → x < y → nat_cmp x y ≡ Less
 less x y h = sym (nat_cmp_is x y Less h)

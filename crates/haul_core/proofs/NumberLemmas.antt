@@ -31,7 +31,7 @@ sum_ascending f [] = refl
 sum_ascending f (x ∷ xs) =
     sum_with f x (ascending xs) ∙ sum_by-cons f x (ascending xs) ∙ ap (λ (m : ℕ). f x + m) (sum_ascending f xs) ∙ sym (sum_by-cons f x xs)
 
--- ---- ascending lists with the same numbers are one
+-- ---- ascending lists with the same numbers are equal
 
 abbrev pub IsUp : List ℕ → Type 0
 IsUp [] = Unit {0}
@@ -106,7 +106,7 @@ one_up (x ∷ xs) (y ∷ ys) h k same = go (cases_order x y) (one_up xs ys h.1 k
         let both : counted y (x ∷ xs) ≡ counted y (y ∷ ys) = same y in
         absurd (omega arith)
 
--- ---- what the same numbers have in common
+-- ---- what lists with the same numbers have in common
 
 pub same_ascending : (xs ys : List ℕ) → AreSameNumbers xs ys → ascending xs ≡ ascending ys
 same_ascending xs ys same =

@@ -18,7 +18,7 @@ pub with_first : (x : ℕ) (more : List ℕ) → IsAscending (x ∷ more) → wi
 with_first x [] h = refl
 with_first x (y ∷ more) h = with_least x y more h.0
 
--- ---- the least k of the numbers so far are enough
+-- ---- only the `k` lowest of the numbers so far matter
 
 pub take_with : (k n : ℕ) (xs : List ℕ) → take k (with_number n (take k xs)) ≡ take k (with_number n xs)
 take_with zero n xs = refl
@@ -30,9 +30,9 @@ take_with (suc k) n (x ∷ more) = elim (cases_lt x n) [
       ∙ sym (ap (take (suc k)) (with_least n x more least))
 ]
 
--- ---- a number is put in its place among the first of an array
+-- ---- a number is inserted among the first `count` numbers of an array
 
--- the places before `place` are done, those from it on are unchanged, and `left` remains to be inserted
+-- the places before `place` are done, the other places are unchanged, and `left` is still to be inserted
 pub record Putting (old : List ℕ) (count number : ℕ) (numbers : List ℕ) (left place : ℕ) : Type 0 where
   pub long : length numbers ≡ length old
   pub done : take place numbers ++ with_number left (drop place (take count old)) ≡ with_number number (take count old)
@@ -96,7 +96,7 @@ putting_high old count number numbers left place few low h p =
       ascending = ascending_tail kept remainder up;
     }
 
--- ---- the order in which numbers come doesn't matter
+-- ---- the order in which numbers are inserted doesn't matter
 
 pub with_two : (a b : ℕ) (xs : List ℕ) → with_number a (with_number b xs) ≡ with_number b (with_number a xs)
 with_two a b [] = go (cases_order a b)

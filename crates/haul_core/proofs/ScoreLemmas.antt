@@ -20,7 +20,7 @@ use Rattle.survey_core.specs.shapes.Objects.{AreObjects, is_code}
 use Rattle.haul_core.specs.declared.book.scores.Score.{Score}
 use Rattle.haul_core.specs.Scores.{Extends, HasScore, added, no_score, found_score, score_in}
 
--- ---- codes are the same exactly if they are equal
+-- ---- equal codes pass the test `pointwise nat_eq`, and no others do
 
 pub code_same : (a b : List ℕ) → pointwise nat_eq a b ≡ true → a ≡ b
 code_same a b h = (bytes_decides a b).0 h
@@ -31,7 +31,7 @@ code_itself a = (bytes_decides a a).1 refl
 pub code_apart : (a b : List ℕ) → (a ≡ b → ⊥) → pointwise nat_eq a b ≡ false
 code_apart a b h = false_from_ne_true (pointwise nat_eq a b) (λ e. h (code_same a b e))
 
--- ---- a pair is written
+-- ---- a score is written at its place
 
 pub pair_written : {X : Type 0} (scores : List (List ℕ × X)) (i : ℕ) (w : X) (code : List ℕ) → i < length (keys_of scores)
     → pointwise nat_eq code (get_or (keys_of scores) i []) ≡ true → ((k : ℕ) → k < i → pointwise nat_eq code (get_or (keys_of scores) k []) ≡ false)
@@ -69,7 +69,7 @@ pair_written {X} (e ∷ scores) (suc i) w code low hit before q =
         ap (λ (b : Bool). cond b (Some e.1) (lookup (pointwise nat_eq q) (set_value_at scores i w))) other ∙ remainder
         ∙ ap (λ (o : Option X). cond (pointwise nat_eq code q) (Some w) o) (sym (ap (λ (b : Bool). cond b (Some e.1) (lookup (pointwise nat_eq q) scores)) other))
 
--- ---- scores with nothing in them
+-- ---- blank scores
 
 pub lookup_append : {X : Type 0} (test : List ℕ → Bool) (xs ys : List (List ℕ × X)) → lookup test (xs ++ ys) ≡ option_or (lookup test xs) (lookup test ys)
 lookup_append test [] ys = refl
@@ -117,7 +117,7 @@ Extends-then a b c x y = record {
   blank = All-append (λ score. score.1 ≡ no_score) x.more y.more x.blank y.blank;
 }
 
--- scores extend themselves by no scores
+-- unchanged scores extend themselves
 pub Extends-none : (scores : List (List ℕ × Score)) → Extends scores scores
 Extends-none scores = record { more = []; is = sym (append-nil scores); blank = All-nil (λ score. score.1 ≡ no_score) }
 

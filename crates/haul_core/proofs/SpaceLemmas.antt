@@ -33,7 +33,7 @@ abbrev pub Stops : ℕ → List ℕ → Type 0
 Stops byte [] = Unit {0}
 Stops byte (c ∷ remainder) = byte ≡ c
 
--- the text before the first such byte is unique, and so is the remainder
+-- a text is cut in one way into a prefix without the byte and a remainder that is empty or begins with the byte
 pub cut_ends : (byte : ℕ) (x y r s : List ℕ) → Lacks byte x → Lacks byte y → Stops byte r → Stops byte s → x ++ r ≡ y ++ s → (x ≡ y) × (r ≡ s)
 cut_ends byte [] [] r s p q h k e = (refl, e)
 cut_ends byte [] (b ∷ y) [] s p q h k e = absurd (cc)
@@ -50,7 +50,7 @@ cut_ends byte (a ∷ x) (b ∷ y) r s p q h k e =
     let more = cut_ends byte x y r s (or_parts _ _ p).1 (or_parts _ _ q).1 h k remainder in
     (λ i. same i ∷ more.0 i, more.1)
 
--- the same if both texts have the byte
+-- a text that has the byte is cut in one way into a prefix without the byte, the byte and a remainder
 pub cut_once : (byte : ℕ) (x y r s : List ℕ) → Lacks byte x → Lacks byte y → x ++ byte ∷ r ≡ y ++ byte ∷ s → (x ≡ y) × (r ≡ s)
 cut_once byte x y r s p q e =
     let c = cut_ends byte x y (byte ∷ r) (byte ∷ s) p q refl refl e in
@@ -63,7 +63,7 @@ digits_lack byte (d ∷ ds) other h =
     let digit : is_ascii_digit d ≡ true = search (rules) in
     lacks-cons byte d ds (λ e. let same = ap is_ascii_digit e in absurd (cc)) (digits_lack byte ds other (search (rules)))
 
--- no decimal has a byte that isn't a digit
+-- a decimal has only digits
 pub decimal_lacks : (byte n : ℕ) → is_ascii_digit byte ≡ false → n < 2 ^ 64 → Lacks byte (decimal n)
 decimal_lacks byte n other fits = digits_lack byte (decimal n) other (IsDecimal-decimal n fits).digits
 
@@ -237,7 +237,7 @@ pub followed-cons : (b : List ℕ) (before : List (List ℕ)) (x : List ℕ) →
 followed-cons b before x =
     append_assoc (b ++ 32 ∷ []) (followed before) x ∙ append_assoc b (32 ∷ []) (followed before ++ x)
 
--- if a line begins with some fields and then this one, so does its list of fields
+-- if a line begins with the fields `before` and then `field`, its list of fields does too
 pub fields_begin : (before : List (List ℕ)) (g : List ℕ) (gs : List (List ℕ)) (field remainder : List ℕ) → AreSpaceless (g ∷ gs) → AreSpaceless before
     → Lacks 32 field
     → Stops 32 remainder → lined (g ∷ gs) ≡ followed before ++ (field ++ remainder) → (more : List (List ℕ)) × (g ∷ gs ≡ before ++ field ∷ more)

@@ -1,4 +1,5 @@
--- What a line says about the soup: that it didn't settle, or when it did, and in version 2 the mark.
+-- What a line says about the soup: that it didn't settle, or when it did, and in version 2 whether its objects stay for
+-- good (the mark).
 use Rattle.std.proofs.Common.{◌≡◌, ◌≢◌, ◌∙◌, ◌==◌, ◌-◌, ◌≤◌, ◌++◌, ◌⊎◌, ◌∷◌, ℕ, Bool, List, Option, [], Some, None, ap, sym, refl, length, arith, append-nil}
 use Rattle.std.proofs.Common.{append_assoc, codes, decimal, get_or, inl, inr, map, subst, take, true, false}
 use Rattle.std.proofs.lemmas.Fmt.{decimal_injective}
@@ -18,7 +19,8 @@ whole_head : (claim : Claimed) → take 7 (head_of claim) ≡ head_of claim
 unfolding head_fields
 whole_head claim = refl
 
--- if the fields of c are the head of d and then ys, both have the same version, and ys are c's fields about its soup
+-- if the fields of claim `c` are the head of claim `d` and then `ys`, both claims have the same version, and `ys` are
+-- the fields about `c`'s soup
 pub cut_head : (c d : Claimed) (ys : List (List ℕ)) → fields_of c ≡ head_of d ++ ys → (decimal c.version ≡ decimal d.version) × (found_fields c.found ≡ ys)
 unfolding head_fields
 cut_head c d ys e = (cc, cc)

@@ -16,14 +16,14 @@ use Rattle.haul_core.specs.declared.book.census_rows.Row.{Row}
 use Rattle.haul_core.specs.HaulTexts.{ended, haul_lines, haul_text, head_lines, line_of, line_of_numbers, profile_line, range_line, range_lines, sample_line}
 use Rattle.haul_core.specs.HaulTexts.{sample_lines, spaced, sum_lines, text_of, total_line, total_lines}
 
--- the text that is left begins with the text of the next item
+-- the texts of the items from place `i` on are the text of item `i` and then those from place `i + 1` on
 pub text_more : {A : Type 0} (text : A → List ℕ) (xs : List A) (i : ℕ) (x : A) (whole prefix : List ℕ) → i < length xs → x ≡ get_or xs i x
     → whole ≡ prefix ++ flat_map text (drop i xs) → whole ≡ (prefix ++ text x) ++ flat_map text (drop (i + 1) xs)
 text_more text xs i x whole prefix more here is =
     let next = drop_more xs i x more ∙ ap (λ y. y ∷ drop (i + 1) xs) (sym here) in
     is ∙ ap (λ remainder. prefix ++ flat_map text remainder) next ∙ sym (append_assoc prefix (text x) (flat_map text (drop (i + 1) xs)))
 
--- the same, with the item given by its place
+-- `text_more` with the item given by its place
 pub text_more_at : {A : Type 0} (text : A → List ℕ) (xs : List A) (i : ℕ) (d : A) (whole prefix : List ℕ) → i < length xs
     → whole ≡ prefix ++ flat_map text (drop i xs) → whole ≡ (prefix ++ text (get_or xs i d)) ++ flat_map text (drop (i + 1) xs)
 text_more_at text xs i d whole prefix more is =
@@ -36,24 +36,24 @@ text_done text xs i whole prefix past is = sym (is ∙ ap (λ remainder. prefix 
 
 -- ---- a loop that writes a text for each item
 
--- the texts of the items that were passed have been written
+-- `whole` was written, except for the texts of the items from this place on
 abbrev pub HasWritten : {A V : Type 0} → (V → Option (List ℕ)) → Output V → Output V → (A → List ℕ) → List A → ℕ → List ℕ → Type 0
 HasWritten contents old here text xs i whole =
     (prefix : List ℕ) × (whole ≡ prefix ++ flat_map text (drop i xs)) × Writes {E = WriteError} contents old here (Ok tt) prefix
 
 module _ {A V : Type 0} {contents : V → Option (List ℕ)} {old here : Output V} (text : A → List ℕ) (xs : List A) (whole : List ℕ) where
-  -- one more item was written
+  -- `HasWritten` holds after one more item was written
   pub item_more : {new : Output V} (i : ℕ) (x : A) → i < length xs → x ≡ get_or xs i x → HasWritten contents old here text xs i whole
       → Writes {E = WriteError} contents here new (Ok tt) (text x) → HasWritten contents old new text xs (i + 1) whole
   item_more i x more is (prefix, left, wrote) wrote_one = (prefix ++ text x, text_more text xs i x whole prefix more is left, Writes_then wrote wrote_one)
 
-  -- writing stopped at an item that could not be written completely
+  -- writing `whole` has failed if an item could not be written completely
   pub item_stops : {F : Type 0} {new : Output V} {e : WriteError} {r : Result (Unit {0}) F} (i : ℕ) (x : A) → i < length xs → x ≡ get_or xs i x
       → HasWritten contents old here text xs i whole → IsErr r → Writes contents here new (Err e) (text x) → Writes contents old new r whole
   item_stops i x more is (prefix, left, wrote) err stopped =
       Writes_same (sym (text_more text xs i x whole prefix more is left)) (Writes_stops (flat_map text (drop (i + 1) xs)) err (Writes_then wrote stopped))
 
-  -- no item is left
+  -- if no item is left, `whole` was written
   pub items_done : (i : ℕ) → length xs ≤ i → HasWritten contents old here text xs i whole → Writes {E = WriteError} contents old here (Ok tt) whole
   items_done i past (prefix, left, wrote) = Writes_same (text_done text xs i whole prefix past left) wrote
 
@@ -65,7 +65,7 @@ line_spelled text name numbers = ap (λ remainder. (name ++ remainder) ++ codes 
 
 -- ---- the head
 
--- the text of the head after the rule, and after the seed
+-- the text of the head after the rule
 abbrev pub after_rule : Job → List ℕ
 after_rule job = codes "\n@SYMMETRY C1\n" ++ ended (profile_line job.profile)
 

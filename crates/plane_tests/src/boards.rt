@@ -1,5 +1,5 @@
-//! What no clause says about a board: that spaceships are among its small clusters, and that the frontier is as close
-//! as it can be.
+//! Tests of what no clause says about a board: that spaceships are among its small clusters, and that its frontier is
+//! exact, not only a bound.
 use memory::OutOfMemory;
 use plane_core::engine::board::Board;
 use plane_core::plane::cell::Cell;
@@ -19,7 +19,8 @@ OOO........................................................................O...O
 
 const GLIDER: &[u8] = b".O\n..O\nOOO\n";
 
-/// Which diagonal direction each orientation turns to the lower right: the signs of its columns and of its rows.
+/// The orientations, each with the diagonal direction that it turns to the lower right: the sign of the direction's
+/// columns and the sign of its rows.
 const WAYS: [(Orientation, i32, i32); 8] = [
     (Orientation::Same, 1, 1),
     (Orientation::Quarter, 1, -1),
@@ -31,7 +32,7 @@ const WAYS: [(Orientation, i32, i32); 8] = [
     (Orientation::AntiDiagonal, -1, -1),
 ];
 
-/// A board of Life that shows the pattern, if it has room there.
+/// Returns a board of Life, which shows the pattern if it has room for it.
 fn board_of(alloc: Global, pattern: &Pattern) -> Result<Board, OutOfMemory> {
     let life = Rule::life();
     let mut board = Board::large(alloc, &life)?;
@@ -39,7 +40,8 @@ fn board_of(alloc: Global, pattern: &Pattern) -> Result<Board, OutOfMemory> {
     Ok(board)
 }
 
-/// The greatest sum of column and row, each multiplied by its sign, of the cells that aren't in `gone`.
+/// Returns the greatest value of `across` times the column plus `down` times the row, over all cells that are in
+/// `pattern` but not in `gone`, or `None` if there is no such cell.
 fn greatest(pattern: &Pattern, gone: &Pattern, across: i32, down: i32) -> Option<i32> {
     let mut found = None;
     for cell in pattern.cells() {
@@ -54,7 +56,7 @@ fn greatest(pattern: &Pattern, gone: &Pattern, across: i32, down: i32) -> Option
     found
 }
 
-/// Gliders in 500 columns and rows, ten cells from one to the next.
+/// Returns the cells of 50 by 50 gliders, ten cells from one to the next.
 fn gliders(alloc: Global) -> Result<Vec<Cell>, OutOfMemory> {
     let mut cells = Vec::new(alloc);
     for i in 0..2_500_i32 {
@@ -101,7 +103,7 @@ fn nothing_has_no_clusters(rt: HostRuntime) -> Result<(), Fail> {
     Ok(())
 }
 
-// A glider ahead of 2,500 others is found, and all can be taken off at once.
+// A glider ahead of 2,500 others is found, and all gliders can be taken off the board at once.
 #[test]
 fn the_foremost_of_many_gliders_is_found(rt: HostRuntime) -> Result<(), Fail> {
     let mut cells = gliders(rt.alloc())?;

@@ -1,4 +1,5 @@
-//! Tests of `Out`, a writer that remembers a failure, around writers that fail and around a slow writer.
+//! Tests of `Out`, which puts bytes into a writer and remembers a failure: with writers that fail, and with a writer
+//! that takes one byte per write.
 use memory::OutOfMemory;
 use plane_core::output::Out;
 use std::alloc::Global;
@@ -6,8 +7,8 @@ use std::io;
 use std::io::{ErrorKind, Write};
 use std::test::Fail;
 
-/// A writer that takes at most `most` bytes per write, and notes a flush. At write number `bad` it has a fault: an
-/// error of this kind, or, for `None`, it takes nothing.
+/// A writer that takes at most `most` bytes per write, and notes a flush. Write number `bad`, counted from 1, fails
+/// with an error of the kind `fault`, or takes nothing if `fault` is `None`.
 #[derive(Drop)]
 struct Faulty {
     taken: Vec<u8>,
@@ -38,7 +39,8 @@ impl Write for Faulty {
     }
 }
 
-/// A writer that takes at most `most` bytes per write, and has a fault at write number `bad`.
+/// Returns a writer that takes at most `most` bytes per write, and has the fault at write number `bad`. If `bad` is 0,
+/// it has no fault.
 fn writer_with(alloc: Global, most: usize, bad: usize, fault: Option<ErrorKind>) -> Faulty {
     Faulty {
         taken: Vec::new(alloc),
@@ -50,7 +52,7 @@ fn writer_with(alloc: Global, most: usize, bad: usize, fault: Option<ErrorKind>)
     }
 }
 
-/// Puts two pieces, or only the first if that fails, with two bytes per write.
+/// Puts two pieces into a writer that takes at most two bytes per write, or only the first piece if putting it fails.
 fn put_two(alloc: Global, bad: usize, fault: Option<ErrorKind>) -> Out<Faulty> {
     let mut out = Out::new(writer_with(alloc, 2, bad, fault));
     if out.put(b"abc").is_ok() {
@@ -59,7 +61,7 @@ fn put_two(alloc: Global, bad: usize, fault: Option<ErrorKind>) -> Out<Faulty> {
     out
 }
 
-/// What was taken before the write with this number. There are four writes if none fails.
+/// Numbers of writes, each with the bytes that were taken before this write. Without a fault, there are four writes.
 const PREFIXES: [(usize, &[u8]); 5] = [
     (1, b""),
     (2, b"ab"),
@@ -86,7 +88,7 @@ fn stops_at_the_first_fault(rt: HostRuntime) {
     }
 }
 
-/// `count` bytes, each different from the next.
+/// Returns `count` bytes, each different from the next.
 fn bytes(alloc: Global, count: u32) -> Result<Vec<u8>, OutOfMemory> {
     let mut bytes = Vec::new(alloc);
     for number in 0..count {
@@ -95,7 +97,7 @@ fn bytes(alloc: Global, count: u32) -> Result<Vec<u8>, OutOfMemory> {
     Ok(bytes)
 }
 
-// No clause says that a piece isn't given up after many writes.
+// No clause says that `put` doesn't give up a piece after many writes.
 #[test]
 fn puts_a_piece_in_as_many_writes_as_it_takes(rt: HostRuntime) -> Result<(), Fail> {
     let piece = bytes(rt.alloc(), 20_000)?;

@@ -1,4 +1,4 @@
-//! Patterns drawn by hand.
+//! Tests with patterns drawn by hand.
 use plane_core::output::Out;
 use plane_core::plane::orientation::Orientation;
 use plane_core::plane::pattern::Pattern;
@@ -37,7 +37,7 @@ fn turns_in_eight_orientations(rt: HostRuntime) -> Result<(), Fail> {
     Ok(())
 }
 
-// No clause says that `surely_changes` sees any change.
+// No clause says that `surely_changes` is ever `true`.
 #[test]
 fn a_row_of_seven_is_seen_to_change(rt: HostRuntime) -> Result<(), Fail> {
     let seven = Pattern::read_plaintext(rt.alloc(), b"OOOOOOO")?;

@@ -1,5 +1,5 @@
-//! Where cells may be: cells that a list has twice, cells past the bound of the plane, and moves from one pattern to
-//! another.
+//! Tests of cells that a list has twice, of cells past the bound of the plane, and of the displacement from one pattern
+//! to another.
 use crate::sizes::has_made;
 use plane_core::plaintext::PlaintextError;
 use plane_core::plane::cell::Cell;
@@ -11,14 +11,14 @@ use std::test::Fail;
 
 const PAIR: [Cell; 2] = [Cell { y: 0, x: 0 }, Cell { y: 0, x: 1 }];
 
-/// The same cells, one of them doubled, and not in order.
+/// The cells of `PAIR`, not in order and one of them twice.
 const DOUBLED: [Cell; 3] = [
     Cell { y: 0, x: 1 },
     Cell { y: 0, x: 0 },
     Cell { y: 0, x: 1 },
 ];
 
-/// Lists with cells past the bound of a million, and the place of the first of these cells.
+/// Lists with cells past the bound of the plane, each with the index of the first cell past the bound.
 const PAST_THE_BOUND: [(&[Cell], usize); 4] = [
     (&[Cell { y: 0, x: 0 }, Cell { y: 0, x: 1_000_001 }], 1),
     (
@@ -59,7 +59,7 @@ fn takes_cells_once_and_up_to_the_bound(rt: HostRuntime) {
 
 const PAST: Option<PlaceError> = Some(PlaceError::OutOfPlane);
 
-/// Moves of `PAIR`, each with the reason why the pair isn't moved, or `None` if it is.
+/// Displacements (dx, dy), each with the error of moving `PAIR` by it, or `None` if the pair is moved.
 const MOVES: [(i32, i32, Option<PlaceError>); 6] = [
     (999_999, 0, None),
     (1_000_000, 0, PAST),
@@ -69,17 +69,18 @@ const MOVES: [(i32, i32, Option<PlaceError>); 6] = [
     (i32::MAX, i32::MIN, PAST),
 ];
 
-/// Why `PAIR` isn't moved by (dx, dy).
+/// Returns the error of moving `PAIR` by (dx, dy), or `None` if the pair is moved.
 fn error_of_move(alloc: Global, dx: i32, dy: i32) -> Result<Option<PlaceError>, FromCellsError> {
     let pair = Pattern::from_cells(alloc, &PAIR)?;
     Ok(pair.shift(alloc, dx, dy).err())
 }
 
-/// How far to the left and to the right of the middle the two cells of a row are, and why the row isn't turned. If a
-/// box of 1,000,001 columns is moved to the corner, it ends at the bound.
+/// Rows of two cells: how far the cells are to the left and to the right of column 0, and the error of turning the row,
+/// or `None` if the row is turned. The first row has 1,000,001 columns, so its image ends at the bound of the plane.
 const TURNS: [(i32, Option<PlaceError>); 3] = [(500_000, None), (500_001, PAST), (1_000_000, PAST)];
 
-/// Why the row isn't turned.
+/// Returns the error of turning the row of two cells `far` to the left and to the right of column 0, or `None` if the
+/// row is turned.
 fn error_of_turn(alloc: Global, far: i32) -> Result<Option<PlaceError>, FromCellsError> {
     let ends = [
         Cell {
@@ -108,7 +109,8 @@ fn moves_and_turns_up_to_the_bound(rt: HostRuntime) -> Result<(), Fail> {
 
 const BLOCK: &str = "OO\nOO";
 
-/// Two pictures, and the move that makes the second out of the first.
+/// Pairs of pictures, each with the displacement that makes the second picture out of the first, or `None` if no
+/// displacement does this.
 const SHIFTS: [(&str, &str, Option<(i32, i32)>); 4] = [
     ("\n\nOO\nOO", "...OO\n...OO", Some((3, -2))),
     (BLOCK, "OOO", None),
@@ -116,7 +118,7 @@ const SHIFTS: [(&str, &str, Option<(i32, i32)>); 4] = [
     ("", "", Some((0, 0))),
 ];
 
-/// The move that makes the second picture out of the first.
+/// Returns the displacement that makes the second picture out of the first, or `None` if no displacement does this.
 fn move_between(alloc: Global, from: &str, to: &str) -> Result<Option<(i32, i32)>, PlaintextError> {
     let one = Pattern::read_plaintext(alloc, from.as_bytes())?;
     let other = Pattern::read_plaintext(alloc, to.as_bytes())?;

@@ -1,4 +1,5 @@
-//! Runs of many blinkers and gliders: no clause says that there is enough memory for them, or that a run ends in time.
+//! Tests of runs: of many blinkers, of many gliders, and up to the edge. No clause says that there is enough memory for
+//! a run, or that it ends in a reasonable time.
 use memory::OutOfMemory;
 use plane_core::generation::StepError;
 use plane_core::plane::cell::Cell;
@@ -7,7 +8,7 @@ use plane_core::plane::rule::Rule;
 use std::alloc::Global;
 use std::test::Fail;
 
-/// Adds a blinker around a cell.
+/// Adds the cells of a blinker with the middle (x, y).
 fn push_blinker(
     cells: &mut Vec<Cell>,
     x: i32,
@@ -30,7 +31,7 @@ fn push_blinker(
     Ok(())
 }
 
-/// A thousand blinkers on a diagonal, each 250 columns and rows from the next.
+/// Returns a thousand blinkers on a diagonal, each 250 columns and 250 rows from the next.
 fn diagonal(alloc: Global, are_upright: bool) -> Result<Pattern, FromCellsError> {
     let mut cells = Vec::new(alloc);
     let mut at = -125_000_i32;
@@ -41,7 +42,7 @@ fn diagonal(alloc: Global, are_upright: bool) -> Result<Pattern, FromCellsError>
     Pattern::from_cells(alloc, cells.as_slice())
 }
 
-/// Whether a run ends with the cells of a pattern.
+/// Checks whether a run ended with the cells of the pattern `wanted`.
 fn ends_with(ran: Result<Pattern, StepError>, wanted: &Pattern) -> bool {
     match ran {
         Ok(pattern) => pattern.cells() == wanted.cells(),
@@ -49,8 +50,8 @@ fn ends_with(ran: Result<Pattern, StepError>, wanted: &Pattern) -> bool {
     }
 }
 
-// The box of the blinkers has nearly 250,000 columns and rows, and they are too close to each other to be run
-// separately for long.
+// The bounding box of the blinkers has nearly 250,000 columns and as many rows, and the blinkers are too close to each
+// other to be run separately for long.
 #[test]
 fn a_thousand_blinkers_on_a_diagonal_turn(rt: HostRuntime) -> Result<(), Fail> {
     let upright = diagonal(rt.alloc(), true)?;
@@ -60,7 +61,7 @@ fn a_thousand_blinkers_on_a_diagonal_turn(rt: HostRuntime) -> Result<(), Fail> {
     Ok(())
 }
 
-/// Whether a glider that flies to the lower right has a cell in this column and row.
+/// Checks whether the cell (x, y) is in a glider at the origin, which flies to the lower right.
 fn is_in_glider(x: i32, y: i32) -> bool {
     match y {
         0 => x == 1,
@@ -82,13 +83,13 @@ fn glider_cells(alloc: Global) -> Result<Vec<Cell>, OutOfMemory> {
     Ok(cells)
 }
 
-/// Gliders in 100 columns and 60 rows, ten cells from one to the next.
+/// Returns 100 by 60 gliders, ten cells from one to the next.
 fn gliders(alloc: Global) -> Result<Pattern, FromCellsError> {
     let cells = glider_cells(alloc)?;
     Pattern::from_cells(alloc, cells.as_slice())
 }
 
-// A glider moves by one cell in both directions in four generations.
+// In four generations, each glider moves one column to the right and one row down.
 #[test]
 fn six_thousand_gliders_fly(rt: HostRuntime) -> Result<(), Fail> {
     let start = gliders(rt.alloc())?;
@@ -97,8 +98,7 @@ fn six_thousand_gliders_fly(rt: HostRuntime) -> Result<(), Fail> {
     Ok(())
 }
 
-/// The middle of a blinker that reaches the edge of the plane in the next generation, and whether the blinker is
-/// upright.
+/// Blinkers that reach the edge of the plane in the next generation: the middle of each, and whether it is upright.
 const AT_EDGES: [(i32, i32, bool); 4] = [
     (999_999, 0, true),
     (-999_999, 0, true),
@@ -106,14 +106,14 @@ const AT_EDGES: [(i32, i32, bool); 4] = [
     (0, -999_999, false),
 ];
 
-/// A blinker around a cell.
+/// Returns a blinker with the middle (x, y).
 fn blinker(alloc: Global, x: i32, y: i32, is_upright: bool) -> Result<Pattern, FromCellsError> {
     let mut cells = Vec::new(alloc);
     push_blinker(&mut cells, x, y, is_upright)?;
     Pattern::from_cells(alloc, cells.as_slice())
 }
 
-/// Whether a run ends at the edge.
+/// Checks whether a run failed because the pattern touched the edge of the plane.
 fn is_edge(ran: Result<Pattern, StepError>) -> bool {
     match ran {
         Ok(_) => false,

@@ -1,5 +1,5 @@
-//! A run ends correctly, or fails because memory ran out, whichever allocation is refused. `checks/program/memory`
-//! refuses each in turn.
+//! A test that a run ends correctly, or fails because memory ran out, whichever allocation is refused.
+//! `checks/program/memory` runs the test once for each allocation, and refuses that allocation.
 use plane_core::generation::StepError;
 use plane_core::plane::cell::Cell;
 use plane_core::plane::pattern::Pattern;
@@ -18,15 +18,15 @@ const START: [Cell; 8] = [
     Cell { y: 1, x: 900 },
 ];
 
-/// What the blinker is after 201 generations: it is horizontal.
+/// The cells of the blinker after 201 generations, when it is horizontal.
 const BLINKER: [Cell; 3] = [
     Cell { y: 0, x: 899 },
     Cell { y: 0, x: 900 },
     Cell { y: 0, x: 901 },
 ];
 
-// What the glider is after 201 generations: it is 50 cells further in both directions, and looks as it does one
-// generation after the start.
+// The cells of the glider after 201 generations: it looks as it does one generation after the start, 50 columns further
+// to the right and 50 rows further down.
 const GLIDER: [Cell; 5] = [
     Cell { y: 51, x: 50 },
     Cell { y: 51, x: 52 },
@@ -35,7 +35,7 @@ const GLIDER: [Cell; 5] = [
     Cell { y: 53, x: 51 },
 ];
 
-/// Whether a pattern has the cells that the glider and the blinker become, and no others.
+/// Checks whether a pattern has the cells of `BLINKER` and `GLIDER`, and no others.
 fn is_right(pattern: &Pattern) -> bool {
     pattern.population() == 8
         && BLINKER.iter().all(|cell| pattern.has(cell.x, cell.y))

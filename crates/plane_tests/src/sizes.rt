@@ -1,4 +1,5 @@
-//! Each call that takes memory, once on nothing and once on 100,000 cells: no clause says that there is enough memory.
+//! Tests of the calls that take memory, with no cells and with 100,000 cells: no clause says that there is enough
+//! memory.
 use memory::OutOfMemory;
 use plane_core::output::Out;
 use plane_core::plane::bounds::Bounds;
@@ -13,7 +14,8 @@ const WIDTH: i32 = 998;
 
 const HEIGHT: i32 = 398;
 
-/// Blocks in 250 columns and 100 rows, two empty cells apart: a still life of 100,000 cells.
+/// Checks whether the cell (x, y) of the field is alive. The field has 250 by 100 blocks, two empty cells apart: a
+/// still life of 100,000 cells.
 fn is_in_block(x: i32, y: i32) -> bool {
     x % 4 < 2 && y % 4 < 2
 }
@@ -35,7 +37,7 @@ fn field(alloc: Global) -> Result<Pattern, FromCellsError> {
     Pattern::from_cells(alloc, cells.as_slice())
 }
 
-/// The field in plaintext.
+/// Returns the field in plaintext.
 fn field_text(alloc: Global) -> Result<Vec<u8>, OutOfMemory> {
     let mut text = Vec::new(alloc);
     for y in 0..HEIGHT {
@@ -47,7 +49,7 @@ fn field_text(alloc: Global) -> Result<Vec<u8>, OutOfMemory> {
     Ok(text)
 }
 
-/// Whether a call made a pattern with these cells.
+/// Checks whether a call made a pattern with these cells.
 pub(crate) fn has_made<E: Drop>(made: Result<Pattern, E>, cells: &[Cell]) -> bool {
     match made {
         Ok(pattern) => pattern.cells() == cells,
@@ -102,7 +104,7 @@ const STANDING: Bounds = Bounds {
     bottom: 997,
 };
 
-/// The box of the field's image.
+/// Returns the bounding box of the field's image in an orientation, in the corner.
 fn image_box(orientation: Orientation) -> Bounds {
     match orientation {
         Orientation::Same | Orientation::Half | Orientation::Mirror | Orientation::Flip => LYING,

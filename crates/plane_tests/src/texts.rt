@@ -1,4 +1,4 @@
-//! Rules read with `parse`, and shown.
+//! Tests that rules can be read with `parse` and shown with `format!`.
 use plane_core::plane::rule::Rule;
 use std::test::Fail;
 

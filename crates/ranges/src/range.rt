@@ -21,7 +21,7 @@ use std::marker::Model;
 /// The bound of soup numbers: each is below 2^40. That is enough for any census, and keeps sums of numbers small.
 pub const NUMBER_BOUND: u64 = 1 << 40;
 
-/// The most numbers that the set of a haul may have when the haul is opened, 2^24, so that it fits into memory.
+/// The most soup numbers that a haul may have when it is opened, 2^24, so that the haul fits into memory.
 pub const MOST_NUMBERS: u64 = 1 << 24;
 
 /// The `count` soup numbers from `first` on.
@@ -215,7 +215,8 @@ fn with_numbers(alloc: Global, ranges: &[Range]) -> Result<Vec<Range>, OutOfMemo
     Ok(some)
 }
 
-/// Joins ranges that touch. The ranges have to ascend and share no number, and none may be empty.
+/// Returns the ranges, of which those that touch are joined. The given ranges have to ascend and share no number, and
+/// none of them may be empty.
 fn joined(alloc: Global, ascending: &[Range]) -> Result<Vec<Range>, OutOfMemory>
     requires ascending { Ascending ascending.now }
     requires below { AreBelow number_bound ascending.now }

@@ -1,9 +1,9 @@
-//! Reads a list of ranges in two passes. The first looks for a fault, and needs no memory. If there is none, the second
-//! collects the ranges.
+//! Reads a list of ranges in two passes. The first pass looks for a fault, and needs no memory. If there is no fault,
+//! the second pass collects the ranges.
 //!
 //! ```text
-//! 0+4,10+2     whole ranges are passed one after another: 0+4, then 10+2
-//!     ^        the rest, where the next range begins
+//! 0+4,10+2     the ranges are read one after another: 0+4, then 10+2
+//!     ^        the remainder of the text, once 0+4 is read
 //! ```
 
 ghost use Rattle.std.specs.Prelude.{◌≡◌, ◌≢◌, ◌⊎◌, ◌≤◌, ◌+◌, ◌*◌, ◌^◌, ◌∷◌, [], ℕ, List, false, option_map, IfErr};
@@ -63,17 +63,18 @@ impl Range {
     ///
     /// # Errors
     ///
-    /// - [`ListError::BadList`] if the text isn't that of a list, even if there is no memory. The place is that of the
-    ///   leftmost fault.
+    /// - [`ListError::BadList`] if the text isn't the text of a list, even if there is no memory. The place is that of
+    ///   the leftmost fault.
     /// - [`ListError::Memory`] if memory runs out.
     pub fn read_list(alloc: Global, text: &str) -> Result<Vec<Range>, ListError>
-        // The text of the list that is read is this text, and the text of every list can be read.
+        // If ranges are read, `text` is the text of their list. If `text` is the text of a list of ranges below 2^64,
+        // these ranges are read, unless memory runs out.
         ensures fit { IfOk result (λ read. FitU64 read.items) }
         ensures ranges { IfOk result (λ read. list_text read.items ≡ text.now) }
         ensures complete { (ranges : List Numbers) → FitU64 ranges → list_text ranges ≡ text.now
             → MatchResult result (λ read. read.items ≡ ranges) (λ error. error ≡ Memory out_of_memory) }
 
-        // Which error it is.
+        // When each error is returned.
         ensures bad_list { (place : ℕ) → IsErrOf result (BadList place) → IsFirstListFault text.now place }
         ensures memory { IsErrOf result (Memory out_of_memory) → IsListText text.now }
     {
@@ -86,7 +87,7 @@ impl Range {
     }
 }
 
-/// Returns the place of the first fault of a text, or `None` if it is the text of a list of ranges.
+/// Returns the place of the first fault of a text, or `None` if the text is the text of a list of ranges.
 #[tactic(auto, using(crate::proofs::ListLemmas::passed_first))]
 fn fault_in(text: &[u8]) -> Option<usize>
     ensures fault { IfSome result (IsFirstListFault text.now) }
@@ -124,7 +125,7 @@ fn ranges_in(alloc: Global, text: &[u8]) -> Result<Vec<Range>, OutOfMemory>
     Ok(ranges)
 }
 
-/// Returns the text, which begins with the first range, or `None` if it is empty.
+/// Returns the text, in which the first range has to begin, or `None` if the text is empty, so that there is no range.
 fn unless_empty(text: &[u8]) -> Option<&[u8]>
     ensures { Starts text.now (option_map (λ remainder. remainder.now) result) }
 {
@@ -164,7 +165,7 @@ fn first_range(text: &[u8]) -> Result<(Range, &[u8]), &[u8]>
 }
 
 /// Returns the decimal at the beginning of a text and the text after it, or `None` if there is no digit or the number
-/// is 2^64 or more. A decimal that begins with `0` ends there.
+/// is 2^64 or more. A decimal that begins with `0` consists of this digit only.
 #[tactic(auto, using(crate::proofs::DecimalLemmas::begins_zero))]
 pub fn first_decimal(text: &[u8]) -> Option<(u64, &[u8])>
     ensures some { IfSome result (λ first. BeginsDecimal text.now first.0 first.1.now) }
@@ -177,8 +178,8 @@ pub fn first_decimal(text: &[u8]) -> Option<(u64, &[u8])>
     more_digits(digit, remainder)
 }
 
-/// Returns the decimal of a first digit that isn't 0 and of the digits at the beginning of a text, and the text after
-/// them, or `None` if the number is 2^64 or more.
+/// Reads the rest of a decimal whose first digit, which isn't 0, has been read: the digits at the beginning of `text`.
+/// Returns the whole number and the text after its digits, or `None` if the number is 2^64 or more.
 #[tactic(auto, using(crate::proofs::DecimalLemmas::reading_first, crate::proofs::DecimalLemmas::reading_done))]
 fn more_digits(first: u8, text: &[u8]) -> Option<(u64, &[u8])>
     requires least { 1 ≤ first }

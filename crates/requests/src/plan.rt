@@ -37,7 +37,8 @@ pub struct SoupSet<'a> {
 pub struct ProfileNumbers {
     /// The longest period that counts, in generations: 1 to 64.
     pub period: u32,
-    /// For how many generations clusters must keep apart: at most 4,096. It hasn't been compared with `period` yet.
+    /// For how many generations clusters must keep apart: at most 4,096. Whether this is at least `period` hasn't been
+    /// checked yet.
     pub horizon: u32,
     /// The number of generations between two checkpoints: 1 to 10,000.
     pub stride: u32,
@@ -47,7 +48,7 @@ pub struct ProfileNumbers {
 
 /// A text among the command-line arguments, such as a rule. It hasn't been parsed yet.
 ///
-/// Contracts see its bytes.
+/// Contracts see a `Text` as the list of its bytes.
 #[derive(Drop)]
 pub struct Text<'a> {
     text: &'a str,

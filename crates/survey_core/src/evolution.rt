@@ -1,8 +1,8 @@
 //! A pattern between two checkpoints.
 //!
-//! At first the pattern is a list of cells. When it advances it is laid on a board, if there is one with room for it,
-//! and stays there from checkpoint to checkpoint. A board with removed spaceships advances by even numbers of
-//! generations only, so at an odd checkpoint the pattern is one generation ahead of what the board shows:
+//! At first the pattern is a list of cells. When it advances, it is laid on a board, if there is a board with room for
+//! it, and stays there from checkpoint to checkpoint. The board advances by even numbers of generations only, so at an
+//! odd checkpoint the pattern is one generation ahead of what the board shows:
 //!
 //! ```text
 //! generation     0       101            202      303
@@ -21,7 +21,7 @@ ghost use Rattle.survey_core.specs.evolution.SplitPatterns.{IsSplit, whole_of};
 ghost use Rattle.survey_core.specs.rest.Rest.{IsAtRest};
 ghost use Rattle.survey_core.specs.UnderWay.{StaysNear};
 
-/// Spaceships that escape from all the rest of a pattern.
+/// Spaceships that the rest of a pattern can never catch up with.
 pub mod escaped_spaceships;
 /// The board that a worker keeps from pattern to pattern.
 pub(crate) mod spare_board;
@@ -43,8 +43,8 @@ use std::alloc::Global;
 pub(crate) enum Evolution {
     /// The pattern is a list of cells.
     Listed(Pattern),
-    /// The pattern is on a board, together with the spaceships that were removed from it. The board shows it as it was
-    /// this many generations ago: 0 or 1.
+    /// The pattern is on a board, except for the spaceships that were removed from the board. The board shows the
+    /// pattern as it was this many generations ago: 0 or 1.
     Shown(SplitPattern, u32),
 }
 
@@ -79,8 +79,8 @@ impl Evolution {
         }
     }
 
-    /// Returns `true` only if the pattern is the same again after every even number of generations, so a pattern of
-    /// period 2, such as a blinker, may be still. `false` says nothing.
+    /// Returns `true` only if the pattern is the same again after every even number of generations. So a pattern of
+    /// period 2, such as a blinker, may count as still. `false` says nothing.
     pub(crate) fn is_still(&self) -> bool
         ensures { IsTrue result → (rule : Numbers) → IsKept rule self.now
             → (n : ℕ) → n % 2 ≡ 0 → after rule (kept rule self.now) n ≡ kept rule self.now }
@@ -91,8 +91,8 @@ impl Evolution {
         }
     }
 
-    /// Advances to the next checkpoint. A pattern that isn't on a board yet is laid on the spare board, if that has
-    /// room.
+    /// Advances to the next checkpoint. A pattern that isn't on a board is laid on the spare board, if that board has
+    /// room for it.
     pub(crate) fn go_on(
         self,
         alloc: Global,
@@ -118,7 +118,7 @@ impl Evolution {
         }
     }
 
-    /// Gives the board back to `spare`, for the next pattern.
+    /// Gives the board back to `spare`, if the pattern is on a board, so that the next pattern can use it.
     pub(crate) fn end(self, spare: &mut SpareBoard) {
         if let Evolution::Shown(split, _) = self {
             spare.give_back(split.board);
@@ -126,7 +126,7 @@ impl Evolution {
     }
 }
 
-/// Advances a list by `generations`, on the spare board if that has room for the pattern.
+/// Advances a pattern that is a list by `generations`, on the spare board if that board has room for the pattern.
 fn from_list(
     alloc: Global,
     rule: &Rule,
@@ -152,8 +152,8 @@ fn from_list(
     on_board(alloc, rule, split, generations, spare)
 }
 
-/// Advances a split pattern by `generations`. If the board has no room, the pattern becomes a list, and the board is
-/// given back.
+/// Advances a split pattern by `generations`. If the board has no room for this, or if its time would be past
+/// `LATEST_TIME`, the pattern becomes a list, and the board is given back.
 fn on_board(
     alloc: Global,
     rule: &Rule,

@@ -1,4 +1,5 @@
-//! Patterns that lie so far from the edge of the plane that no step can fail, and their later generations.
+//! The next and later generations of patterns that are so far from the edge of the plane that only a lack of memory can
+//! make a step fail.
 ghost use Rattle.std.specs.Prelude.{◌≡◌, ◌≤◌, ◌↔◌, IfOk, IsTrue, true};
 ghost use Rattle.plane_core.specs.plane.Cells.{set_of};
 ghost use Rattle.plane_core.specs.plane.Generations.{after, lies_within, next};
@@ -33,7 +34,8 @@ pub(crate) fn next(alloc: Global, rule: &Rule, pattern: &Pattern) -> Result<Patt
     }
 }
 
-/// Returns the pattern `generations` later, if it doesn't come near the edge of the plane until then.
+/// Returns the pattern after `generations`, at most 10,001. The pattern must be so far from the edge of the plane that
+/// it can't reach the edge until then.
 pub(crate) fn run_on(
     alloc: Global,
     rule: &Rule,

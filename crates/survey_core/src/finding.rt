@@ -38,7 +38,7 @@ pub enum Finding {
     Unsettled,
 }
 
-/// Returns the finding of soup `number` of the job. It has fewer than 2^64 objects.
+/// Returns the finding of soup `number` of the job. The finding has fewer than 2^64 objects.
 ///
 /// # Errors
 ///
@@ -53,7 +53,8 @@ pub fn survey(alloc: Global, job: &Job, number: u64) -> Result<Finding, OutOfMem
     Surveyor::without_memo(alloc).survey(alloc, job, number)
 }
 
-/// Returns the finding of `pattern`, whose coordinates are from -1,000 to 1,000. It has fewer than 2^64 objects.
+/// Returns the finding of `pattern`, whose coordinates must be from -1,000 to 1,000. The finding has fewer than 2^64
+/// objects.
 ///
 /// The time is proportional to the number of generations that are run, and to the number of live cells in them.
 ///

@@ -21,7 +21,7 @@ pub fn is_same_job(job: &Job, other: &Job) -> bool
     *job == *other
 }
 
-/// The law that two jobs are the same if and only if they are equal.
+/// The law that `same_job`, the test of [`is_same_job`], is `true` if and only if the two jobs are equal.
 pub fn same_jobs_are_equal()
     ensures { SameJobsAreEqual }
 {}

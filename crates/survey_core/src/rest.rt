@@ -13,13 +13,13 @@
 //!                     .O.
 //! ```
 //!
-//! At most checkpoints the pattern isn't at rest, nearly always because some cluster doesn't recur. So this is tested
-//! first, and the envelope of each cluster is kept. The envelopes show which clusters may come near each other. These
-//! clusters form a group, and each group is run by itself. In a group the clusters are stepped, one generation at a
-//! time, until one influences another, or until all have recurred in place and nothing new can follow. A cluster that
-//! is the same as at the start isn't stepped, since its next generation is known. While the clusters lie more than two
-//! cells apart, they evolve in the whole as they do alone. Only otherwise is the whole stepped too, and compared with
-//! their union.
+//! At nearly all checkpoints the pattern isn't at rest, mostly because some cluster doesn't recur. So the first test is
+//! whether each cluster recurs, and it gives the envelope of each cluster. The envelopes show which clusters may come
+//! near each other. These clusters form a group, and each group is run by itself. The clusters of a group are advanced
+//! one generation at a time: until one influences another, until all of them are the same as at the start, so that
+//! nothing new can follow, or until the horizon. For a cluster that is the same as at the start, the next generation is
+//! known. While the clusters of a group are more than two cells apart, they evolve together as they do alone. If they
+//! are closer, the whole group is advanced too, and compared with the union of its clusters.
 
 ghost use Rattle.std.specs.Prelude.{◌≡◌, ◌<◌, ◌≤◌, ◌↔◌, ℕ, All, IfNone, IfOk, IfSome, IsTrue, length, map};
 ghost use Rattle.std.specs.Prelude.{◌==◌, OnOk, filter, true};
@@ -72,7 +72,8 @@ pub(crate) fn clusters_at_rest(
     Ok(apart.then_some(clusters))
 }
 
-/// Checks whether in each group the clusters, each run alone, keep apart and make up their union up to the horizon.
+/// Checks whether in each group, the clusters, each run alone, keep apart and make up what their union becomes, in each
+/// generation up to the horizon.
 fn groups_keep_apart(
     alloc: Global,
     rule: &Rule,
@@ -184,7 +185,7 @@ fn step_apart(alloc: Global, rule: &Rule, clusters: &mut [Alone]) -> Result<bool
     ensures apart { IfOk result
         (λ apart. IsTrue apart ↔ KeepApart rule.now (union_of (latest_of clusters.old)) (latest_of clusters.old) 1) }
 {
-    // Their boxes nearly always show that they are apart. Then the whole needn't be stepped.
+    // Nearly always, this test shows that the clusters are apart. Then their union needn't be advanced.
     if lie_apart(clusters) {
         step_each(alloc, rule, clusters)?;
         return Ok(true);
@@ -201,8 +202,8 @@ fn step_apart(alloc: Global, rule: &Rule, clusters: &mut [Alone]) -> Result<bool
     Ok(same)
 }
 
-/// The laws of parts: parts that stay more than two cells apart evolve in the whole as they do alone, and so do groups
-/// of parts that stay apart from each other.
+/// The laws of parts. Parts of a pattern that stay more than two cells apart evolve together as they do alone. If only
+/// parts of different groups stay more than two cells apart, each group may be tested by itself.
 pub fn far_parts_run_alone()
     ensures parts { PartsRunAlone }
     ensures groups { GroupsRunAlone }

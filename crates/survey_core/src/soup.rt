@@ -1,5 +1,5 @@
-//! A soup has 16 rows of 16 cells, and a digest 32 bytes of 8 bits. A row is two bytes, and the most significant bit of
-//! a byte is its leftmost cell:
+//! A soup is a square of 16 by 16 cells, made from a digest of 32 bytes. Each row is two bytes, and the most
+//! significant bit of a byte is its leftmost cell:
 //!
 //! ```text
 //!            byte 2y            byte 2y + 1
@@ -23,8 +23,8 @@ use plane_core::plane::pattern::Pattern;
 use sha2::{Digest, Sha256};
 use std::alloc::Global;
 
-/// Returns soup `number`: the 256 bits of the SHA-256 digest of the job's seed and then the number in decimal, as a
-/// square of 16 by 16 cells. The job's profile and rule don't matter.
+/// Returns soup `number` as a square of 16 by 16 cells: the 256 bits of the SHA-256 digest of a text, which is the
+/// job's seed followed by the number in decimal. The job's profile and rule don't matter.
 ///
 /// # Errors
 ///
@@ -53,15 +53,15 @@ pub fn soup_of_digest(alloc: Global, digest: &[u8; 32]) -> Result<Pattern, OutOf
     let mut cells = [square_cell(0); 256];
     let mut count = 0;
     for place in 0..256 {
-        // A dead cell is replaced by the next one, so that no branch depends on a random bit.
+        // A dead cell is overwritten by the next cell, so that no branch depends on a random bit.
         cells[count] = square_cell(place);
         count += usize::from(is_alive_at(digest, place));
     }
     pattern_of(alloc, &cells[..count])
 }
 
-/// The law of all soups, cell by cell: the cell in column x of row y, both 0 to 15, is alive if and only if its bit is
-/// set.
+/// The law of all soups, cell by cell: the cell in column x of row y, both 0 to 15, is alive if and only if its bit of
+/// the digest is 1.
 #[tactic(auto, using(crate::proofs::lemmas::SoupLemmas::soups_by_cells))]
 pub fn soups_by_cells()
     ensures { SoupsByCells }

@@ -42,7 +42,7 @@ pub struct Surveyor {
 
 impl Surveyor {
     /// Returns a surveyor for many soups. Its memo has room for 4,096 shapes, and takes half a megabyte, or about three
-    /// if all shapes are large. If there is no memory for the memo, the surveyor works without one.
+    /// megabytes if all shapes are large. If there is no memory for the memo, the surveyor works without a memo.
     pub fn new(alloc: Global) -> Surveyor {
         Surveyor {
             memo: Memo::new(alloc),
@@ -50,7 +50,7 @@ impl Surveyor {
         }
     }
 
-    /// Returns a surveyor for one soup, which remembers no shape. It takes no memory.
+    /// Returns a surveyor for a single soup, which has no memo and so remembers no shape. Making it takes no memory.
     pub fn without_memo(alloc: Global) -> Surveyor {
         Surveyor {
             memo: Memo::without_room(alloc),
@@ -58,7 +58,7 @@ impl Surveyor {
         }
     }
 
-    /// Returns the finding of soup `number` of the job. It has fewer than 2^64 objects.
+    /// Returns the finding of soup `number` of the job. The finding has fewer than 2^64 objects.
     ///
     /// # Errors
     ///
@@ -70,7 +70,8 @@ impl Surveyor {
         self.survey_pattern(alloc, &job.profile, &job.rule, pattern)
     }
 
-    /// Returns the finding of `pattern`, whose coordinates are from -1,000 to 1,000. It has fewer than 2^64 objects.
+    /// Returns the finding of `pattern`, whose coordinates must be from -1,000 to 1,000. The finding has fewer than
+    /// 2^64 objects.
     ///
     /// The time is proportional to the number of generations that are run, and to the number of live cells in them.
     ///
@@ -119,13 +120,13 @@ impl Surveyor {
 
 /// Returns the finding of a pattern if it is at rest at this checkpoint, and otherwise `None`.
 ///
-/// If an even number of generations changes nothing, the pattern is the same in every second generation. So if it isn't
-/// at rest at a checkpoint, it isn't at rest an even number of generations later either. `known_restless` records this:
-/// the first entry is about even generations, and the second about odd ones.
+/// If the pattern is the same after every even number of generations, and it isn't at rest at a checkpoint, then it
+/// isn't at rest an even number of generations later either. `known_restless` records this: the first entry for even
+/// generations, and the second for odd ones.
 ///
 /// ```text
 /// generation   404   505   606   707   808
-/// at rest?     no    no    -     -     -       From 404 on, two generations change nothing.
+/// at rest?     no    no    -     -     -       From 404 on, the pattern is the same after every two generations.
 /// ```
 fn examine(
     alloc: Global,

@@ -1,4 +1,5 @@
-//! Findings of patterns and soups, against an independent program.
+//! Tests of the findings of patterns and soups. The findings of two soups are compared with those of an independent
+//! program.
 ghost use Rattle.std.specs.Prelude.{◌≡◌, IfOk, true};
 ghost use Rattle.plane_core.specs.plane.Generations.{lies_within};
 
@@ -14,7 +15,7 @@ use survey_core::profile::Profile;
 use survey_core::seed::Seed;
 use survey_core::surveyor::Surveyor;
 
-/// A pattern as it is drawn.
+/// Returns the pattern of a picture.
 fn drawn(alloc: Global, picture: &str) -> Result<Pattern, PlaintextError>
     ensures { IfOk result (λ pattern. lies_within 1000 pattern ≡ true) }
 {
@@ -22,12 +23,12 @@ fn drawn(alloc: Global, picture: &str) -> Result<Pattern, PlaintextError>
     Ok(pattern)
 }
 
-/// A profile whose only checkpoint is generation 0.
+/// Returns a profile with this period and horizon whose only checkpoint is generation 0.
 fn at_once(period: u32, horizon: u32) -> Result<Profile, Fail> {
     Ok(Profile::new(period, horizon, 1, 0)?)
 }
 
-/// Whether the pattern settled at this checkpoint: for good if `good`, and otherwise not for good.
+/// Checks whether the pattern settled at checkpoint `at`: for good if `good`, and otherwise not for good.
 fn is_settled(finding: &Finding, at: u32, good: bool) -> bool {
     match finding {
         Finding::Settled {
@@ -39,7 +40,7 @@ fn is_settled(finding: &Finding, at: u32, good: bool) -> bool {
     }
 }
 
-/// Whether a picture is at rest in Life in generation 0: for good if `good`, and otherwise not for good.
+/// Checks whether a picture is at rest in Life in generation 0: for good if `good`, and otherwise not for good.
 fn rests(alloc: Global, picture: &str, profile: Profile, good: bool) -> Result<bool, Fail> {
     let pattern = drawn(alloc, picture)?;
     let finding = survey_pattern(alloc, &profile, &Rule::life(), pattern)?;
@@ -63,7 +64,7 @@ const PULSAR_AND_BLINKER: &str =
                                   .O.O.O.O.O.O.\n..OOO...OOO..\n.............\n..OOO...OOO..\n.O.O.O.O.O.O.\n\
                                   OOO.OO.OO.OOO\nO..O.O.O.O..O\n...OO...OO...\n..OO.....OO..";
 
-// The periods are 3 and 2, so both are themselves again only after 6 generations.
+// The periods are 3 and 2, so the two objects are themselves again at the same time only after 6 generations.
 #[test]
 fn knows_what_stays_once_all_has_come_back(rt: HostRuntime) -> Result<(), Fail> {
     assert!(rt; rests(rt.alloc(), PULSAR_AND_BLINKER, at_once(3, 3)?, false)?);
@@ -71,8 +72,8 @@ fn knows_what_stays_once_all_has_come_back(rt: HostRuntime) -> Result<(), Fail> 
     Ok(())
 }
 
-/// `count` upright lines, two empty columns apart: the first has one cell, and each further line has one more than the
-/// line before.
+/// Returns a picture of `count` upright lines, two empty columns apart: the first line has one cell, and each further
+/// line has one cell more than the line before it.
 fn lines(alloc: Global, count: usize) -> Result<String, OutOfMemory> {
     let mut picture = String::new(alloc);
     for row in 0..count {
@@ -84,7 +85,7 @@ fn lines(alloc: Global, count: usize) -> Result<String, OutOfMemory> {
     Ok(picture)
 }
 
-/// How many codes the finding has, if the pattern settled.
+/// Returns the number of codes of the finding, or `None` if the pattern didn't settle.
 fn code_count(finding: &Finding) -> Option<usize> {
     match finding {
         Finding::Settled { objects, .. } => Some(objects.as_slice().len()),
@@ -92,7 +93,7 @@ fn code_count(finding: &Finding) -> Option<usize> {
     }
 }
 
-/// The finding of a picture where nothing is born or dies.
+/// Returns the finding of a picture under a rule by which nothing is born or dies.
 fn of_still_picture(alloc: Global, picture: &str) -> Result<Finding, Fail> {
     let rule = Rule::read("bs012345678")?;
     let profile = at_once(1, 1)?;
@@ -100,7 +101,7 @@ fn of_still_picture(alloc: Global, picture: &str) -> Result<Finding, Fail> {
     Ok(survey_pattern(alloc, &profile, &rule, pattern)?)
 }
 
-// Each line is a still life, and each has a population of its own.
+// Each line is a still life, and no two lines have the same population.
 #[test]
 fn counts_120_codes(rt: HostRuntime) -> Result<(), Fail> {
     let picture = lines(rt.alloc(), 120)?;
@@ -109,7 +110,7 @@ fn counts_120_codes(rt: HostRuntime) -> Result<(), Fail> {
     Ok(())
 }
 
-/// The finding of a soup of the empty seed in Life.
+/// Returns the finding of soup `number` of the empty seed in Life.
 fn of_soup(alloc: Global, profile: Profile, number: u64) -> Result<Finding, Fail> {
     let seed = Seed::new("")?;
     let rule = Rule::life();
@@ -121,7 +122,7 @@ fn of_soup(alloc: Global, profile: Profile, number: u64) -> Result<Finding, Fail
     Ok(survey(alloc, &job, number)?)
 }
 
-// The findings were computed by another program, which was written only from the definitions, in another language.
+// The findings were computed by a program in another language, which was written only from the definitions.
 #[test]
 fn surveys_soups(rt: HostRuntime) -> Result<(), Fail> {
     let profile = Profile::standard();
@@ -130,7 +131,7 @@ fn surveys_soups(rt: HostRuntime) -> Result<(), Fail> {
     Ok(())
 }
 
-// Only a still life recurs after one generation, and this soup isn't one.
+// Only still lifes recur after one generation, and this soup has clusters that aren't still lifes.
 #[test]
 fn leaves_a_soup_unsettled(rt: HostRuntime) -> Result<(), Fail> {
     let finding = of_soup(rt.alloc(), at_once(1, 1)?, 0)?;
@@ -138,8 +139,8 @@ fn leaves_a_soup_unsettled(rt: HostRuntime) -> Result<(), Fail> {
     Ok(())
 }
 
-/// Whether the R-pentomino settles as it does without a memo. It comes to rest in generation 1103 (LifeWiki,
-/// "R-pentomino"), and 1111 is the first multiple of 101 after that.
+/// Checks whether the surveyor finds that the R-pentomino settles at checkpoint 1111, and not for good. The R-pentomino
+/// comes to rest in generation 1103 (LifeWiki, "R-pentomino"), and 1111 is the first checkpoint after that.
 fn settles_with(alloc: Global, surveyor: &mut Surveyor) -> Result<bool, Fail> {
     let pattern = drawn(alloc, ".OO\nOO.\n.O.")?;
     let finding = surveyor.survey_pattern(alloc, &Profile::standard(), &Rule::life(), pattern)?;

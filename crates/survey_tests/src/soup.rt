@@ -4,7 +4,8 @@ use std::test::Fail;
 use survey_core::seed::Seed;
 use survey_core::soup::soup_of_digest;
 
-// If no bit is set, there are no cells, and if all bits are set, there are all 256 cells.
+// If no bit of the digest is set, no cell is alive. In the test after this one, all bits are set, and all 256 cells are
+// alive.
 #[test]
 fn draws_an_empty_soup(rt: HostRuntime) -> Result<(), Fail> {
     assert!(rt; soup_of_digest(rt.alloc(), &[0; 32])?.cells().is_empty());
@@ -24,7 +25,7 @@ const DIGEST_OF_0: [u8; 32] = [
     0xc2, 0xdb, 0xc2, 0x39, 0xdd, 0x4e, 0x91, 0xb4, 0x67, 0x29, 0xd7, 0x3a, 0x27, 0xfb, 0x57, 0xe9,
 ];
 
-/// The bits of this digest, with two bytes in each row.
+/// The bits of `DIGEST_OF_0` as a picture, with two bytes in each row.
 const SOUP_0: &str = "\
 .O.OOOOOOOO.OO..\n\
 OOO.O.OO.OO..OO.\n\

@@ -1,14 +1,14 @@
-//! A program for `bench/run` to time. It reads a plaintext pattern from standard input. N is 1 if it is left out.
+//! A program that `bench/run` times. It reads a plaintext pattern from standard input. If N is left out, it is 1.
 //!
 //! - `timing clusters N` finds the pattern's clusters N times, and prints their number.
 //! - `timing names N` names the pattern N times, and prints the name.
 //! - `timing surveys N` prints how many of the soups 0 to N - 1 settle.
-//! - `timing gliders N` prints the population of two far gliders after N generations.
+//! - `timing gliders N` prints the population of two gliders, which are far apart, after N generations.
 //! - `timing reports N` makes reports of N soups, under a profile that makes surveys cheap, and prints their number.
-//! - `timing offers N` offers N such reports to a haul, and then a thousand more. It prints how many the haul has
-//!   taken, and the microseconds that the thousand took.
+//! - `timing offers N` offers N such reports to a haul, and then a thousand more. It prints how many reports the haul
+//!   has taken, and how many microseconds the offers of the last thousand reports took.
 //!
-//! Only the first two use the pattern, but all of them read it.
+//! Only the first two commands use the pattern, but all commands read it.
 #![tactic(auto)]
 
 ghost use Rattle.std.specs.Prelude.{◌≡◌, IfOk, List, length};
@@ -41,7 +41,7 @@ fn cluster_count(alloc: Global, pattern: &Pattern) -> Result<usize, OutOfMemory>
     ensures { IfOk result
         (λ count. (clusters : List (List Place)) → AreClusters pattern.now clusters → count ≡ length clusters) }
 {
-    // For the prover: a pattern has one number of clusters.
+    // For the prover: a pattern has only one list of clusters, and so only one number of clusters.
     clusters_are_determined();
     let clusters = pattern.clusters(alloc)?;
     Ok(clusters.len())
@@ -91,7 +91,7 @@ fn two_gliders(alloc: Global) -> Result<Pattern, FromCellsError> {
     Pattern::from_cells(alloc, cells.as_slice())
 }
 
-/// Runs two far gliders for `generations` generations of Life, and prints their population.
+/// Runs two gliders, which are far apart, for `generations` generations of Life, and prints their population.
 fn fly_gliders(rt: &HostRuntime, generations: u32) -> io::Result<()> {
     let Ok(gliders) = two_gliders(rt.alloc()) else {
         return println!(rt; "no gliders");
@@ -115,7 +115,7 @@ fn settled_count(alloc: Global, job: &Job, soups: u32) -> Result<usize, OutOfMem
     Ok(settled.len())
 }
 
-/// Surveys `soups` soups of `seed`, in Life and under the standard profile, and prints how many settle.
+/// Surveys the first `soups` soups of `seed`, in Life and under the standard profile, and prints how many settle.
 fn survey_soups(rt: &HostRuntime, seed: Seed, soups: u32) -> io::Result<()> {
     let job = Job {
         seed,
@@ -148,7 +148,7 @@ fn reports(alloc: Global, job: &Job, from: u32, to: u32) -> Result<Vec<Report>, 
         let report = match Report::make(alloc, job, 1, u64::from(number)) {
             Ok(report) => report,
             Err(ReportError::Memory(error)) => return Err(error),
-            // Worker 1 may report.
+            // The workers are numbered from 1 to 16, so 1 is a worker.
             Err(ReportError::BadWorker) => unreachable!(),
         };
         reports.push(report)?;
@@ -156,7 +156,7 @@ fn reports(alloc: Global, job: &Job, from: u32, to: u32) -> Result<Vec<Report>, 
     Ok(reports)
 }
 
-/// Opens a haul over the first `soups` soups, for one worker.
+/// Opens a haul of the first `soups` soups, for one worker.
 fn open_haul(alloc: Global, job: Job, soups: u32) -> Result<Haul, OpenError> {
     let range = Range {
         first: 0,
@@ -168,7 +168,7 @@ fn open_haul(alloc: Global, job: Job, soups: u32) -> Result<Haul, OpenError> {
 /// Offers the reports one after another.
 fn offer_each(haul: &mut Haul, reports: Vec<Report>) {
     for report in reports {
-        // A report that is refused isn't counted.
+        // The reply isn't needed: `Haul::taken` has the reports that weren't refused.
         let _ = haul.offer(report);
     }
 }
@@ -181,8 +181,8 @@ fn make_reports(rt: &HostRuntime, job: &Job, count: u32) -> io::Result<()> {
     }
 }
 
-/// Offers `count` reports to a haul, and then `TIMED` more. Prints how many the haul has taken, and the microseconds
-/// that the last ones took.
+/// Offers `count` reports to a haul, and then `TIMED` more. Prints how many reports the haul has taken, and how many
+/// microseconds the offers of the last `TIMED` reports took.
 fn offer_reports(rt: &HostRuntime, job: Job, count: u32) -> io::Result<()> {
     let all = count.saturating_add(TIMED);
     let Ok(first) = reports(rt.alloc(), &job, 0, count) else {
@@ -201,7 +201,7 @@ fn offer_reports(rt: &HostRuntime, job: Job, count: u32) -> io::Result<()> {
     println!(rt; "{} {}", haul.taken().len(), taken.as_micros())
 }
 
-/// Makes `count` reports. If `offered`, offers them to a haul, and times that.
+/// Does what `timing offers` does if `offered`, and otherwise what `timing reports` does, with N = `count`.
 fn time_reports(rt: &HostRuntime, offered: bool, count: u32) -> io::Result<()> {
     let job = Seed::new("").ok().and_then(cheap_job);
     match job {

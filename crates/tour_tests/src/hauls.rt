@@ -23,7 +23,8 @@ fn four_soups(alloc: Global) -> Result<Haul, Fail> {
     Ok(haul)
 }
 
-// The census of a complete haul has the objects of all its soups. Its text is what `census take --count 4` prints.
+// The census of a complete haul has the objects of all its soups. `census take --count 4` prints the text of this
+// census.
 #[test]
 fn counts_four_soups(rt: HostRuntime) -> Result<(), Fail> {
     let haul = four_soups(rt.alloc())?;

@@ -37,7 +37,7 @@ fn finds_two_objects(rt: HostRuntime) -> Result<(), Fail> {
     Ok(())
 }
 
-/// Returns the pattern of these cells. `name` needs a pattern with at least one cell.
+/// Returns the pattern of these cells, or an error if there are none: `name` needs a pattern with at least one cell.
 fn with_a_cell(alloc: Global, cells: &[Cell]) -> Result<Pattern, FromCellsError>
     ensures { IfOk result (λ pattern. pattern ≢ []) }
 {
@@ -48,7 +48,7 @@ fn with_a_cell(alloc: Global, cells: &[Cell]) -> Result<Pattern, FromCellsError>
     Ok(pattern)
 }
 
-// The apgcode of a glider, among objects that recur within 64 generations.
+// The apgcode of a glider. An object that doesn't recur within 64 generations would have no apgcode here.
 #[test]
 fn names_a_glider(rt: HostRuntime) -> Result<(), Fail> {
     let glider = with_a_cell(rt.alloc(), &GLIDER)?;

@@ -1,4 +1,4 @@
-//! Threads: let workers complete a haul, draw numbers, and send notes.
+//! Threads: complete a haul with two workers, draw numbers, and send notes.
 ghost use Rattle.std.specs.Prelude.{◌≡◌, IfOk};
 
 use crate::soups::standard_job;
@@ -24,7 +24,7 @@ fn ten_soups(alloc: Global) -> Result<Haul, Fail>
     Ok(Haul::open(alloc, standard_job()?, &[range], 2)?)
 }
 
-// Two workers, each in a thread of its own, take ten soups. The haul is the same for any number of workers.
+// Two workers, each in a thread of its own, survey ten soups. The census is the same for any number of workers.
 #[test]
 fn completes_a_haul(rt: HostRuntime) -> Result<(), Fail> {
     let haul = ten_soups(rt.alloc())?;
@@ -36,7 +36,7 @@ fn completes_a_haul(rt: HostRuntime) -> Result<(), Fail> {
     Ok(())
 }
 
-// Each number below 3 is drawn once, in whichever order threads draw.
+// Each number below 3 is drawn once, in ascending order, and then no number is left. Here one thread draws them all.
 #[test]
 fn draws_numbers(rt: HostRuntime) -> Result<(), Fail> {
     let (tickets, mut passes) = Tickets::open(rt.alloc(), 3, 1)?;
@@ -53,8 +53,8 @@ fn draws_numbers(rt: HostRuntime) -> Result<(), Fail> {
     Ok(())
 }
 
-/// Sends two notes over a belt with room for four, and receives one. Returns it, the note that is left when the belt is
-/// closed, and what is left after that.
+/// Sends the notes 7 and 8 over a belt with room for four notes, receives one note, and gathers the rest. Returns the
+/// received note and the next two of the gathered notes, with `None` if no note is left.
 fn received_and_left<R: Wait>(
     alloc: Global,
     rt: &R,

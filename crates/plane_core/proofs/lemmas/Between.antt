@@ -28,7 +28,8 @@ use Rattle.plane_core.specs.declared.engine.row_spans.RowSpan.{RowSpan}
 use Rattle.std.specs.Int.{bit_at}
 use Rattle.std.specs.Prelude.{All, Bool, List, Option, Some, false, pos, slice_index, true, ℕ, ℤ, ◌%◌, ◌*◌, ◌+ℤ◌, ◌+◌, ◌-ℤ◌, ◌-◌, ◌<◌, ◌==◌, ◌≡◌, ◌≤ℤ◌, ◌≤◌, ◌⊎◌}
 
--- what the boxes hold before a leap of n generations: all changes if n is even, all live cells if n is odd
+-- The boxes are right for a leap of n generations. If n is even, each cell that isn't within 2 of a box is the same two
+-- generations later. If n is odd, each live cell is in a box.
 pub record AreRightFor (rule : Numbers) (cells : List Cell) (boxes : List Bounds) (n : ℕ) : Type 0 where
   pub even : n % 2 ≡ 0 → IsQuiet rule cells boxes
   pub odd : n % 2 ≡ 1 → HoldAll boxes cells
@@ -48,7 +49,7 @@ pub record HasGoneOn (rule : Numbers) (at : Frame) (n : ℕ) (old new : List ℕ
   pub right : AreRightFor rule (cells_on at new) boxes n
   pub live : LieInSpans at spans (cells_on at new)
 
--- each cell in no inner part of a window is unchanged after n generations
+-- each cell outside the inner parts of all windows is unchanged after n generations
 abbrev pub IsStillOutside : Numbers → List LeapWindow → List Cell → ℕ → Type 0
 IsStillOutside rule places cells n = (c : Cell) → ¬ IsCovered places c → has (after rule cells n) c ≡ has cells c
 
@@ -57,13 +58,13 @@ pub record BeginsAt (p : LeapWindow) (column row : ℤ) : Type 0 where
   pub left : p.left ≡ column -ℤ pos 4
   pub top : p.top ≡ row -ℤ pos 4
 
--- `greater` is the greater of `depth` and the depth that was found
+-- `greater` is the greater of `depth` and the depth that was found, or `depth` if none was found
 pub record IsGreater (found : Option ℤ) (depth greater : ℤ) : Type 0 where
   pub kept : (z : ℤ) → IsReached found z → z ≤ℤ greater
   pub least : depth ≤ℤ greater
   pub either : greater ≡ depth ⊎ found ≡ Some greater
 
--- `new` is a forest if `old` is one and the cells of the two places are linked
+-- `new` is a forest if `old` is one and the cells at places j and k are linked
 abbrev pub JoinsLinked : List ℕ → List ℕ → ℕ → ℕ → Type 0
 JoinsLinked old new j k = (cells : List Cell) → IsForest cells old → Linked cells (cell_of cells j) (cell_of cells k) → IsForest cells new
 
@@ -84,18 +85,20 @@ abbrev pub ShowsRows : WindowOrigin → List ℕ → List Cell → Type 0
 ShowsRows p rows cells =
     (r i : ℕ) → r < 64 → i < 64 → has cells (cell_at (p.left +ℤ pos i) (p.top +ℤ pos r)) ≡ (bit_at (slice_index rows r) i == 1)
 
--- Each bit of `next` is the rule's answer for the total of its cell, if the total is at most nine.
+-- each bit of `next` is the rule's answer for the total of its cell, if this total is at most nine
 abbrev pub AnswersTotal : Numbers → Total → List ℕ → List ℕ → Type 0
 AnswersTotal rule total now next =
     (j i : ℕ) → j < 4 → i < 64 → total_of total j i ≤ 9 → bit_of next j i ≡ one_if (lives_by rule (total_of total j i) (bit_of now j i == 1))
 
--- each bit of `next` is the rule's answer, where the cell itself isn't part of the sum `beside`
+-- each bit of `next` is the rule's answer for the sums of three rows; the sum of the middle row, `beside`, leaves out
+-- the cell itself
 abbrev pub AnswersNeighbours : Numbers → Sum → Sum → Sum → List ℕ → List ℕ → Type 0
 AnswersNeighbours rule up beside down now next =
     (j i : ℕ) → j < 4 → i < 64
     → bit_of next j i ≡ one_if (lives_by rule (sum_of up j i + (sum_of beside j i + bit_of now j i) + sum_of down j i) (bit_of now j i == 1))
 
--- If each cell outside all inner parts is unchanged after `count` generations, the new board shows the pattern then.
+-- if each cell outside all inner parts is unchanged after `count` generations, the new board shows the pattern of that
+-- generation
 abbrev pub HasLeapt : Frame → Numbers → ℕ → List LeapWindow → List ℕ → List ℕ → Type 0
 HasLeapt at rule count places old new = (cells : List Cell) → InOrder cells → Shows at old cells
     → ((c : Cell) → ¬ IsCovered places c → has (after rule cells count) c ≡ has cells c) → Shows at new (after rule cells count)
@@ -111,7 +114,8 @@ pub record IsNextAlive (word from place : ℕ) : Type 0 where
   pub one : bit_at word place ≡ 1
   pub none : AreDead word from place
 
--- the words of the first n word columns in a row have been read
+-- in row r, the words of the first n word columns have been read: their live cells, and only live cells of the board,
+-- have been added to the list
 pub record HasReadRow (at : Frame) (words : List ℕ) (r : ℕ) (old : List Cell) (n : ℕ) (new : List Cell) : Type 0 where
   pub grows : AreAmong new old
   pub sound : (others : List Cell) → Shows at words others → AreAmong others old → AreAmong others new
@@ -121,7 +125,7 @@ pub record HasReadRow (at : Frame) (words : List ℕ) (r : ℕ) (old : List Cell
 abbrev pub IsRowEmpty : Frame → List ℕ → ℕ → ℕ → ℕ → Type 0
 IsRowEmpty at words r from to = (s b : ℕ) → from ≤ s → s < to → b < 64 → bit_at (slice_index words (word_of at s r)) b ≡ 0
 
--- The first row and the first column of a window that have a live cell.
+-- the first row and the first column of a window that have a live cell
 pub record IsCorner (n : ℕ) (x : List (List ℕ)) (columns row column : ℕ) : Type 0 where
   pub row_is : IsFirstRow n x row
   pub low : column < 64
@@ -137,7 +141,7 @@ abbrev pub IsReadAt : Frame → List ℕ → ℕ → ℕ → ℕ → List (List 
 IsReadAt at words x y n window =
     (r i : ℕ) → r < 4 * n → i < 64 → bit_at (row_at n window r) i ≡ bit_on at words (x + i) (y + r)
 
--- a cluster of the pattern, which the rows of the flood show without any other cells
+-- a cluster of the pattern; the rows of the flood show exactly its cells
 pub record IsAlone (left top : ℤ) (flood : List ℕ) (cells cluster : List Cell) : Type 0 where
   pub is : IsCluster cells cluster
   pub held : FillsRows left top flood cluster

@@ -1,4 +1,4 @@
-//! Computes a generation cell by cell, with one sorted list and no table of the plane.
+//! Computes a generation from one sorted list of cells, without a board.
 //!
 //! ```text
 //! a pattern    how often each cell is listed     alive next, under Life
@@ -15,8 +15,8 @@
 //! (0, 0)   (1, 0)   (2, 0)   (0, 1) (0, 1)   (1, 1) (1, 1) (1, 1)   (2, 1) (2, 1) (2, 1)   (3, 1)   ..
 //! ```
 //!
-//! This number includes the cell itself if it is alive. So the four cells with a 3 are alive next under Life: one is
-//! dead and has three neighbours, and the others are alive and have two.
+//! This number includes the cell itself if it is alive. So the four cells with a 3 are alive next under Life: one of
+//! them is dead and has three live neighbours, and the other three are alive and have two live neighbours.
 ghost use Rattle.std.specs.Prelude.{◌≡◌, false, true, flat_map, IfOk};
 ghost use Rattle.std.specs.List.{list_all};
 ghost use Rattle.plane_core.specs.plane.Cells.{near_plane, on_plane};
@@ -29,14 +29,14 @@ use memory::OutOfMemory;
 use std::alloc::Global;
 
 impl Pattern {
-    /// Returns the next generation, computed cell by cell. No cell may be on the edge of the plane.
+    /// Returns the next generation, computed from a list of cells. No cell may be on the edge of the plane.
     pub(crate) fn counted(&self, alloc: Global, rule: &Rule) -> Result<Pattern, OutOfMemory>
         requires { touches_edge self.now ≡ false }
         ensures { IfOk result (λ pattern. pattern ≡ next rule.now self.now) }
     {
         let mut near = neighbourhoods(alloc, self.cells())?;
         near.sort_unstable();
-        // The cells that live are moved to the beginning of the list.
+        // The cells that are alive next are moved to the beginning of `near`.
         let mut kept = 0;
         let mut count = 0;
         let end = near.len();
@@ -46,8 +46,8 @@ impl Pattern {
             if place + 1 < end && near[place + 1] == cell {
                 continue;
             }
-            // A live cell isn't its own neighbour. Whether the cell is alive is looked up only if the answer depends on
-            // it.
+            // If the cell is alive, `count` includes it, so it has `count` - 1 live neighbours. Whether it is alive is
+            // looked up only if a live cell and a dead cell would have different fates.
             let stays = rule.survives(count - 1);
             let born = rule.births(count);
             let lives = if stays == born {
@@ -66,7 +66,7 @@ impl Pattern {
     }
 }
 
-/// Returns the neighbourhoods of all cells, one after another.
+/// Returns the nine cells of each cell's neighbourhood, one neighbourhood after another.
 fn neighbourhoods(alloc: Global, cells: &[Cell]) -> Result<Vec<Cell>, OutOfMemory>
     requires { list_all on_plane cells.now ≡ true }
     ensures { IfOk result (λ near. near.items ≡ flat_map neighbourhood cells.now) }

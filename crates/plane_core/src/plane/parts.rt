@@ -1,18 +1,18 @@
-//! Cuts a pattern into two parts that are so far apart that they don't meet for a number of generations, so that each
-//! can be run by itself.
+//! Cuts a pattern into two parts, each of which can be run by itself. The parts are so far apart that they don't meet
+//! in the generations of the run.
 //!
 //! Cells are listed row by row, so a cut between two rows is a place in the list, where a cell is far enough below the
-//! one before it. If there is no such place, columns and rows are exchanged, and the pattern is cut between two of its
-//! columns. Each part is cut again. So a spaceship that has left the rest costs only a board of its own.
+//! cell before it. If there is no such place, columns and rows are exchanged, and the pattern is cut between two of its
+//! columns. Each part is cut again. So a spaceship that is far from the rest of a pattern is run by itself.
 ghost use Rattle.std.specs.Prelude.{◌<◌, IfSome, OnSome};
 ghost use Rattle.plane_core.specs.plane.Parts.{IsCut};
 
 use crate::plane::pattern::Pattern;
 
 impl Pattern {
-    /// Returns the number of cells above a cut, or `None` if there is no cut or `cuts` is 0. A cut is between two
-    /// successive cells whose rows are more than `far` apart. The first cut from the middle of the list on is chosen,
-    /// or otherwise the last one before the middle.
+    /// Returns the number of cells above a cut, or `None` if there is no cut or `cuts`, the number of cuts that may
+    /// still be made, is 0. A cut is between two successive cells whose rows are more than `far` apart. The first cut
+    /// from the middle of the list on is chosen, or otherwise the last cut before the middle.
     pub(crate) fn cut(&self, far: u32, cuts: u32) -> Option<usize>
         ensures cut { IfSome result (IsCut far self.now) }
         ensures cuts { OnSome result (0 < cuts) }
@@ -33,10 +33,10 @@ impl Pattern {
         cut
     }
 
-    /// Checks whether it is worth turning the pattern, which sorts its cells, to cut it between two columns that are
-    /// more than `far` apart. The columns are divided into at most 64 stripes of equal width. If a stripe is at most
-    /// half as wide as `far`, a gap between such columns contains an empty one. So the result is `false` only if there
-    /// is no such cut.
+    /// Checks whether the pattern should be turned, so that it can be cut between two columns that are more than `far`
+    /// apart. Turning costs time, since the cells have to be sorted again. The result is `false` only if there is no
+    /// such cut: the columns are divided into at most 64 stripes of equal width, and if a stripe is at most half as
+    /// wide as `far`, each gap at which the pattern can be cut contains an empty stripe.
     pub(crate) fn is_worth_a_turn(&self, far: u32) -> bool {
         let Some(bounds) = self.bounds() else {
             return false;

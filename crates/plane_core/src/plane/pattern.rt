@@ -1,4 +1,4 @@
-//! Patterns: finite sets of live cells. A pattern is kept as the list of its cells in order, each once.
+//! Patterns: finite sets of live cells. A pattern is kept as the list of its cells in order, with each cell once.
 ghost use Rattle.std.specs.Prelude.{◌≡◌, ◌+◌, ◌≤◌, ◌++◌, List, [], ◌∷◌, length, take, IfOk, IfErr, IsTrue, OnOk, position, None};
 ghost use Rattle.memory.specs.Witness.{out_of_memory};
 ghost use Rattle.std.specs.declared.cmp.Ordering.TheVariants.{Less};
@@ -17,7 +17,7 @@ use thiserror::Error;
 /// Why a list of cells isn't a pattern.
 #[derive(Clone, Copy, PartialEq, Eq, Error)]
 pub enum FromCellsError {
-    /// The cell at `index`, counted from 0, is the first past the bound.
+    /// The cell at `index`, counted from 0, is the first cell past the bound of the plane.
     OutOfPlane { index: usize },
     /// Memory ran out.
     Memory(OutOfMemory),
@@ -49,7 +49,7 @@ impl<E: Into<OutOfMemory>> From<E> for FromCellsError {
     }
 }
 
-/// A finite set of cells, each with coordinates at most [`BOUND`](crate::plane::cell::BOUND) in size.
+/// A finite set of live cells, with coordinates from -1,000,000 to 1,000,000 ([`BOUND`](crate::plane::cell::BOUND)).
 #[derive(Debug)]
 pub struct Pattern {
     cells: Vec<Cell>,
@@ -63,7 +63,7 @@ impl Model for Pattern {
     ghost invariant = { λ p. IsPattern p.cells.items };
 }
 
-// Written out, because a derived drop is proved anew wherever a pattern is dropped.
+// This isn't derived, because a derived drop is proved anew wherever a pattern is dropped.
 impl Drop for Pattern {
     fn drop(self) {
         let Pattern { cells } = self;
@@ -76,8 +76,8 @@ impl Pattern {
     ///
     /// # Errors
     ///
-    /// `OutOfPlane` if a cell is past the bound, with the index of the first such cell, counted from 0, whether there
-    /// is memory or not. Otherwise `Memory` if memory runs out.
+    /// `OutOfPlane` if a cell is past the bound, even if there is no memory. It has the index of the first such cell,
+    /// counted from 0. Otherwise `Memory` if memory runs out.
     ///
     /// # Examples
     ///
@@ -99,7 +99,7 @@ impl Pattern {
         })
     }
 
-    /// Returns the pattern with these cells, which are already in order, each once.
+    /// Returns the pattern with these cells, which must already be in order, with each cell once.
     pub(crate) fn from_ordered(cells: Vec<Cell>) -> Pattern
         requires { IsPattern cells.items }
         ensures { result ≡ cells.items }
@@ -107,7 +107,7 @@ impl Pattern {
         Pattern { cells }
     }
 
-    /// Appends a cell that comes after all others.
+    /// Adds a cell, which must come after all cells of the pattern.
     pub(crate) fn push(&mut self, cell: Cell) -> Result<(), OutOfMemory>
         requires { IsPattern (self.old ++ cell ∷ []) }
         ensures { OnOk result (self.new ≡ self.old ++ cell ∷ []) }
@@ -128,11 +128,11 @@ impl Pattern {
         Ok(Pattern::from_ordered(cells))
     }
 
-    /// Returns the union of both patterns. It is fastest if all cells of `other` come after those of `self`.
+    /// Returns the union of both patterns. This is fastest if all cells of `other` come after those of `self`.
     ///
     /// # Errors
     ///
-    /// `OutOfMemory` if memory runs out. `self` is dropped.
+    /// `OutOfMemory` if memory runs out. `self` is dropped in this case too.
     pub fn united(self, other: &Pattern) -> Result<Pattern, OutOfMemory>
         ensures { IfOk result (λ whole. whole ≡ set_of (self ++ other.now)) }
     {
@@ -145,7 +145,7 @@ impl Pattern {
         })
     }
 
-    /// Returns all cells in order, each once.
+    /// Returns all cells in order, with each cell once.
     pub fn cells(&self) -> &[Cell]
         ensures cells { result.now ≡ self.now }
         ensures pattern { IsPattern self.now }
@@ -153,7 +153,7 @@ impl Pattern {
         self.cells.as_slice()
     }
 
-    /// Recalls that the cells are in order, each once. Only the prover needs it: the call does nothing.
+    /// Recalls for the prover that the cells are in order, with each cell once. At run time, the call does nothing.
     #[inline(always)]
     pub fn recall_order(&self)
         ensures { IsPattern self.now }
@@ -168,7 +168,7 @@ impl Pattern {
         self.cells.len()
     }
 
-    /// Checks whether the cell (x, y) is in the set.
+    /// Checks whether the cell (x, y) is in the pattern.
     pub fn has(&self, x: i32, y: i32) -> bool
         ensures { result ≡ has self.now (cell_at x y) }
     {
@@ -176,13 +176,14 @@ impl Pattern {
     }
 }
 
-/// Merges `others` into a list whose first `count` cells are in use, and which has just enough room for both. The merge
-/// goes from the end, and stops when all of `others` are in place. If both lists are in order, so is the result:
+/// Merges `others` into `cells`, of which only the first `count` are in use. The remaining places are just enough for
+/// `others`. The merge works from the end, and stops when all of `others` are in place. If both lists are in order, so
+/// is the result:
 ///
 /// ```text
-/// a b f g h . .      the others: c e
-/// a b f . f g h      g and h, and then f, move two places on
-/// a b c e f g h
+/// a b f g h . .      `others` is c e
+/// a b . . f g h      h, g and f move two places on
+/// a b c e f g h      e and c are in place
 /// ```
 fn merge(cells: &mut [Cell], count: usize, others: &[Cell])
     requires { length cells.old ≡ count + length others.now }
@@ -210,14 +211,14 @@ fn comes_later(cells: &[Cell], count: usize, cell: Cell) -> bool
     count > 0 && cell < cells[count - 1]
 }
 
-/// The law of sets of cells: each has only one list in order. So two patterns with the same cells are the same list.
+/// The law that a set of cells has only one list in order. So two patterns with the same cells are the same list.
 #[tactic(auto, using(crate::proofs::lemmas::plane::SetLemmas::same_lists))]
 pub fn sets_have_one_list()
     ensures { SetsHaveOneList }
 {}
 
-/// Returns the cells in order, each once. Cells that were read from a board usually are in order already, and aren't
-/// sorted.
+/// Returns the cells in order, with each cell once. Cells that were read from a board usually are in order already.
+/// Then they aren't sorted again.
 pub(crate) fn in_order(cells: Vec<Cell>) -> Vec<Cell>
     ensures { result.items ≡ set_of cells.items }
 {

@@ -43,7 +43,8 @@ impl fmt::Debug for RuleFault {
 /// A Life-like rule without birth on zero neighbours, such as Conway's Life, `b3s23`.
 ///
 /// It has birth numbers from 1 to 8 and survival numbers from 0 to 8. A dead cell is born if the number of its live
-/// neighbours is a birth number. A live cell survives if this number is a survival number. Every other cell is dead.
+/// neighbours is a birth number. A live cell survives if this number is a survival number. Every other cell is dead in
+/// the next generation.
 #[derive(Clone, Copy, Debug, PartialEq, Eq)]
 pub struct Rule {
     births: [bool; 8],
@@ -100,8 +101,8 @@ impl Rule {
         }
     }
 
-    /// Reads a rule such as `b3s23` (LifeWiki, "Rulestring"): a `b`, the digits of the birth numbers, an `s`, the
-    /// digits of the survival numbers, each in ascending order. Letters are lower case.
+    /// Reads a rule such as `b3s23` (LifeWiki, "Rulestring"): a `b`, the digits of the birth numbers, an `s`, and the
+    /// digits of the survival numbers. The digits after each letter ascend, and the letters are lower case.
     ///
     /// # Errors
     ///
@@ -115,7 +116,7 @@ impl Rule {
         ensures text { IfOk result (λ rule. rule_text rule ≡ text.now) }
         ensures complete { (rule : Numbers) → IsRule rule → rule_text rule ≡ text.now → result ≡ Ok rule }
 
-        // Which fault is returned.
+        // When each fault is returned.
         ensures bad_rule { (place : ℕ) → result ≡ Err (RuleFault.BadRule place) → IsFirstFault text.now place }
         ensures birth_zero { (result ≡ Err RuleFault.BirthZero) ↔ IsTrue (begins text.now (codes "b0")) }
 
@@ -201,8 +202,8 @@ impl Rule {
     }
 }
 
-/// Puts `letter` at `place` in the text, and after it the digits of the numbers that have the answer `true`. The first
-/// answer is for the number `least`. Returns the place after the last digit.
+/// Puts `letter` at `place` in the text, followed by the digits of the numbers that have the answer `true`. The first
+/// answer is for the number `least`, the second for `least` + 1, and so on. Returns the place after the last digit.
 fn put_numbers(
     text: &mut [u8; LONGEST],
     place: usize,
@@ -227,7 +228,7 @@ fn put_numbers(
 }
 
 /// Reads the ascending digits with which the text begins, each for one of the `N` numbers from `least` on. Returns
-/// which of these numbers were read, and the text after them.
+/// which of these numbers were read, and the text after the digits.
 fn read_numbers<const N: usize>(text: &[u8], least: u8) -> ([bool; N], &[u8])
     requires { least + N ≤ 10 }
     ensures logic { result.0 ≡ (numbers_at N least text.now).logic }

@@ -1,4 +1,4 @@
-//! Moved and turned patterns:
+//! Moves and turns patterns:
 //!
 //! ```text
 //! O . .        . . O
@@ -29,7 +29,7 @@ use thiserror::Error;
 /// Why a pattern can't be moved or turned.
 #[derive(Clone, Copy, PartialEq, Eq, Error)]
 pub enum PlaceError {
-    /// A cell would be past the bound.
+    /// A cell would be past the bound of the plane.
     OutOfPlane,
     /// Memory ran out.
     Memory(OutOfMemory),
@@ -64,8 +64,8 @@ impl Pattern {
     ///
     /// # Errors
     ///
-    /// `OutOfPlane` if a cell would be past the bound, whether there is memory or not. Otherwise `Memory` if memory
-    /// runs out.
+    /// `OutOfPlane` if a cell would be past the bound, even if there is no memory. Otherwise `Memory` if memory runs
+    /// out.
     pub fn shift(&self, alloc: Global, dx: i32, dy: i32) -> Result<Pattern, PlaceError>
         ensures shifted { IfOk result (λ pattern. pattern ≡ shifted dx dy self.now) }
         ensures plane { OnOk result (list_all on_plane (shifted dx dy self.now) ≡ true) }
@@ -91,8 +91,8 @@ impl Pattern {
     ///
     /// # Errors
     ///
-    /// `OutOfPlane` if a side of the image's box has more than 1,000,001 cells, so that a cell would be past the bound,
-    /// whether there is memory or not. Otherwise `Memory` if memory runs out.
+    /// `OutOfPlane` if a side of the image's bounding box has more than 1,000,001 cells, so that a cell would be past
+    /// the bound, even if there is no memory. Otherwise `Memory` if memory runs out.
     pub fn turn(&self, alloc: Global, orientation: Orientation) -> Result<Pattern, PlaceError>
         ensures turned { IfOk result (λ pattern. pattern ≡ turned orientation self.now) }
         ensures plane { OnOk result (list_all on_plane (turned orientation self.now) ≡ true) }
@@ -121,7 +121,7 @@ impl Pattern {
     }
 }
 
-/// An orientation, followed by a move by (dx, dy).
+/// A map of cells: an orientation, followed by a move by (dx, dy).
 #[derive(Clone, Copy)]
 pub(crate) struct Transform {
     orientation: Orientation,
@@ -130,7 +130,7 @@ pub(crate) struct Transform {
 }
 
 impl Transform {
-    /// Returns the image of the cell, or some cell off the plane if the image is off the plane.
+    /// Returns the image of the cell. If the image is off the plane, the result may be another cell off the plane.
     fn landing(self, cell: Cell) -> Cell
         requires { on_plane cell ≡ true }
         ensures plane { on_plane result ≡ on_plane (landed self cell) }
@@ -143,7 +143,7 @@ impl Transform {
         }
     }
 
-    /// Returns the images of the cells, in the order of the cells. All images are on the plane.
+    /// Returns the images of the cells, in the order of the cells. All images must be on the plane.
     fn transform_all(self, alloc: Global, cells: &[Cell]) -> Result<Vec<Cell>, OutOfMemory>
         requires cells { list_all on_plane cells.now ≡ true }
         requires landed { list_all on_plane (map (landed self) cells.now) ≡ true }
@@ -157,8 +157,8 @@ impl Transform {
     }
 }
 
-/// Returns the transform that turns the cells and then moves the smallest column and the smallest row of their image to
-/// 0, or `None` if a cell would be past the bound there.
+/// Returns the transform that turns the cells and then moves their image so that its smallest column and its smallest
+/// row are 0, or `None` if a cell would then be past the bound.
 fn to_corner(cells: &[Cell], orientation: Orientation) -> Option<Transform>
     requires { list_all on_plane cells.now ≡ true }
     ensures transform { IfSome result

@@ -2,7 +2,7 @@
 //!
 //! ```text
 //! O O . . .      . . . . .
-//! . O . . .      . . . O O      The second is the first, moved by (3, 1).
+//! . O . . .      . . . O O      The second pattern is the first one, moved by (3, 1).
 //! . . . . .      . . . . O
 //! ```
 ghost use Rattle.std.specs.Prelude.{◌≡◌, ◌-ℤ◌, true};
@@ -14,8 +14,8 @@ use crate::plane::coordinate::difference;
 use crate::plane::pattern::Pattern;
 
 impl Pattern {
-    /// Returns the displacement (dx, dy) by which this pattern has to be moved to become the other, or `None` if there
-    /// is none. It is (0, 0) if both are empty.
+    /// Returns the displacement (dx, dy) by which this pattern has to be moved to become the other, or `None` if no
+    /// displacement does this. The result is (0, 0) if both patterns are empty.
     pub fn shift_to(&self, other: &Pattern) -> Option<(i32, i32)>
         ensures { FindsShift self.now other.now result }
     {
@@ -36,7 +36,7 @@ impl Pattern {
     }
 }
 
-/// Returns the step from one cell of the plane to another.
+/// Returns the displacement (dx, dy) from one cell of the plane to another.
 #[tactic(auto, unfolding(crate::specs::plane::Cells::on_plane))]
 fn step_between(from: Cell, to: Cell) -> (i32, i32)
     requires from { on_plane from ≡ true }

@@ -11,24 +11,25 @@
 //!        +------------------------+
 //! ```
 
-/// The columns of a window: a row is one word.
+/// The number of columns of a window: each row is one word of 64 bits.
 pub(crate) const COLUMNS: usize = 64;
 
-/// The columns and rows on each side of a window that may be wrong after four generations, because everything outside
-/// of the window is taken for dead.
+/// The number of columns or rows on each side of a window that may be wrong after four generations, because everything
+/// outside of the window is taken for dead.
 pub(crate) const MARGIN: usize = 4;
 
-/// The columns of a window that are right after four generations.
+/// The number of columns of a window that are right after four generations.
 pub(crate) const INNER_COLUMNS: usize = COLUMNS - 2 * MARGIN;
 
-/// A bit for each of the inner columns, 4 to 59.
+/// The mask of the inner columns: a 1 for each of columns 4 to 59.
 pub(crate) const INNER_COLUMN_MASK: u64 = 0x0fff_ffff_ffff_fff0;
 
-/// The fewest rows of a window of a leap.
+/// The smallest number of rows of the windows in which leaps are run.
 pub(crate) const LEAST_ROWS: usize = 20;
 
-/// The most rows of a window of a leap. Larger windows would have larger boxes, and more of a box would be at rest.
+/// The largest number of rows of the windows in which leaps are run. Larger windows would lead to larger active boxes,
+/// of which a larger part would be at rest.
 pub(crate) const MOST_ROWS: usize = 56;
 
-/// The most rows of a window of a leap that are right after four generations.
+/// The largest number of rows of such a window that are right after four generations.
 pub(crate) const MOST_INNER_ROWS: usize = MOST_ROWS - 2 * MARGIN;

@@ -1,6 +1,7 @@
 //! Sums over four words at once: a vector has a word in each of its four lanes.
 //!
-//! Cells are added in binary digits, each digit a vector, so that one operation works on 256 cells:
+//! The cells are added in binary, and each binary digit of the sums is a vector, so that one operation works on 256
+//! cells:
 //!
 //! ```text
 //!            lane 0      lane 1      lane 2      lane 3
@@ -20,7 +21,8 @@ pub(crate) struct Sum {
     pub(crate) twos: u64x4,
 }
 
-/// The sums within a row, for each cell: of its two neighbours, and of these and the cell itself.
+/// Two sums within a row, for each cell: the sum of its two neighbours (`beside`), and the sum of these and the cell
+/// itself (`all`).
 #[derive(Clone, Copy)]
 pub(crate) struct RowSums {
     pub(crate) beside: Sum,
@@ -48,7 +50,8 @@ pub(crate) fn added(a: u64x4, b: u64x4, c: u64x4) -> Sum
     }
 }
 
-/// Returns the row sums of a vector: for each bit, of the two bits beside it, and of these and the bit itself.
+/// Returns the row sums of a vector: for each bit, the sum of the two bits beside it, and the sum of these and the bit
+/// itself.
 #[inline(always)]
 pub(crate) fn across(words: u64x4) -> RowSums
     ensures all { (j i : ℕ) → j < 4 → i < 64 → sum_of result.all j i ≡ row_sum (slice_index words j) i }
@@ -65,13 +68,13 @@ pub(crate) fn across(words: u64x4) -> RowSums
     }
 }
 
-/// Returns the sum of the sums of three rows.
+/// Returns the total of the sums of three rows.
 #[inline(always)]
 pub(crate) fn summed(up: Sum, here: Sum, down: Sum) -> Total
     ensures { (j i : ℕ) → j < 4 → total_of result j i ≡ sum_of up j i + sum_of here j i + sum_of down j i }
 {
     let low = added(up.ones, here.ones, down.ones);
-    // Each of these counts twice.
+    // `high` is a number of twos.
     let high = added(up.twos, here.twos, down.twos);
     let carry = low.twos & high.ones;
     Total {
@@ -82,7 +85,7 @@ pub(crate) fn summed(up: Sum, here: Sum, down: Sum) -> Total
     }
 }
 
-/// Returns the bit of `yes` wherever `test` has a 1, and the bit of `no` wherever it has a 0.
+/// Returns the bit of `yes` wherever `test` has a 1, and the bit of `no` wherever `test` has a 0.
 #[inline(always)]
 #[tactic(auto, using(crate::proofs::lemmas::windows::LaneLemmas::lane_choice))]
 pub(crate) fn choice(test: u64x4, yes: u64x4, no: u64x4) -> u64x4

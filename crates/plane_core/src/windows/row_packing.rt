@@ -1,4 +1,4 @@
-//! Converts the rows of a window between a list and vectors. Here is a window of 40 rows, which are ten vectors:
+//! Converts the rows of a window between a list and vectors. For example, a window of 40 rows has ten vectors:
 //!
 //! ```text
 //!             lane 0    lane 1    lane 2    lane 3
@@ -9,7 +9,7 @@
 //! ```
 //!
 //! Four vectors are converted at a time: the rows 0 to 3, 10 to 13, 20 to 23 and 30 to 33 are the vectors 0 to 3,
-//! turned like a matrix.
+//! transposed like a matrix.
 ghost use Rattle.std.specs.Prelude.{◌≡◌, ◌+◌, ◌*◌, ◌<◌, ◌≤◌, ◌⊎◌, ◌∷◌, [], ℕ, length, slice_index};
 ghost use Rattle.plane_core.specs.windows.Windows.{lane_at, row_at};
 
@@ -28,7 +28,7 @@ pub(crate) fn four_words(words: &[u64], i: usize) -> [u64; 4]
     four
 }
 
-/// Replaces the four words from word `i` on.
+/// Replaces the four words from word `i` on with `four`.
 #[inline(always)]
 pub(crate) fn set_words(words: &mut [u64], i: usize, four: [u64; 4])
     requires { i + 4 ≤ length words.old }
@@ -40,7 +40,8 @@ pub(crate) fn set_words(words: &mut [u64], i: usize, four: [u64; 4])
     }
 }
 
-/// Returns the four vectors turned like a matrix: lane j of vector i is what was lane i of vector j.
+/// Returns four vectors, transposed like a matrix: lane j of vector i of the result is lane i of vector j of the
+/// arguments.
 #[inline(always)]
 fn turned(a: u64x4, b: u64x4, c: u64x4, d: u64x4) -> [u64x4; 4]
     ensures { (i j : ℕ) → i < 4 → j < 4 → lane_at result i j ≡ lane_at (a ∷ b ∷ c ∷ d ∷ []) j i }
@@ -57,7 +58,7 @@ fn turned(a: u64x4, b: u64x4, c: u64x4, d: u64x4) -> [u64x4; 4]
     ]
 }
 
-/// Makes the four vectors from vector `k` on of the window with these rows.
+/// Sets the four vectors from vector `k` on of the window that has these rows.
 #[inline(always)]
 fn pack_four<const R: usize, const N: usize>(rows: &[u64; R], window: &mut [u64x4], k: usize)
     requires rows { R ≡ 4 * N }
@@ -98,7 +99,7 @@ pub(crate) fn packed<const R: usize, const N: usize>(rows: &[u64; R]) -> [u64x4;
     window
 }
 
-/// Stores the rows of four vectors of a window, from vector `k` on.
+/// Stores the rows of four vectors of a window, from vector `k` on, at their places in `rows`.
 #[inline(always)]
 fn unpack_four<const N: usize>(window: &[u64x4; N], rows: &mut [u64], k: usize)
     requires vectors { k + 4 ≤ N }

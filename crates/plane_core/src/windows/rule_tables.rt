@@ -1,8 +1,8 @@
 //! A rule as operations on words: which cells are alive next, depending on the number of live cells in their
 //! neighbourhoods.
 //!
-//! The answer for each total from 0 to 9 is a word of equal bits, and the digits of the total choose between these
-//! words. So no branch depends on a cell or on the rule:
+//! For each total from 0 to 9, the answer (whether a cell is alive next) is a word of equal bits. The binary digits of
+//! the total choose between these words. So no branch depends on a cell or on the rule:
 //!
 //! ```text
 //! eights ?  ones ? 9 : 8
@@ -12,8 +12,8 @@
 //!                         :  ones ? 1 : 0
 //! ```
 //!
-//! Life is run most often. It needs fewer operations, which count only the eight neighbours. It is a type of its own,
-//! so that the loop of a generation is compiled once for Life and once for any rule.
+//! Life is run most often. It needs fewer operations, which count only the eight neighbours. It has a type of its own,
+//! [`Life`], so that the loop of a generation is compiled once for Life and once for any other rule.
 ghost use Rattle.std.specs.Prelude.{◌≡◌, ◌==◌, ◌+◌, ◌-◌, ◌*◌, ◌<◌, ◌≤◌, ◌%◌, true, ℕ, slice_index};
 ghost use Rattle.std.specs.Int.{bit_at};
 ghost use Rattle.plane_core.specs.windows.LaneSums.{AnswersRows, AreBeside, bit_of};
@@ -29,7 +29,8 @@ use std::simd::u64x4;
 pub(crate) trait CellLogic {
     ghost rule: { Self → Numbers };
 
-    /// Returns the words one generation after `now`, from the sums of the rows above (`up`), here and below (`down`).
+    /// Returns the words one generation after `now`, from the sums of the rows of `now` (`here`), of the rows above
+    /// them (`up`) and of the rows below them (`down`).
     fn next_cells(&self, up: Sum, here: RowSums, down: Sum, now: u64x4) -> u64x4
         requires { AreBeside here now }
         ensures { AnswersRows (rule self.now) up here.all down now result };
@@ -44,8 +45,8 @@ impl CellLogic for Life {
 
     #[inline(always)]
     fn next_cells(&self, up: Sum, here: RowSums, down: Sum, now: u64x4) -> u64x4 {
-        // From the eight neighbours: alive for three, and for two if the cell was alive. Their sum is two or three
-        // exactly if one of the digits that count twice is 1.
+        // A cell is alive next if it has three live neighbours, or if it is alive and has two. The number of live
+        // neighbours is two or three if and only if exactly one of the four digits that count as 2 is 1.
         let low = added(up.ones, down.ones, here.beside.ones);
         only_one(up.twos, down.twos, here.beside.twos, low.twos) & (low.ones | now)
     }
@@ -64,7 +65,7 @@ pub(crate) struct RuleTables {
 }
 
 impl RuleTables {
-    /// Returns the answers of a rule.
+    /// Returns the tables of a rule.
     pub(crate) fn new(rule: &Rule) -> RuleTables
         ensures { result.rule ≡ rule.now }
     {

@@ -1,8 +1,8 @@
 //! Windows: pieces of the plane, 64 columns wide, stored in vectors.
 //!
 //! A window of N vectors has 4 N rows. Row r is lane r / N of vector r % N. So the rows above and below a vector's rows
-//! are in the neighbouring vectors. The rows above the first vector are in the last one, moved to the next lane, and
-//! the rows below the last vector are in the first one, moved to the previous lane:
+//! are in the neighbouring vectors. The rows above those of the first vector are the rows of the last vector, moved to
+//! the next lane. The rows below those of the last vector are the rows of the first one, moved to the previous lane:
 //!
 //! ```text
 //!            lane 0    lane 1    lane 2    lane 3
@@ -12,7 +12,8 @@
 //! vector 9   row 9     row 19    row 29    row 39
 //! ```
 //!
-//! Everything around the window is taken for dead. So with each generation, a window is wrong one cell further inside.
+//! Everything around the window is taken for dead. So cells of the window may become wrong, and with each generation,
+//! such cells reach one cell further inside.
 ghost use Rattle.std.specs.Prelude.{◌≡◌, ◌+◌, ◌<◌, [], slice_index_or};
 ghost use Rattle.plane_core.specs.windows.LaneSums.{AreBeside};
 ghost use Rattle.plane_core.specs.windows.RuleLogic.{rule_of};
@@ -23,7 +24,7 @@ use crate::windows::rule_logic::RuleLogic;
 use crate::windows::rule_tables::{CellLogic, Life};
 use std::simd::u64x4;
 
-/// Advances the window by one generation. Life has a loop of its own.
+/// Advances the window by one generation. The loop is compiled separately for Life.
 #[inline(always)]
 pub(crate) fn generation<const N: usize>(window: &mut [u64x4; N], rule: &RuleLogic)
     requires { 0 < N }
@@ -35,9 +36,9 @@ pub(crate) fn generation<const N: usize>(window: &mut [u64x4; N], rule: &RuleLog
     }
 }
 
-/// Advances the window by one generation. The sums of a vector are computed once, and are used for the three rows that
-/// they belong to. Three vectors are computed per iteration, so that no sums have to be moved from one register to
-/// another.
+/// Advances the window by one generation. The sums of a vector are computed once, and are used for this vector and for
+/// the vectors above and below it. Three vectors are computed per iteration, so that no sums have to be moved from one
+/// register to another.
 #[inline(always)]
 fn generation_with_logic<const N: usize, A: CellLogic>(window: &mut [u64x4; N], rule: &A)
     requires { 0 < N }
@@ -64,7 +65,7 @@ fn generation_with_logic<const N: usize, A: CellLogic>(window: &mut [u64x4; N], 
     window[N - 1] = rule.next_cells(up, here, earlier_sum(first.all), window[N - 1]);
 }
 
-/// Advances vector `k` by one generation, from the sums `up` of the rows above it and its own sums `here`. Returns the
+/// Advances vector `k` by one generation, given the sums `up` of the rows above it and its own sums `here`. Returns the
 /// sums of the rows below it.
 #[inline(always)]
 fn next_vector<const N: usize, A: CellLogic>(
@@ -83,7 +84,7 @@ fn next_vector<const N: usize, A: CellLogic>(
     below
 }
 
-/// Advances the window by `count` generations. Life has loops of its own.
+/// Advances the window by `count` generations. The loops are compiled separately for Life.
 #[inline(always)]
 pub(crate) fn generations<const N: usize>(window: &mut [u64x4; N], rule: &RuleLogic, count: usize)
     requires { 0 < N }

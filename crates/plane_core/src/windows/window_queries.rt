@@ -1,4 +1,4 @@
-//! Questions about a window: its rows, the columns with a live cell, whether its rim is clear.
+//! Questions about a window: what a row is, which columns have a live cell, whether the rim is clear.
 //!
 //! ```text
 //! . . . . . . .     row 1, the first with a live cell
@@ -14,7 +14,7 @@ ghost use Rattle.plane_core.specs.windows.Windows.{row_at};
 
 use std::simd::u64x4;
 
-/// Returns the columns that have a live cell, a bit for each.
+/// Returns the columns that have a live cell, as a word with a 1 for each of them.
 #[inline(always)]
 pub(crate) fn columns_of<const N: usize>(window: &[u64x4; N]) -> u64
     ensures columns { IsColumns N window.now result }
@@ -97,7 +97,7 @@ fn marked(marks: u64x4, a: u64x4, b: u64x4) -> u64x4
     marks | (a ^ b)
 }
 
-/// Returns the first row with a live cell, or `None` if there is none.
+/// Returns the first row with a live cell, or `None` if the window has no live cell.
 pub(crate) fn first_row<const N: usize>(window: &[u64x4; N]) -> Option<usize>
     requires some { 0 < N }
     requires few { N ≤ 16 }

@@ -1,15 +1,15 @@
 //! Escaped spaceships: nothing else in the pattern can ever catch up with them, so they may be removed from the board.
 //!
 //! ```text
-//! O O . . . . . . .     The depth of a cell is the sum of its column and its row. In two generations the rest gets at
-//! . O O . . . . . .     most one deeper, and a glider does too: it moves one cell right and one down in four. So a
-//! . . . . . O . . .     glider whose bounding box begins seven deeper than the deepest cell of the rest is never
-//! . . . . . . O . .     caught. The same holds in the three other diagonal directions.
-//! . . . . O O O . .
+//! O O . . . . . . .     The depth of a cell is the sum of its column and its row. In two generations, the greatest
+//! . O O . . . . . .     depth of the rest grows by at most 1, and that of a glider grows by 1: in four generations,
+//! . . . . . O . . .     it moves one cell right and one cell down. So a glider whose bounding box begins seven deeper
+//! . . . . . . O . .     than the deepest cell of the rest is never caught. The same holds in the three other diagonal
+//! . . . . O O O . .     directions.
 //! ```
 //!
-//! A spaceship is kept as it was when it was removed, with the time. Its later positions come from whole periods, each
-//! of which displaces it by the same vector, and from single generations for the remainder.
+//! A spaceship is kept as it was when it was removed, with the time of the removal. For a later time, it is displaced
+//! by the same vector for each whole period, and run for the remaining generations.
 
 ghost use Rattle.std.specs.Prelude.{◌≡◌, ◌≢◌, ◌+◌, ◌≤◌, ◌^◌, [], IfOk, IfSome, IsTrue, true, unsigned_abs};
 ghost use Rattle.std.specs.Prelude.{◌+ℤ◌, ◌*ℤ◌, ◌≤ℤ◌, pos};
@@ -39,31 +39,31 @@ use plane_core::plane::rule::Rule;
 use plane_core::plane::transform::PlaceError;
 use std::alloc::Global;
 
-/// A part of a board that the memo doesn't know is skipped if it surely doesn't recur within this many generations.
-/// Nearly all spaceships that soups of Life leave recur within four.
+/// If the memo doesn't know a part of a board, the part is skipped if a test shows that it doesn't recur within this
+/// many generations. Nearly all spaceships that soups of Life leave recur within four generations.
 const SHORT: u32 = 8;
 
 /// A spaceship that was removed from a board.
 #[derive(Drop)]
 pub(crate) struct Spaceship {
-    /// Its cells when it was removed.
+    /// The spaceship's cells when it was removed.
     pub(crate) cells: Pattern,
-    /// The number of generations that the board had made by then.
+    /// The number of generations that the board had made when the spaceship was removed.
     pub(crate) since: u32,
-    /// How it recurs.
+    /// The period and the displacement of the spaceship.
     pub(crate) recurrence: Recurrence,
 }
 
 /// The laws of spaceships. Under a slow rule, the rest of a pattern never comes within two cells of a spaceship that is
-/// ahead of it. The pattern evolves as the rest and the spaceship do, each run alone.
+/// ahead of it. So each generation of the pattern is the union of the rest and the spaceship, each run alone.
 pub fn spaceships_are_never_caught()
     ensures ahead { SpaceshipsStayAhead }
     ensures alone { SpaceshipsRunAlone }
 {}
 
-/// Returns `part` of the board as a spaceship that is removed at `time`. Returns `None` if it doesn't recur within
-/// `limit` generations, 1 to 64, if it isn't surely ahead of all the rest, or if [`is_unlikely`] guesses that it isn't
-/// a spaceship.
+/// Returns `part`, a part of the board, as a spaceship that is removed at `time`. Returns `None` if the part doesn't
+/// recur within `limit` generations (1 to 64), if it isn't shown to stay ahead of a rest of the board, or if
+/// [`is_unlikely`] guesses that it isn't a spaceship.
 pub(crate) fn spaceship_of(
     alloc: Global,
     rule: &Rule,
@@ -112,15 +112,15 @@ pub(crate) fn spaceship_of(
     }))
 }
 
-/// Guesses that a part of a board isn't a spaceship, if the memo doesn't know its shape and a cheap test shows that it
-/// doesn't recur within `SHORT` generations. The guess is wrong for a spaceship with a longer period, which then stays
-/// on the board. The test comes first, since few changing clusters are spaceships. It is skipped for shapes that the
-/// memo knows: these are mostly spaceships that aren't ahead yet.
+/// Guesses whether a part of a board isn't a spaceship: the guess is `true` if the memo doesn't know the part's shape
+/// and a cheap test shows that the part doesn't recur within `SHORT` generations. This guess is wrong for a spaceship
+/// with a longer period, which then stays on the board. The guess saves time, since few changing clusters are
+/// spaceships. The shapes that the memo knows are mostly spaceships that aren't ahead yet, so they aren't tested.
 fn is_unlikely(rule: &Rule, limit: u32, part: &Pattern, memo: &Memo) -> bool {
     !memo.knows(rule, limit, part) && part.surely_changes(rule, limit.min(SHORT))
 }
 
-/// Returns the orientation that turns the direction of a spaceship to the right and down.
+/// Returns an orientation that turns the displacement of a spaceship so that it points to the right and down.
 fn way_of(recurrence: Recurrence) -> Orientation {
     if recurrence.dx >= 0 {
         if recurrence.dy >= 0 {
@@ -135,8 +135,8 @@ fn way_of(recurrence: Recurrence) -> Orientation {
     }
 }
 
-/// Checks whether a pattern that recurs like this, turned by the orientation, gets at least one cell deeper in two
-/// generations.
+/// Checks whether a pattern with this recurrence, turned by the orientation, gets on average at least one cell deeper
+/// in two generations.
 fn is_fast(way: Orientation, recurrence: Recurrence) -> bool
     ensures { IsTrue result
         → pos recurrence.period ≤ℤ (pos 2 *ℤ depth (turned_cell way (cell_at recurrence.dx recurrence.dy))) }
@@ -152,7 +152,7 @@ fn is_fast(way: Orientation, recurrence: Recurrence) -> bool
     i64::from(period) <= 2 * least_depth(way, step)
 }
 
-/// Checks whether the box of all phases begins far enough past the frontier.
+/// Checks whether the bounding box of all phases, turned by the orientation, begins far enough past the frontier.
 fn begins_past(way: Orientation, frontier: i32, envelope: &EnvelopeBounds) -> bool
     ensures { IsTrue result → BeginsPast way frontier envelope.now }
 {
@@ -160,14 +160,16 @@ fn begins_past(way: Orientation, frontier: i32, envelope: &EnvelopeBounds) -> bo
     twice_least(frontier, recurrence.period) <= 2 * least_depth(way, bounds)
 }
 
-/// Returns twice the least depth of a spaceship with this period that is ahead of everything up to the frontier.
+/// Returns twice the depth that each cell of a spaceship with this period must have at least, so that the spaceship is
+/// ahead of everything up to the frontier.
 fn twice_least(frontier: i32, period: u32) -> i64
     ensures { result ≡ ((pos 2 *ℤ frontier) +ℤ pos (period + 10)) }
 {
     2 * i64::from(frontier) + i64::from(period) + 10
 }
 
-/// Returns the least depth of the cells of a box, turned by the orientation: column and row together.
+/// Returns the least depth of the cells of a box after they are turned by the orientation. The depth of a cell is the
+/// sum of its column and its row.
 fn least_depth(way: Orientation, bounds: Bounds) -> i64
     ensures least { (c : Cell) → IsWithin bounds c → result ≤ℤ depth (turned_cell way c) }
     ensures small { unsigned_abs result ≤ 2 ^ 33 }
@@ -194,8 +196,8 @@ fn sum(one: i32, other: i32) -> i64
     i64::from(one) + i64::from(other)
 }
 
-/// Returns the cells of the spaceship at `time`. Whole periods are made by displacing it, and the remainder generation
-/// by generation.
+/// Returns the cells of the spaceship at `time`. The spaceship is run only for the generations that are left after
+/// whole periods, and displaced for the whole periods.
 pub(crate) fn at_time(
     alloc: Global,
     rule: &Rule,

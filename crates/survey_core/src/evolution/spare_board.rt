@@ -2,8 +2,8 @@
 //! again.
 //!
 //! ```text
-//! first soups      a small board, which is made quickly
-//! one outgrows it  the next board is a large one, and stays
+//! first soups          a small board, which is made quickly
+//! a soup outgrows it   the next board that is made is large, and is kept
 //! ```
 ghost use Rattle.std.specs.Prelude.{◌≡◌, IfOk, IfSome};
 
@@ -25,9 +25,9 @@ pub(crate) struct SpareBoard {
 /// The size of a board.
 #[derive(Clone, Copy)]
 enum Size {
-    /// Enough for most patterns, and quick to make.
+    /// A board that is quick to make, and has room for most patterns.
     Small,
-    /// For all patterns, once one of them had no room on a small board.
+    /// A larger board, for all patterns once a pattern had no room on a small board.
     Large,
 }
 
@@ -40,8 +40,8 @@ impl SpareBoard {
         }
     }
 
-    /// Returns a board that shows `pattern` under `rule`: the spare one, or a new one. The board belongs to the caller
-    /// until [`give_back`](SpareBoard::give_back) or [`outgrow`](SpareBoard::outgrow) returns it.
+    /// Returns a board that shows `pattern` under `rule`: the spare board, or a new one. The board belongs to the
+    /// caller, who gives it back with [`give_back`](SpareBoard::give_back) or [`outgrow`](SpareBoard::outgrow).
     ///
     /// Returns `None` if there is no memory for a board, or if the board has no room for the pattern.
     ///
@@ -78,8 +78,8 @@ impl SpareBoard {
         self.board = Some(board);
     }
 
-    /// Takes back a board that had no room for a pattern. A small one is dropped, and the next board that is made is
-    /// large. A large one is kept.
+    /// Takes back a board that had no room for a pattern. A small board is dropped, and the next board that is made is
+    /// large. A large board is kept.
     pub(crate) fn outgrow(&mut self, board: Board) {
         match self.size {
             Size::Small => self.size = Size::Large,

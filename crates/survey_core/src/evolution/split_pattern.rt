@@ -1,5 +1,5 @@
-//! A board together with the spaceships that were removed from it. Together they are the pattern, and each evolves
-//! alone:
+//! A board together with the spaceships that were removed from it. The pattern is the union of the board's cells and
+//! the spaceships, and each of them evolves alone:
 //!
 //! ```text
 //! generation     202                      404                       606
@@ -7,8 +7,8 @@
 //! spaceships                              the glider, since 404     the glider, since 404
 //! ```
 //!
-//! Such a board advances by even numbers of generations only. In n generations the rest gets at most n / 2 cells
-//! nearer, rounded up. Repeated odd numbers would add up the roundings.
+//! The board advances by even numbers of generations only: in n generations, the rest gets at most n / 2 cells nearer
+//! to a spaceship, rounded up, and for odd numbers of generations, the roundings would add up.
 
 ghost use Rattle.std.specs.Prelude.{◌≡◌, ◌+◌, ◌≤◌, All, IfOk, OnOk, false, true};
 ghost use Rattle.plane_core.specs.plane.Frontiers.{is_slow};
@@ -27,12 +27,12 @@ use plane_core::plane::pattern::Pattern;
 use plane_core::plane::rule::Rule;
 use std::alloc::Global;
 
-/// The last generation up to which spaceships are kept off a board. No survey takes so long, and until then no
-/// spaceship comes near the edge of the plane.
+/// The last generation in which spaceships may be kept off a board. No survey runs for so many generations, and in so
+/// many generations no spaceship comes near the edge of the plane.
 pub(crate) const LATEST_TIME: u32 = 800_000;
 
-/// How often spaceships are looked for, in generations. A search costs as much as a leap or two, and a spaceship that
-/// isn't found costs a window in every leap.
+/// The number of generations between two searches for escaped spaceships. A search costs as much as a leap or two, and
+/// an escaped spaceship that isn't removed costs a window in every leap.
 const EVERY: u32 = 64;
 
 /// The shortest period of a spaceship that can escape, in generations.
@@ -49,8 +49,8 @@ pub(crate) struct SplitPattern {
 
 impl SplitPattern {
     /// Removes escaped spaceships from the board, so that they no longer cost a window in every leap. Call this before
-    /// advancing the board by `generations`. It searches only if the board is about to pass a multiple of `EVERY`
-    /// generations. Spaceships whose period is over `limit`, 1 to 64, stay on the board.
+    /// advancing the board by `generations`. The board is searched only if it is about to pass a multiple of `EVERY`
+    /// generations. Spaceships whose period is over `limit` (1 to 64) stay on the board.
     pub(crate) fn remove_escaped(
         &mut self,
         alloc: Global,
@@ -109,8 +109,8 @@ impl SplitPattern {
     }
 }
 
-/// Removes the clusters that are ahead of all the rest, one after another. When one is removed, another cluster that
-/// was behind it may be ahead.
+/// Removes the clusters that are spaceships ahead of all the rest, one after another. When a cluster is removed, a
+/// cluster behind it may now be ahead of all the rest.
 fn remove_ahead(
     alloc: Global,
     rule: &Rule,
@@ -147,7 +147,7 @@ fn remove_ahead(
     Ok(())
 }
 
-/// Checks whether one of the spaceships has these cells.
+/// Checks whether one of the spaceships had these cells when it was removed.
 fn has_escaped(spaceships: &[Spaceship], cells: &Pattern) -> bool
     ensures { result ≡ false → IsNoneOf spaceships.now cells.now }
 {
@@ -176,7 +176,7 @@ pub(crate) fn whole(
     with_spaceships(alloc, rule, time, cells, spaceships)
 }
 
-/// Adds spaceships, as they are at `time`, to the cells of a board.
+/// Returns the union of a board's cells and the spaceships as they are at `time`.
 fn with_spaceships(
     alloc: Global,
     rule: &Rule,

@@ -1,7 +1,7 @@
 //! Clusters that are run alone, each by itself, a generation at a time.
 //!
-//! Each keeps the generation after its first, so that it needn't be made again whenever the cluster returns to the
-//! first:
+//! For each cluster, the generation after the start is kept as `first`. So it needn't be computed again whenever the
+//! cluster is the same as at the start:
 //!
 //! ```text
 //! cluster    first    latest, after 1, 2, 3 .. generations
@@ -25,25 +25,26 @@ use plane_core::plane::pattern::Pattern;
 use plane_core::plane::rule::Rule;
 use std::alloc::Global;
 
-/// The most clusters that are compared with each other. If there are more, a step of the whole costs less.
+/// The most clusters that are compared with each other. If there are more, it costs less to advance their union.
 const MOST_COMPARED: usize = 8;
 
-/// The most cells of a cluster that is compared with another cell by cell. Larger ones are compared only by their
-/// boxes.
+/// The most cells of a cluster that is compared with another cluster cell by cell. Of larger clusters, only the
+/// bounding boxes are compared.
 const MOST_CELLS: usize = 32;
 
 /// A cluster that is run alone.
 #[derive(Drop)]
 pub(crate) struct Alone {
     pub(crate) cluster: Pattern,
-    /// Its next generation.
+    /// The generation after `cluster`.
     pub(crate) first: Pattern,
     /// The cluster as it is now.
     pub(crate) latest: Pattern,
 }
 
 impl Alone {
-    /// Returns the next generation. It is known if the cluster is the same as at the start, as a still life always is.
+    /// Returns the next generation. This is `first` if the cluster is the same as at the start, as a still life always
+    /// is.
     fn next(&self, alloc: Global, rule: &Rule) -> Result<Pattern, OutOfMemory>
         requires first { self.now.first ≡ next rule.now self.now.cluster }
         requires near { lies_within 999999 self.now.latest ≡ true }
@@ -86,8 +87,8 @@ pub(crate) fn have_recurred(clusters: &[Alone]) -> bool
     true
 }
 
-/// Returns `true` only if each two of the clusters now lie more than two cells apart. `false` says nothing. Call this
-/// only with a few clusters.
+/// Returns `true` only if any two of the clusters are now more than two cells apart. `false` says nothing. If there are
+/// more than `MOST_COMPARED` clusters, the result is `false`.
 pub(crate) fn lie_apart(clusters: &[Alone]) -> bool
     ensures { IsTrue result → AllPairs LieApart (latest_of clusters.now) }
 {
@@ -103,8 +104,8 @@ pub(crate) fn lie_apart(clusters: &[Alone]) -> bool
     true
 }
 
-/// Returns `true` only if the cluster at `place` lies more than two cells apart from each one before it. `false` says
-/// nothing.
+/// Returns `true` only if the cluster at `place` is now more than two cells apart from each cluster before it in the
+/// list. `false` says nothing.
 fn lies_apart(clusters: &[Alone], place: usize) -> bool
     requires { place < length clusters.now }
     ensures { IsTrue result → LiesApartFrom place place clusters.now }
@@ -118,8 +119,8 @@ fn lies_apart(clusters: &[Alone], place: usize) -> bool
     true
 }
 
-/// Returns `true` only if two patterns lie more than two cells apart. `false` says nothing. First their boxes are
-/// compared, which usually suffices, and then their cells, unless there are many.
+/// Returns `true` only if two patterns are more than two cells apart. `false` says nothing. First the bounding boxes
+/// are compared, which usually suffices, and then the cells, unless a pattern has more than `MOST_CELLS`.
 fn are_apart(one: &Pattern, other: &Pattern) -> bool
     ensures { IsTrue result → LieApart one.now other.now }
 {
@@ -157,7 +158,7 @@ fn is_apart(cell: Cell, others: &[Cell]) -> bool
     true
 }
 
-/// Returns how far two cells are apart: the greater of the distances in columns and in rows.
+/// Returns the king distance of two cells: the greater of their distances in columns and in rows.
 fn king_distance(one: Cell, other: Cell) -> u32
     ensures { result ≡ king_distance one other }
 {

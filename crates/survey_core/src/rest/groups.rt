@@ -1,6 +1,7 @@
-//! Clusters that may come near each other share a group, and each group is run by itself. At first each cluster is a
-//! group of its own, numbered by its place. For each near pair, the number of one group becomes that of the other. Here
-//! the second and the fourth come near each other, and then the fourth and the first:
+//! Clusters that may come near each other are in the same group, and each group is run by itself. At first each cluster
+//! is a group of its own, whose number is the cluster's place in the list. For each two clusters that may come near
+//! each other, their groups become one. In this example, clusters 1 and 3 may come near each other, and so may clusters
+//! 3 and 0:
 //!
 //! ```text
 //! clusters    block   glider   block   blinker
@@ -22,8 +23,8 @@ use std::alloc::Global;
 /// longer than running them together. A soup of Life leaves 19 on average.
 const MOST_GROUPED: usize = 4096;
 
-/// Returns the number of the group of each cluster, from the envelopes. Clusters of different groups stay apart up to
-/// the horizon.
+/// Returns the number of each cluster's group, given the clusters' envelopes. Clusters of different groups stay apart
+/// up to the horizon.
 pub(crate) fn groups(
     alloc: Global,
     horizon: u32,
@@ -45,7 +46,7 @@ pub(crate) fn groups(
 }
 
 /// Joins the group of the cluster at `place` with the group of each cluster before it that it may meet.
-// Not inlined, because the loop would then spill what it needs for each pair.
+// This isn't inlined: in an inlined loop, the compiler would spill what the loop needs for each pair.
 #[inline(never)]
 fn join(horizon: u32, envelopes: &[EnvelopeBounds], place: usize, groups: &mut [usize])
     requires horizon { horizon ≤ 4096 }
@@ -66,7 +67,7 @@ fn join(horizon: u32, envelopes: &[EnvelopeBounds], place: usize, groups: &mut [
     }
 }
 
-/// Renumbers the group `from` as `to`.
+/// Replaces each group number `from` by `to`.
 fn rename(groups: &mut [usize], from: usize, to: usize)
     ensures { AreRenamed from to groups.old groups.new }
 {

@@ -9,11 +9,12 @@
 //!                                      +---+
 //! ```
 //!
-//! Two clusters stay apart if their envelopes, one of them grown by 2, do so in every cycle up to the horizon. Only
-//! their relative displacement counts. Once one lies past a side of the other, and no step leads back over that side,
-//! they never meet, and later cycles aren't tested. A cluster that stays in place has cycles of any length. Two that
-//! move with different periods are assumed to come near each other, and are run. Two still lifes stay apart whatever
-//! their boxes are, since they don't change, and clusters lie apart from the start.
+//! Two clusters stay apart if their envelopes, one of them grown by 2, have no cell in common in any cycle up to the
+//! horizon. Only the displacement of one envelope relative to the other counts. Once an envelope is past a side of the
+//! other and doesn't come back to that side, they never meet, and later cycles aren't tested. A cluster that recurs in
+//! place may have cycles of any length. Two clusters that move with different periods are assumed to come near each
+//! other, and are run. Two still lifes stay apart even if their boxes overlap, since clusters are apart at first, and
+//! still lifes never change.
 
 ghost use Rattle.std.specs.Prelude.{◌≡◌, ◌↔◌, ◌+◌, ◌*◌, ◌/◌, ◌-ℤ◌, ◌+ℤ◌, ◌<◌, ◌≤◌, ◌<ℤ◌, ◌≤ℤ◌, ◌⊎◌, ◌^◌};
 ghost use Rattle.std.specs.Prelude.{pos};
@@ -28,7 +29,7 @@ use code_core::recurrence::{Cycle, Recurrence};
 use plane_core::plane::bounds::Bounds;
 use plane_core::plane::pattern::Pattern;
 
-/// How a cluster recurs, and a box in which all its phases lie.
+/// How a cluster recurs, and a box that contains all its phases.
 #[derive(Clone, Copy)]
 pub(crate) struct EnvelopeBounds {
     pub(crate) recurrence: Recurrence,
@@ -69,7 +70,7 @@ pub(crate) fn box_round(pattern: &Pattern) -> Bounds
     }
 }
 
-/// Returns `true` only if patterns with these envelopes stay apart up to the horizon.
+/// Returns `true` only if patterns with these envelopes stay apart up to the horizon. `false` says nothing.
 pub(crate) fn stay_apart(horizon: u32, one: &EnvelopeBounds, other: &EnvelopeBounds) -> bool
     requires { horizon ≤ 4096 }
     ensures { IsTrue result → StayApart horizon one.now other.now }
@@ -77,7 +78,7 @@ pub(crate) fn stay_apart(horizon: u32, one: &EnvelopeBounds, other: &EnvelopeBou
     if are_still_and_apart(one, other) || are_still_lives(one, other) {
         return true;
     }
-    // The length of a cycle that suits both, if there is one.
+    // The length of a cycle that serves both envelopes, if any length does.
     let period = if is_still(one) {
         other.recurrence.period
     } else {
@@ -89,8 +90,8 @@ pub(crate) fn stay_apart(horizon: u32, one: &EnvelopeBounds, other: &EnvelopeBou
     are_clear_for(one, other, cycles_in(horizon, period))
 }
 
-/// Returns `true` only if neither pattern moves, and at least two empty columns or rows lie between the boxes. This
-/// decides nearly all pairs, most of them with one comparison of two rows.
+/// Returns `true` only if both patterns recur in place, and at least two empty columns or rows lie between their boxes.
+/// This is so for nearly all pairs, and for most of them one comparison of two rows shows it.
 fn are_still_and_apart(one: &EnvelopeBounds, other: &EnvelopeBounds) -> bool
     ensures { IsTrue result → (horizon : ℕ) → StayApart horizon one.now other.now }
 {
@@ -103,7 +104,7 @@ fn are_still_and_apart(one: &EnvelopeBounds, other: &EnvelopeBounds) -> bool
     are_boxes_apart(one.bounds, other.bounds)
 }
 
-/// Checks whether both are still lives. They never change, so they stay apart even if their boxes overlap.
+/// Checks whether both patterns are still lifes. These never change, so they stay apart even if their boxes overlap.
 fn are_still_lives(one: &EnvelopeBounds, other: &EnvelopeBounds) -> bool
     ensures { IsTrue result → (horizon : ℕ) → StayApart horizon one.now other.now }
 {
@@ -117,8 +118,9 @@ fn is_still_life(envelope: &EnvelopeBounds) -> bool
     envelope.recurrence.period == 1 && is_still(envelope)
 }
 
-/// Checks whether there are at least two empty columns or rows between the boxes. Clusters are ordered by their first
-/// rows, so nearly all earlier ones lie above. This is tested first.
+/// Checks whether there are at least two empty columns or rows between the boxes. It is first tested whether `other`
+/// lies above `one`: clusters are ordered by their first rows, so this is nearly always so for an earlier cluster
+/// `other`.
 pub(crate) fn are_boxes_apart(one: Bounds, other: Bounds) -> bool
     ensures { result ≡ is_clear one other (pos 0) (pos 0) }
 {
@@ -146,8 +148,8 @@ fn cycles_in(horizon: u32, period: u32) -> u32
     }
 }
 
-/// Checks whether the envelope can be followed in cycles of `period` generations: `period` is its own period, or the
-/// pattern recurs in place, so that any cycle will do.
+/// Checks whether the envelope can be followed in cycles of `period` generations: `period` is the pattern's period, or
+/// the pattern recurs in place, so that a cycle may have any length.
 fn serves(period: u32, envelope: &EnvelopeBounds) -> bool
     ensures { IsTrue result → Serves period envelope.now }
 {
@@ -161,9 +163,9 @@ fn is_still(envelope: &EnvelopeBounds) -> bool
     envelope.recurrence.dx == 0 && envelope.recurrence.dy == 0
 }
 
-/// Returns `true` only if the boxes are clear of each other for `cycles` cycles. Later cycles aren't tested once the
-/// boxes move apart, or if neither moves relative to the other.
-// Not inlined, because it would take the registers that the loop over pairs needs.
+/// Returns `true` only if at least two empty columns or rows lie between the boxes in each of the first `cycles`
+/// cycles. Once the boxes have such a gap that no later cycle narrows, later cycles aren't tested.
+// This isn't inlined, because it would take registers that the caller's loop over pairs needs.
 #[inline(never)]
 fn are_clear_for(one: &EnvelopeBounds, other: &EnvelopeBounds, cycles: u32) -> bool
     requires { cycles ≤ 4097 }
@@ -228,7 +230,7 @@ pub(crate) fn difference(one: i32, other: i32) -> i64
     i64::from(other) - i64::from(one)
 }
 
-/// The sides of a box beyond which another box lies, with at least two empty columns or rows between them.
+/// The sides of a box beyond which another box lies, with at least two empty columns or rows between the boxes.
 #[derive(Clone, Copy)]
 struct Gaps {
     right: bool,
@@ -238,7 +240,7 @@ struct Gaps {
 }
 
 impl Gaps {
-    /// Returns the gaps between `one` and `other` moved by `offset`.
+    /// Returns the sides of `one` beyond which `other`, moved by `offset`, lies.
     fn between(one: Bounds, other: Bounds, offset: Offset) -> Gaps
         requires across { unsigned_abs offset.x ≤ 2 ^ 46 }
         requires down { unsigned_abs offset.y ≤ 2 ^ 46 }
@@ -263,7 +265,7 @@ impl Gaps {
     }
 }
 
-/// Checks whether `begin`, moved by `s`, lies more than two past `end`, moved by `t`.
+/// Checks whether the column or row `begin`, moved by `s`, is more than two past the column or row `end`, moved by `t`.
 fn is_past(end: i32, t: i64, begin: i32, s: i64) -> bool
     requires end { unsigned_abs t ≤ 2 ^ 46 }
     requires begin { unsigned_abs s ≤ 2 ^ 46 }
@@ -289,8 +291,8 @@ fn two_past(at: i64) -> i64
     at + 2
 }
 
-/// The law that a pattern with a recurrence of p generations and a displacement is, after n times p and r generations,
-/// what it is after r, moved by n times the displacement.
+/// The law of a pattern that recurs after p generations, with some displacement: after n * p + r generations, it is
+/// what it is after r generations, moved by n times the displacement.
 #[tactic(auto, using(crate::proofs::lemmas::shapes::EnvelopeLemmas::after_cycles))]
 pub fn spaceships_move_by_cycles()
     ensures { SpaceshipsMoveByCycles }

@@ -8,12 +8,13 @@
 //!                            OO
 //! ```
 //!
-//! The slot is chosen by a hash of the cells relative to the first one, so a shape finds its slot wherever it lies. An
-//! entry is about a cluster if rule and limit are the same, and if the shape, displaced, is the cluster. Then the
-//! cluster recurs as the shape does and has its apgcode, and its envelope is that of the shape, displaced. Otherwise
-//! the cluster is run and named, and replaces the entry.
+//! The slot is chosen by a hash of the cells relative to the first cell, so a shape has the same slot wherever it is.
+//! An entry is about a cluster if rule and limit are the same, and if the shape, displaced, is the cluster. Then the
+//! cluster recurs like the shape and has the shape's apgcode, and its envelope is that of the shape, displaced.
+//! Otherwise the cluster is run and named, and what is found replaces the entry.
 //!
-//! Which slot is chosen and what is kept are free choices: a memo that forgets only makes a survey slower.
+//! Which slot is chosen and what is kept can't make a finding wrong: if the memo forgets a shape, a survey only takes
+//! longer.
 
 ghost use Rattle.std.specs.Prelude.{◌≡◌, ◌≢◌, ◌++◌, ◌+ℤ◌, ◌≤◌, [], All, IfNone, IfOk, IfSome, IsTrue, List, length, take, true};
 ghost use Rattle.plane_core.specs.declared.plane.cell.Cell.{Cell};
@@ -38,19 +39,20 @@ use plane_core::plane::rule::Rule;
 use std::alloc::Global;
 use std::marker::Model;
 
-/// The number of slots of a memo. Soups leave several hundred shapes again and again, and several thousand only once.
+/// The number of slots of a memo. Soups leave several hundred shapes again and again, and several thousand shapes only
+/// once.
 const SLOTS: usize = 4096;
 
-/// The most cells of a shape that is kept. Larger ones hardly ever occur twice, and would take memory.
+/// The most cells of a shape that is kept. Larger shapes hardly ever occur twice, and would take memory.
 const MOST_CELLS: usize = 64;
 
-/// A table of the shapes of clusters that recur, with what is known of each. It can be used for any rules and profiles,
-/// one after another. It affects only how long a survey takes, never its finding.
+/// A table of the shapes of clusters that recur, with what is known of each shape. A memo can be used for any rules and
+/// profiles, one after another. It affects only how long a survey takes, never the finding.
 pub(crate) struct Memo {
     slots: Vec<Option<Known>>,
 }
 
-/// What is known of a shape.
+/// What is known of a shape under a rule and a limit.
 struct Known {
     rule: Rule,
     limit: u32,
@@ -71,7 +73,7 @@ impl Model for Known {
         (record { rule = k.rule; limit = k.limit; shape = k.shape; envelope = k.envelope; code = k.code }) };
 }
 
-// Written out, since a derived drop is proved again wherever a memo is dropped.
+// This isn't derived, because a derived drop is proved anew wherever a memo is dropped.
 impl Drop for Memo {
     fn drop(self) {
         let Memo { slots } = self;
@@ -94,8 +96,8 @@ impl Drop for Known {
 }
 
 impl Memo {
-    /// Returns a memo that knows nothing yet. It has room for 4,096 shapes, and takes half a megabyte, or about three
-    /// if all shapes are large. If there is no memory for the slots, it has none.
+    /// Returns a memo that knows no shape yet. It has room for 4,096 shapes, and takes half a megabyte, or about three
+    /// megabytes if all shapes are large. If there is no memory for its slots, it has no slots and remembers no shape.
     pub(crate) fn new(alloc: Global) -> Memo {
         let Ok(mut slots) = Vec::with_capacity(alloc, SLOTS) else {
             return Memo::without_room(alloc);
@@ -134,14 +136,16 @@ impl Memo {
     {
         let known = self.recalled_envelopes(alloc, rule, limit, patterns)?;
         let (_, others) = patterns.split_at(known.len());
-        // Following a large pattern takes long, and usually a small one fails a quick test.
+        // Following a large pattern takes long. So a quick test is tried on all others first: if one of them doesn't
+        // recur, this test usually shows it.
         if self.any_surely_changes(rule, limit, others) {
             return Ok(None);
         }
         self.other_envelopes(alloc, rule, limit, others, known)
     }
 
-    /// Returns the envelopes of the first patterns, up to the first that isn't remembered. Usually all are.
+    /// Returns the envelopes of the patterns before the first one that isn't remembered. Usually all patterns are
+    /// remembered.
     fn recalled_envelopes(
         &self,
         alloc: Global,
@@ -163,8 +167,8 @@ impl Memo {
         Ok(envelopes)
     }
 
-    /// Adds the envelopes of the other patterns to the known ones. Returns `None` if one of them doesn't recur within
-    /// `limit` generations.
+    /// Returns the known envelopes, followed by the envelopes of the other patterns, or `None` if one of the other
+    /// patterns doesn't recur within `limit` generations.
     fn other_envelopes(
         &mut self,
         alloc: Global,
@@ -209,7 +213,7 @@ impl Memo {
     }
 
     /// Returns the envelope of `pattern`, or `None` if it doesn't recur within `limit` generations, 1 to 64. A pattern
-    /// that does is named and kept in its slot, unless it is large.
+    /// that recurs is named and kept in its slot, unless it is large.
     pub(crate) fn envelope(
         &mut self,
         alloc: Global,
@@ -236,7 +240,8 @@ impl Memo {
         Ok(Some(envelope))
     }
 
-    /// Names a pattern with these phases, and keeps what is known of it in its slot, unless it is large.
+    /// Names a pattern with this cycle, and keeps what is known of it in its slot. Does nothing if the pattern is
+    /// large, or if the memo has no slots.
     fn keep(
         &mut self,
         alloc: Global,
@@ -265,7 +270,7 @@ impl Memo {
         Ok(())
     }
 
-    /// Returns the apgcode of a pattern, if it is remembered.
+    /// Returns the apgcode of a pattern, or `None` if the pattern isn't remembered.
     pub(crate) fn known_code(&self, rule: &Rule, limit: u32, pattern: &Pattern) -> Option<&Apgcode>
         ensures { IfSome result (λ code. IsCode rule.now pattern.now limit code.now) }
     {
@@ -280,8 +285,8 @@ impl Memo {
         self.recalled(rule, limit, pattern).is_some()
     }
 
-    /// Returns the envelope of a pattern, or `None` if the pattern isn't remembered or the envelope's numbers don't fit
-    /// in 32 bits. It is the envelope of the shape, moved.
+    /// Returns the envelope of a pattern: the envelope of the shape that is kept, moved. Returns `None` if the pattern
+    /// isn't remembered, or if the numbers of its envelope don't fit in 32 bits.
     fn recalled_envelope(
         &self,
         rule: &Rule,
@@ -328,7 +333,7 @@ impl Memo {
     }
 }
 
-/// Returns the first and the last column or row, moved by `by`, or `None` if one of them doesn't fit in 32 bits.
+/// Returns the columns or rows `first` and `last`, moved by `by`, or `None` if one of them then doesn't fit in 32 bits.
 fn moved(first: i32, last: i32, by: i32) -> Option<(i32, i32)>
     ensures first { IfSome result (λ to. to.0 ≡ first +ℤ by) }
     ensures last { IfSome result (λ to. to.1 ≡ last +ℤ by) }
@@ -357,7 +362,8 @@ pub(crate) fn code_of(
     }
 }
 
-/// Returns the cycle of a pattern, or `None` if it doesn't recur within `limit` generations, 1 to 64.
+/// Returns the phases and the recurrence of a pattern, or `None` if it doesn't recur within `limit` generations, 1 to
+/// 64.
 fn cycle_of(
     alloc: Global,
     rule: &Rule,

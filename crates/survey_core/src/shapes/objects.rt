@@ -1,4 +1,4 @@
-//! The objects of a finding, counted: each apgcode once, in ASCII order, with its count.
+//! The objects of a finding, counted: each apgcode once, in ASCII order, with the number of objects that have it.
 ghost use Rattle.std.specs.Prelude.{◌≡◌, ◌+◌, ◌<◌, ◌≤◌, ◌↔◌, ◌≢◌, [], ℕ, All, IfNone, IfOk, IfSome, IsTrue, List, length};
 ghost use Rattle.std.specs.Prelude.{◌^◌, OnOk, sum, true};
 ghost use Rattle.std.specs.Map.{values_of};
@@ -21,8 +21,8 @@ use std::alloc::Global;
 use std::collections::BTreeMap;
 use std::marker::Model;
 
-/// The objects of a finding: their apgcodes in ASCII order, each once, with the number of objects that have it, at
-/// least 1.
+/// The objects of a finding: their apgcodes in ASCII order, each once. With each apgcode is the number of objects that
+/// have it, which is at least 1.
 #[derive(Debug, Drop)]
 pub struct Objects {
     counted: Vec<(Apgcode, u64)>,
@@ -40,7 +40,7 @@ impl Model for Objects {
 }
 
 impl Objects {
-    /// Returns the apgcodes in ASCII order, each once, with the number of objects that have it.
+    /// Returns the apgcodes in ASCII order, each once, and each with the number of objects that have it.
     pub fn as_slice(&self) -> &[(Apgcode, u64)]
         ensures objects { result.now ≡ self.now }
         ensures lawful { AreObjects self.now }
@@ -48,7 +48,7 @@ impl Objects {
         self.counted.as_slice()
     }
 
-    /// Returns the objects of clusters that all recur within `limit` generations, 1 to 64.
+    /// Returns the apgcodes of the clusters, counted. All clusters must recur within `limit` generations, 1 to 64.
     pub(crate) fn of_clusters(
         alloc: Global,
         rule: &Rule,

@@ -1,9 +1,9 @@
-//! Chooses the slot of a memo in which a pattern belongs, wherever the pattern lies.
+//! Chooses the slot of a memo in which a pattern belongs. The slot doesn't depend on where the pattern is.
 use plane_core::plane::pattern::Pattern;
 
-/// Returns the number of the slot in which a pattern belongs, below `slots`, or 0 if there are no slots. It is a hash
-/// of the cells relative to the first one. The multiplier is the odd number next to 2^64 divided by the golden ratio,
-/// which spreads numbers that differ in few bits.
+/// Returns the number of the slot in which a pattern belongs, below `slots`, or 0 if there are no slots. The number is
+/// a hash of the cells relative to the first cell. The multiplier of the hash is the odd number next to 2^64 divided by
+/// the golden ratio, which spreads numbers that differ in few bits.
 pub(crate) fn slot_of(pattern: &Pattern, slots: usize) -> usize {
     let cells = pattern.cells();
     let Some(first) = cells.first() else {
@@ -14,7 +14,7 @@ pub(crate) fn slot_of(pattern: &Pattern, slots: usize) -> usize {
         let place = from_to(first.y, cell.y).rotate_left(32) ^ from_to(first.x, cell.x);
         hash = (hash.rotate_left(5) ^ place).wrapping_mul(0x9e37_79b9_7f4a_7c15);
     }
-    // Multiplied by the number of slots, since a division would take longer than everything else.
+    // The hash is brought below `slots` by a multiplication: a division would take longer than everything else.
     ((hash >> 32).wrapping_mul(slots as u64) >> 32) as usize
 }
 

@@ -10,7 +10,7 @@ use Rattle.census.proofs.ProgramLemmas.{Prints, append_nothing, at_done, at_inco
 use Rattle.census.proofs.ProgramLemmas.{is_done, is_incomplete, is_usage, nothing_written, printing_leaves, prints, prints_or_fails, still_usage, unlike}
 use Rattle.census.proofs.program.do_buffered.Goals as goal
 
--- the version, without a buffer
+-- the program prints the version, without a buffer
 pub returns-then-asks_version : goal.returns-then-asks_version
 returns-then-asks_version g c =
     let printed = c.print_version-status.ensures in
@@ -69,7 +69,8 @@ returns g c =
     let diagnostics = stream g.E.Write.contents c.args.machine.now.errors c.do_arguments-status.new.machine.errors in
     let status = c.do_arguments-status.result in
     let sent = c.send_buffered-status.ensures in
-    -- the buffer was empty at first; the writer below has what was written to it, except what the buffer still holds
+    -- the buffer was empty at first; the writer below it has what was written to the buffer, except what the buffer
+    -- still holds
     let starts : written.before ≡ before = ap (writer_contents g.W.Write.contents) c.new-output.ensures.writer
     ∙ ap₂ append_known (ap g.W.Write.contents c.in-Ok.ensures.inner) c.in-Ok.ensures.empty ∙ append_nothing before in
     let kept : Keeps written.after (append_known below held) = rw (c.into_parts-writer.ensures.inner, ← c.into_inner-buffered.ensures) sent.bytes in

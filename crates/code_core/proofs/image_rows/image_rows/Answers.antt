@@ -5,7 +5,7 @@ use Rattle.code_core.proofs.ImageRows.{image_put, image_shown, place_low, within
 use Rattle.code_core.proofs.image_rows.image_rows.Goals.{After-place_in_image-place}
 use Rattle.code_core.proofs.image_rows.image_rows.Goals as goal
 
--- the place of a cell is in the rows
+-- the column and the row of the cell's image are below 64
 low : (c : After-place_in_image-place) → (c.place_in_image-place.result.column < 64) × (c.place_in_image-place.result.row < 64)
 low c =
     place_low c.args.orientation c.args.bounds (get_or c.args.cells.now c.loop-cell.cell-index default_cell) c.place_in_image-place.result.column

@@ -4,7 +4,7 @@ use Rattle.plane_core.proofs.lemmas.engine.WindowRoundLemmas.{window_at}
 use Rattle.code_core.specs.Images.{image_cell}
 use Rattle.code_core.proofs.image_rows.image_rows.Given as goal
 
--- the rows show the images of the cells that were passed
+-- there are 64 rows, which show the images of the cells that the loop has passed
 abbrev pub invariant-loop-cell : goal.invariant-loop-cell
 invariant-loop-cell l = record {
   long : length l.rows ≡ 64;

@@ -9,7 +9,7 @@ use Rattle.code_core.specs.Texts.{HasTextShape}
 use Rattle.code_core.proofs.LeastLemmas.{named_by, shape_of_least}
 use Rattle.code_core.proofs.name.name_of.Goals as goal
 
--- the least text is a text of some pattern
+-- the least text is the text of an image, so it has the shape of texts
 pub make-requires : goal.make-requires
 make-requires c =
     let shape : IfSome (option_map string_bytes c.in_ok-least.least) HasTextShape = shape_of_least c.as_slice.result.now _ c.in_ok-least.ensures in

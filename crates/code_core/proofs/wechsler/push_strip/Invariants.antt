@@ -7,7 +7,8 @@ use Rattle.code_core.specs.Columns.{IsBoxed}
 use Rattle.code_core.proofs.StripLemmas.{remainder_text}
 use Rattle.code_core.proofs.wechsler.push_strip.Given as goal
 
--- what has been written and what is left are the whole text of the strip, after the text that was there
+-- the text so far, followed by the strip's text that is still to be written, is the text at the start, followed by the
+-- strip's whole text
 abbrev pub invariant-loop-x : goal.invariant-loop-x
 invariant-loop-x l =
     (l.gap ≤ l.x) × ((cells : List Cell) → IsBoxed l.bounds l.rows cells

@@ -3,7 +3,7 @@ use Rattle.std.specs.Prelude.{IfOk}
 use Rattle.code_core.proofs.ImageRows.{text-same}
 use Rattle.code_core.proofs.wechsler.wechsler.Goals as goal
 
--- a pattern is its own image
+-- the text of the image in the orientation `Same` is the text of the pattern
 pub returns : goal.returns
 returns c =
     subst (λ (text : Option (List ℕ)). IfOk c.image_text.result (λ found. option_map string_bytes found ≡ text))

@@ -21,7 +21,7 @@ use Rattle.plane_core.proofs.lemmas.clusters.ClusterLemmas.{king_distance-itself
 pub linked_law : LinkedIsAnEquivalence
 linked_law cells = record { itself = linked-itself cells; back = linked-sym cells; onward = linked-trans cells }
 
--- ---- two clusters
+-- ---- two clusters of a pattern
 
 -- each cell of a cluster is a cell of the pattern
 cluster-has : (cells cluster : List Cell) (c : Cell) → IsCluster cells cluster → has cluster c ≡ true → has cells c ≡ true
@@ -76,9 +76,9 @@ partition_law cells clusters are = record {
     found : (c : Cell) → Any (λ cluster. has cluster c ≡ true) clusters → has cells c ≡ true
     found c (k, cluster, low, at, h) = cluster-has cells cluster c (subst (IsCluster cells) at (are.each k cluster low)) h
 
--- ---- one list of clusters
+-- ---- a pattern has only one list of clusters
 
--- the list is one of the lists
+-- a list of cells is an element of a list of lists
 abbrev Member : List Cell → List (List Cell) → Type 0
 Member a [] = ⊥
 Member a (b ∷ bs) = (a ≡ b) ⊎ Member a bs
@@ -130,7 +130,7 @@ ordered-from (b ∷ bs) h = (
   ordered-from bs (λ i j d low high. h (suc i) (suc j) d (omega arith) (omega arith)),
 )
 
--- each cluster of one list is a cluster of the other
+-- if two lists have the clusters of the same pattern, each cluster in one of them is in the other
 in_other : (cells : List Cell) (one other : List (List Cell)) → AreClusters cells one → AreClusters cells other → (a : List Cell) → Member a one
     → Member a other
 in_other cells one other p q a m = go (q.every is.start is.has_start)

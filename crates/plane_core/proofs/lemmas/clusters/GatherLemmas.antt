@@ -17,7 +17,7 @@ use Rattle.plane_core.proofs.lemmas.plane.SearchLemmas.{list_all-has, has-list_a
 use Rattle.plane_core.proofs.lemmas.clusters.ClusterLemmas.{king_distance-sym, linked-itself, linked-trans, linked-sym}
 use Rattle.plane_core.proofs.lemmas.clusters.UnionFindLemmas.{has-cell_of, in_places}
 
--- ---- the cells with a number
+-- ---- the cells that have a number
 
 -- appending the number n adds the cell at its place; appending another number adds nothing
 numbered-push : (n m : ℕ) (ms : List ℕ) (cs : List Cell) → length ms < length cs
@@ -112,7 +112,7 @@ in_order-numbered n (m ∷ ms) (c ∷ cs) o = go (m == n) (in_order-numbered n m
     go true ih = in_order-cons c (numbered n ms cs) (before-numbered c n ms cs (in_order-head c cs o)) ih
     go false ih = ih
 
--- the cells with a number are a pattern
+-- the cells of a pattern that have the number n are a pattern
 pub is_pattern-numbered : (n : ℕ) (ms : List ℕ) (cs : List Cell) → IsPattern cs → IsPattern (numbered n ms cs)
 is_pattern-numbered n ms cs is = record {
   in_order = in_order-numbered n ms cs is.in_order;
@@ -122,7 +122,7 @@ is_pattern-numbered n ms cs is = record {
     among : (d : Cell) → StandsAt n ms cs d → has cs d ≡ true
     among d s = subst (λ (x : Cell). has cs x ≡ true) s.cell (has-cell_of cs s.place s.low)
 
--- ---- a place more
+-- ---- one more place
 
 -- the appended number is at the new place
 at_end : (numbers : List ℕ) (n place : ℕ) → length numbers ≡ place → get_or (numbers ++ n ∷ []) place 0 ≡ n
@@ -174,7 +174,7 @@ first_one : (ds : List Cell) (d e : Cell) → has ds d ≡ true → ((x : Cell) 
 first_one [] d e h before = absurd (false≢true h)
 first_one (x ∷ xs) d e h before = before x (has-head x xs)
 
--- a root begins the next cluster
+-- a root gets the next number, and its cell begins a new cluster
 gathering-root : (cells : List Cell) (parents numbers : List ℕ) (clusters : List (List Cell)) (place : ℕ) → InOrder cells → IsForest cells parents
     → place < length cells → parent_of parents place ≡ place → ArePutInClusters cells parents numbers clusters place
     → ArePutInClusters cells parents (numbers ++ length clusters ∷ []) (clusters ++ (cell_of cells place ∷ []) ∷ []) (place + 1)
@@ -242,13 +242,13 @@ gathering-root cells parents numbers clusters place o f low root g = record {
             subst (λ (c : Cell). cell_cmp c (cell_of cells place) ≡ Less) s.cell
             (in_places cells s.place place o (omega (arith, short, g.size)) low)
 
--- appending cells doesn't change the order of first cells
+-- appending cells to two clusters doesn't change which of them comes first
 first-longer : (a b xs ys : List Cell) → FirstBefore a b → FirstBefore (a ++ xs) (b ++ ys)
 first-longer [] b xs ys h = absurd h
 first-longer (c ∷ cs) [] xs ys h = absurd h
 first-longer (c ∷ cs) (d ∷ ds) xs ys h = h
 
--- a place that isn't a root goes into the cluster of its parent
+-- a place that isn't a root gets the number of its parent, and its cell is appended to that cluster
 gathering-other : (cells : List Cell) (parents numbers : List ℕ) (clusters : List (List Cell)) (place n : ℕ) → InOrder cells → IsForest cells parents
     → place < length cells → parent_of parents place ≢ place → n ≡ get_or numbers (parent_of parents place) 0
     → ArePutInClusters cells parents numbers clusters place
@@ -318,7 +318,7 @@ gathering-other cells parents numbers clusters place n o f low branch is g = rec
       get_or-set_other clusters n m (get_or clusters n [] ++ cell_of cells place ∷ []) d different ∙ sym (append-nil (get_or clusters m d)),
     )
 
--- a cluster is still a pattern after the cell at the place is appended
+-- a cluster is still a pattern after the cell at `place` is appended
 pattern-other : (cells : List Cell) (parents numbers : List ℕ) (clusters : List (List Cell)) (place n : ℕ) → IsPattern cells → place < length cells
     → n < length clusters → ArePutInClusters cells parents numbers clusters place → IsPattern (get_or clusters n [] ++ cell_of cells place ∷ [])
 pattern-other cells parents numbers clusters place n is low inside g =
@@ -441,12 +441,12 @@ number_inside cells parents numbers clusters place n f low branch is g =
     let under : get_or numbers (parent_of parents place) 0 < length clusters = g.below (parent_of parents place) early in
     omega (arith, under, is)
 
--- ---- a step of the loop
+-- ---- an iteration of the loop
 
--- one iteration of the loop, which gives a number to `place`
+-- the iteration that gives a number to `place`
 module _ (cells : List Cell) (parents : List ℕ) (clusters : List (List Cell)) (place : ℕ) (low : place < length cells)
     (g : IsGatheringCells cells parents clusters place) where
-  --   `place` still leads to the same place as in the forest
+  -- `parents` still has the parent of `place` in the forest
   leads : parent_of g.forest place ≡ parent_of parents place
   leads =
       let here : place ≡ place + 0 = omega arith in
@@ -456,7 +456,7 @@ module _ (cells : List Cell) (parents : List ℕ) (clusters : List (List Cell)) 
   pub parent_inside : parent_of parents place ≤ place
   parent_inside = let most = g.is_forest.back place (omega (arith, low, g.is_forest.size)) in omega (arith, most, leads)
 
-  -- if `place` isn't a root, the entry at its parent is the parent's number
+  -- if `place` isn't a root, the entry of `parents` at its parent is the parent's number
   number_there : parent_of parents place ≢ place → parent_of parents (parent_of parents place) ≡ get_or (take place parents) (parent_of g.forest place) 0
   number_there branch =
       let most = parent_inside in
@@ -474,14 +474,14 @@ module _ (cells : List Cell) (parents : List ℕ) (clusters : List (List Cell)) 
     others = drop-set-lt (place + 1) parents place n (omega arith) ∙ drop_more_same parents g.forest place g.others;
   }
 
-  -- a root begins a cluster
+  -- after a root has begun a cluster, the loop's invariant holds for the next place
   pub gathering-begun : {E : Type 0} (begun : Result (Unit {0}) E) (new : List (List Cell)) → IsPattern cells → parent_of parents place ≡ place
       → OnOk begun (new ≡ clusters ++ (cell_of cells place ∷ []) ∷ []) → OnOk begun (IsGatheringCells cells (set parents place (length clusters)) new (place + 1))
   gathering-begun begun new p root grown = on_ok_weaker begun (λ is. one_more (length clusters) new
       (subst (λ cs. ArePutInClusters cells g.forest (take place parents ++ length clusters ∷ []) cs (place + 1)) (sym is)
       (gathering-root cells g.forest (take place parents) clusters place p.in_order g.is_forest low (leads ∙ root) g.passed))) grown
 
-  -- a place that isn't a root goes into an existing cluster, which is still a pattern with the cell
+  -- a place that isn't a root gets the number of an existing cluster
   pub number_is_inside : parent_of parents place ≢ place → parent_of parents (parent_of parents place) < length clusters
   number_is_inside branch = number_inside cells g.forest (take place parents) clusters place _ g.is_forest low
       (λ e. branch (sym leads ∙ e)) (number_there branch) g.passed
@@ -499,7 +499,7 @@ module _ (cells : List Cell) (parents : List ℕ) (clusters : List (List Cell)) 
       (gathering-other cells g.forest (take place parents) clusters place _ p.in_order g.is_forest low (λ e. branch (sym leads ∙ e)) (number_there branch)
       g.passed))) told
 
--- no place has been passed yet
+-- before the first place, there are no numbers and no clusters
 gathering-none : (cells : List Cell) (parents numbers : List ℕ) (clusters : List (List Cell)) → numbers ≡ [] → clusters ≡ []
     → ArePutInClusters cells parents numbers clusters 0
 gathering-none cells parents numbers clusters none empty =

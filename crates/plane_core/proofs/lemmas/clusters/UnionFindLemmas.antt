@@ -39,7 +39,7 @@ climbs-more parents place at back c = record {
   linked = λ cells f. linked-trans cells (cell_of cells place) (cell_of cells at) (cell_of cells (parent_of parents at)) (c.linked cells f) (f.linked at c.low);
 }
 
--- ---- two trees joined
+-- ---- joining two trees
 
 -- the trees of two places have been joined
 pub record AreJoined (old new : List ℕ) (one other : ℕ) : Type 0 where
@@ -47,7 +47,7 @@ pub record AreJoined (old new : List ℕ) (one other : ℕ) : Type 0 where
   pub keeps : Keeps old new
   pub joined : Joined new one other
 
--- a root is made to lead to an earlier place, which joins two trees
+-- making the root `later` lead to the place `first`, which isn't after it, joins the trees of `one` and `other`
 hangs : (parents : List ℕ) (later first one other : ℕ) → first ≤ later → later < length parents → parent_of parents later ≡ later
     → ((label : ℕ → ℕ) → Labels parents label → label first ≡ label later → label one ≡ label other)
     → ((cells : List Cell) → IsForest cells parents → Linked cells (cell_of cells one) (cell_of cells other) → Linked cells (cell_of cells later) (cell_of cells first))
@@ -145,7 +145,7 @@ before_cases a b e = rows (int_cmp a.y b.y) (int_ranks a.y b.y) e
     rows Equal is e = inr (is, columns (int_cmp a.x b.x) (int_ranks a.x b.x) e)
     rows Greater is e = cc
 
--- no near cell of the row `dy` below d comes before the cell two columns left of d in that row
+-- a cell near d, in the row `dy` rows below d, doesn't come before the cell two columns left of d in that row
 not_left : (c d : Cell) (dy : ℤ) → c.y ≡ (d.y +ℤ dy) → king_distance c d ≤ 2 → cell_cmp c (moved_by (negsuc 1) dy d) ≢ Less
 not_left c d dy row near e = elim (before_cases c (moved_by (negsuc 1) dy d) e) [
   | inl above ↦ let up : c.y <ℤ (d.y +ℤ dy) = above in absurd (omega (arith, ints, up, row))
@@ -155,7 +155,7 @@ not_left c d dy row near e = elim (before_cases c (moved_by (negsuc 1) dy d) e) 
       absurd (omega (arith, ints, far, most))
 ]
 
--- no near cell of the row `dy` below d comes after the cell two columns right of d in that row
+-- a cell near d, in the row `dy` rows below d, doesn't come after the cell two columns right of d in that row
 not_right : (c d : Cell) (dy : ℤ) → c.y ≡ (d.y +ℤ dy) → king_distance c d ≤ 2 → cell_cmp (moved_by (pos 2) dy d) c ≢ Less
 not_right c d dy row near e = elim (before_cases (moved_by (pos 2) dy d) c e) [
   | inl above ↦ let up : (d.y +ℤ dy) <ℤ c.y = above in absurd (omega (arith, ints, up, row))
@@ -165,7 +165,7 @@ not_right c d dy row near e = elim (before_cases (moved_by (pos 2) dy d) c e) [
       absurd (omega (arith, ints, far, most))
 ]
 
--- an earlier cell that is near is in the same row or in one of the two rows above
+-- an earlier cell near d is in the row of d or in one of the two rows above it
 near_rows : (c d : Cell) → cell_cmp c d ≡ Less → king_distance c d ≤ 2 → (c.y ≡ (d.y +ℤ pos 0)) ⊎ ((c.y ≡ (d.y +ℤ negsuc 0)) ⊎ (c.y ≡ (d.y +ℤ negsuc 1)))
 near_rows c d e near = go (before_cases c d e)
   where
@@ -247,7 +247,8 @@ same_rows cells rows place o some low level r = record {
       ];
     }
 
--- the rows above the first place of a row
+-- at the first place of a row, the places from `begin` to before `end` are the row two above it, and the places from
+-- `end` to before `place` are the row just above it
 pub new_rows : (cells : List Cell) (rows : RowsAbove) (place begin end : ℕ) → InOrder cells → 0 < place → place < length cells
     → (cell_of cells (place - 1)).y ≢ (cell_of cells place).y → AreRowsAbove cells rows (place - 1) → rows.begin ≤ begin → begin ≤ place
     → ((k : ℕ) → rows.begin ≤ k → k < begin → (cell_of cells k).y <ℤ ((cell_of cells place).y +ℤ negsuc 1))
@@ -327,7 +328,7 @@ new_rows cells rows place begin end o some low apart r begin_least begin_most be
     from_end : (k : ℕ) → end ≤ k → k < place → (new.y +ℤ negsuc 0) ≤ℤ (cell_of cells k).y
     from_end k least less = on end k (new.y +ℤ negsuc 0) least (omega (arith, less, low)) (at_end (omega (arith, least, less)))
 
--- places that are too far to the left can be dropped from a row
+-- the first places of a row can be dropped if their cells are left of `from`
 pub row_skipped : (cells : List Cell) (row : RowPlaces) (place first : ℕ) (from : Cell) → IsRow cells row place from → row.from ≤ first → first ≤ row.end
     → ((k : ℕ) → row.from ≤ k → k < first → (cell_of cells k).x <ℤ from.x) → IsRow cells (record row { from = first }) place from
 row_skipped cells row place first from is least most left = record {
@@ -365,7 +366,8 @@ past_scan cells row place at from to is end least right less = elim (cases_lt at
   | inr outside ↦ let under = is.later at outside less in before_up to (cell_of cells at) (omega (arith, ints, under, end))
 ]
 
--- near cells in the rows above, less than three columns right of the cell just before, are also near that cell
+-- if the cell just before `place` is near it and in the same row, it bridges each cell that is near `place`, in a
+-- higher row, and less than three columns to its right
 pub bridged : (cells : List Cell) (place : ℕ) → 1 ≤ place → InOrder cells → place < length cells
     → (cell_of cells (place - 1)).y ≡ (cell_of cells place).y → king_distance (cell_of cells (place - 1)) (cell_of cells place) ≤ 2
     → IsFresh cells ((cell_of cells (place - 1)).x +ℤ pos 3) place
@@ -408,7 +410,7 @@ bridged cells place some o low row right k less above left near = record {
     down : distance c.y b.y ≤ 2
     down = omega (arith, ints, high, row)
 
--- no near cell is left of the first of the columns that are near
+-- no cell near `place` is more than two columns to its left
 pub fresh_first : (cells : List Cell) (place : ℕ) (column : ℤ) → column ≡ ((cell_of cells place).x +ℤ negsuc 1) → IsFresh cells column place
 fresh_first cells place column first k less above left near =
     let wide : distance (cell_of cells k).x (cell_of cells place).x ≤ 2 = omega (arith, near) in absurd (omega (arith, ints, wide, first, left))
@@ -446,7 +448,8 @@ joins_before cells parents place joined k next =
     let before : place - 1 ≡ k = omega (arith, next) in
     subst (λ j. (cell_of cells j).y ≡ (cell_of cells place).y → NeedsJoin cells j place → Joined parents j place) before joined
 
--- if the place just before and the two rows above are joined with a place, so is every earlier place that needs it
+-- each earlier place that needs to be joined with `place` is joined with it, if this holds for the place just before
+-- and for the places of the two rows above
 pub joins_rows : (cells : List Cell) (a b c : List ℕ) (place : ℕ) → InOrder cells → place < length cells → Keeps a b → Keeps b c
     → ((k : ℕ) → k + 1 ≡ place → (cell_of cells k).y ≡ (cell_of cells place).y → NeedsJoin cells k place → Joined a k place)
     → JoinsRow cells b place (moved_by (negsuc 1) (negsuc 0) (cell_of cells place)) (moved_by (pos 2) (negsuc 0) (cell_of cells place))
@@ -479,7 +482,8 @@ joins_rows cells a b c place o low first second here above top k less need =
     go (inr (inl row)) = joined-kept b c k place second (above k less (left (negsuc 0) row) (right (negsuc 0) row) need)
     go (inr (inr row)) = top k less (left (negsuc 1) row) (right (negsuc 1) row) need
 
--- a near place that needs no join of its own is joined through the place just before
+-- if the earlier places that need to be joined with `place` are joined with it, then all earlier places near it are:
+-- the place just before it joins the others
 pub joins_near : (cells : List Cell) (old new : List ℕ) (place : ℕ) → Keeps old new → JoinsAll cells old place
     → ((k : ℕ) → k < place → NeedsJoin cells k place → Joined new k place)
     → (k : ℕ) → k < place → king_distance (cell_of cells k) (cell_of cells place) ≤ 2 → Joined new k place
@@ -509,7 +513,7 @@ joins_near cells old new place keeps all needed k less near = go (cases_lt (k + 
 
 -- ---- the scan of a row
 
--- each scanned place that needs to be joined with `place` is joined with it
+-- each place from `first` to before `at` that needs to be joined with `place` is joined with it
 pub record IsScanning (cells : List Cell) (old new : List ℕ) (place first at : ℕ) : Type 0 where
   pub forest : IsForest cells new
   pub keeps : Keeps old new
@@ -526,7 +530,7 @@ scanning-more cells old now new place first at s f keeps here = record {
   ];
 }
 
--- if the scan ended past `to`, each place between `first` and `to` that needs a join is joined
+-- if the scan ended past `to`, each place from `first` to `to` that needs to be joined with `place` is joined with it
 pub scanned : (cells : List Cell) (old new : List ℕ) (place first at : ℕ) (to : Cell) → InOrder cells → place < length cells
     → (at < place → cell_cmp to (cell_of cells at) ≡ Less) → IsScanning cells old new place first at → (k : ℕ) → first ≤ k → k < place
     → cell_cmp to (cell_of cells k) ≢ Less → NeedsJoin cells k place → Joined new k place
@@ -546,7 +550,7 @@ scanned cells old new place first at to o low end s k from less short near = eli
               cell_cmp_total.trans to (cell_of cells at) (cell_of cells k) (end early) (in_places cells at k o before few)
         ]
 
--- a row that was scanned is joined
+-- after the scan of a row, each of its places that needs to be joined with `place` is joined with it
 pub row_joined : (cells : List Cell) (old new : List ℕ) (place : ℕ) (row : RowPlaces) (from to : Cell) (fresh : ℤ) (first start at : ℕ) → InOrder cells
     → place < length cells → IsRow cells row place from → to.y ≡ from.y → from.y <ℤ (cell_of cells place).y → row.from ≤ first → first ≤ row.end
     → ((k : ℕ) → row.from ≤ k → k < first → (cell_of cells k).x <ℤ from.x) → first ≤ start → start ≤ row.end
@@ -565,7 +569,7 @@ row_joined cells old new place row from to fresh first start at o low is to_row 
       ]
     ]
 
--- if the cell at `first` isn't left of `from`, no later cell of the row is
+-- if the cell at `first` isn't left of `from`, no later cell of the row is left of it
 pub not_left_of : (cells : List Cell) (row : RowPlaces) (place first at : ℕ) (from : Cell) → InOrder cells → place < length cells → IsRow cells row place from
     → row.from ≤ first → first ≤ at → at < row.end → (first < row.end → from.x ≤ℤ (cell_of cells first).x) → from.x ≤ℤ (cell_of cells at).x
 not_left_of cells row place first at from o low is least more inside right = elim (cases_lt first at) [
@@ -583,7 +587,7 @@ not_left_of cells row place first at from o low is least more inside right = eli
       subst (λ (n : ℕ). from.x ≤ℤ (cell_of cells n).x) same (right (omega (arith, same, inside)))
 ]
 
--- if the next place is joined with all near places before it, then all near places up to it are joined
+-- if `place` is joined with all earlier places near it, any two places up to it that are near each other are joined
 pub joins_more : (cells : List Cell) (old new : List ℕ) (place : ℕ) → Keeps old new → JoinsAll cells old place
     → ((k : ℕ) → k < place → king_distance (cell_of cells k) (cell_of cells place) ≤ 2 → Joined new k place) → JoinsAll cells new (place + 1)
 joins_more cells old new place keeps before here j k less low near = elim (cases_eq k place) [
@@ -600,7 +604,7 @@ less Less is = refl
 less Equal is = absurd (false≢true is)
 less Greater is = absurd (false≢true is)
 
--- one more place is a root
+-- if the first n places are roots and place n is made to lead to itself, the first n + 1 places are roots
 pub roots-more : (parents : List ℕ) (n : ℕ) → n < length parents → ((k : ℕ) → k < n → parent_of parents k ≡ k)
     → (k : ℕ) → k < n + 1 → parent_of (set parents n n) k ≡ k
 roots-more parents n low roots =

@@ -23,7 +23,7 @@ use Rattle.plane_core.specs.engine.Frames.{IsFrame}
 use Rattle.plane_core.specs.engine.LeapWindows.{IsInnerCell, IsOnBoard}
 use Rattle.plane_core.proofs.lemmas.plane.CaseLemmas.{less_or_not, same_or_not}
 
--- windows on the board aren't far from the origin
+-- a window on a board begins so near to the origin that boxes inside it have their sides within `box_bound`
 pub in_reach : (at : Frame) → IsFrame at → (p : LeapWindow) → IsOnBoard at p → IsInReach p
 in_reach at frame p on = record {
   left = near at.left p.left on.x frame.left on.left (few_columns frame.word_columns on.word_columns);
@@ -82,7 +82,7 @@ within_none b c h = record {
     high : (r a : ℤ) → a ≤ℤ r → a ≤ℤ (r +ℤ pos 0)
     high r a h = omega (arith, ints)
 
--- ---- one of a list
+-- ---- an element of a list that has a property
 
 pub any_weaker : {X : Type 0} (P Q : X → Type 0) (xs : List X) → ((x : X) → P x → Q x) → Any P xs → Any Q xs
 any_weaker P Q xs h some = (some.0, some.1, some.2, some.3, h some.1 some.4)
@@ -142,7 +142,7 @@ take_whole xs n low high =
     let all : n ≡ length xs = omega arith in
     ap (λ (m : ℕ). take m xs) all ∙ take-length xs
 
--- an element with the property is the one that is removed, or it stays
+-- if an element has the property, then element i has it, or an element that is left after element i is removed
 pub any_swap_remove : {X : Type 0} (P : X → Type 0) (xs : List X) (i : ℕ) (d : X) → i < length xs → Any P xs
     → P (get_or xs i d) ⊎ Any P (swap_remove xs i d)
 any_swap_remove {X} P xs i d less some = either (same_or_not k i)
@@ -190,7 +190,7 @@ any_swap_remove {X} P xs i d less some = either (same_or_not k i)
     either (inl at) = inl (subst P (sym some.3 ∙ ap (λ (m : ℕ). get_or xs m x) at ∙ get_or_default xs i x d less) some.4)
     either (inr other) = inr (elim (less_or_not k (length xs - 1)) [ inl low ↦ stays other low | inr high ↦ moves other high ])
 
--- overwriting an element keeps an element with the property if the new one has it whenever the old one does
+-- if the new element has the property whenever the overwritten one does, an element with the property is left
 pub any_set_kept : {X : Type 0} (P : X → Type 0) (xs : List X) (i : ℕ) (y d : X) → i < length xs → (P (get_or xs i d) → P y) → Any P xs
     → Any P (set xs i y)
 any_set_kept {X} P xs i y d less over some = either (same_or_not some.0 i)
@@ -213,7 +213,7 @@ passes_at p xs i d less all = go (p (get_or xs i d)) refl
     go true is = is
     go false is = absurd (false≢true (sym (list_all_at p xs i d less is) ∙ all))
 
--- ---- a box with one cell more
+-- ---- a box widened by one cell
 
 pub widened_kept : (c : Cell) (b : Bounds) (d : Cell) → IsWithin b d → IsWithin (widened c b) d
 widened_kept c b d h = record {
@@ -261,7 +261,7 @@ widened_sides n c b e h = record {
     greatest : (a l : ℤ) → unsigned_abs a ≤ n → unsigned_abs l ≤ n → unsigned_abs (int_max a l) ≤ n
     greatest a l h k = omega (arith, ints, clamps)
 
--- ---- the boxes of changes
+-- ---- boxes around differences
 
 -- the boxes hold each inner cell of the first n windows in which the patterns differ
 abbrev pub HoldFirst : ℕ → List LeapWindow → List Cell → List Cell → List Bounds → Type 0
@@ -300,7 +300,7 @@ in_itself boxes c some =
       bottom = let p = h.bottom in omega (arith, ints);
     }
 
--- a cell in a box is in a wider box
+-- a cell in one of the boxes is in one of the wider boxes
 pub wider_has : (boxes later : List Bounds) → AreWider boxes later → (c : Cell) → IsInOne boxes c → IsInOne later c
 wider_has boxes later wider c some = in_itself later c (wider 0 c (near_itself boxes c some))
 

@@ -1,4 +1,4 @@
--- A leap of a board: what it shows afterwards, and its boxes.
+-- A board after a leap: what it shows, and what its boxes and spans hold.
 use Rattle.std.proofs.Common.{◌≡◌, ◌≢◌, ◌==◌, ◌*◌, ◌/◌, ◌%◌, ◌≤◌, ℕ, ℤ, zero, suc, ◌≤ℤ◌, ◌<ℤ◌, Bool, true, List, [], ◌∷◌}
 use Rattle.std.proofs.Common.{Fits, w32, arith, refl, ap, ◌∙◌, sym, subst, inl, inr, ◌⊎◌, length}
 use Rattle.std.specs.List.{All}
@@ -33,7 +33,7 @@ use Rattle.plane_core.proofs.lemmas.Between.{AreRightFor, HasGoneOn, HasLeapt, I
 
 -- ---- the cells stay on the board
 
--- a cell is in a box if it can't be outside
+-- a cell that isn't outside a box is in it
 within_unless : (b : Bounds) (c : Cell) → ¬ (¬ IsWithin b c) → IsWithin b c
 within_unless b c h = record {
   left = by_lt_z {P = b.left ≤ℤ c.x} c.x b.left (λ out. absurd (h (λ w. off b.left c.x out w.left))) (λ le. le);
@@ -45,7 +45,7 @@ within_unless b c h = record {
     off : (x y : ℤ) → y <ℤ x → x ≤ℤ y → ⊥
     off x y low high = omega (arith, ints)
 
--- an inner part is on the board
+-- the inner part of a window on the board is on the board
 inner_on : (at : Frame) (p : LeapWindow) (c : Cell) → IsOnBoard at p → IsInnerCell p c → IsWithin (bounds_of at) c
 inner_on at p c on inner =
     let l = on.left in
@@ -65,7 +65,7 @@ stays_on : (rule : Numbers) (at : Frame) (places : List LeapWindow) (S : List Ce
 stays_on rule at places S n inside still on c e =
     within_unless (bounds_of at) c (λ out. out (on c (sym (still c (λ covered. out (inside c covered))) ∙ e)))
 
--- the inner parts of windows on the board are on the board
+-- each cell that is covered by windows on the board is on the board
 pub covered_on : (at : Frame) (places : List LeapWindow) → All (IsOnBoard at) places → (c : Cell) → IsCovered places c → IsWithin (bounds_of at) c
 covered_on at places on c (k, p, low, same, inner) = inner_on at p c (subst (λ (q : LeapWindow). IsOnBoard at q) same (on k p low)) inner
 
@@ -78,7 +78,7 @@ odd_or_even n = go (same_or_not (n % 2) 0)
     go (inl even) = inl even
     go (inr odd) = inr (omega arith)
 
--- each cell in no inner part is unchanged by a leap
+-- if the boxes are right and the windows cover them, a leap doesn't change cells outside all inner parts
 pub still_for_leap : (rule : Numbers) (S : List Cell) (boxes : List Bounds) (places : List LeapWindow) (n : ℕ) → InOrder S → AreRightFor rule S boxes n
     → AreCovered places boxes → 1 ≤ n → n ≤ 4 → IsStillOutside rule places S n
 still_for_leap rule S boxes places n o right covered low high = elim (odd_or_even n) [
@@ -154,7 +154,7 @@ laid_board at rule words boxes frame long sides all = record {
   all = λ e. all;
 }
 
--- the boxes of a board are right for a leap
+-- a board is ready for a leap of n generations, if n is even or the boxes hold all live cells
 pub is_ready : (rule : Numbers) (at : Frame) (n : ℕ) (words : List ℕ) (boxes : List Bounds) (holds_all : Bool) (spans : List RowSpan)
     → IsSpannedBoard at rule words boxes holds_all spans → (n % 2 ≡ 1 → holds_all ≡ true) → IsReady rule at n words boxes spans
 is_ready rule at n words boxes holds_all spans spanned enough = record {
@@ -165,7 +165,7 @@ is_ready rule at n words boxes holds_all spans spanned enough = record {
   spanned = spanned.spanned;
 }
 
--- a board with spans is still one after a leap
+-- after a leap, a board with spans is again a board with spans
 pub leapt_board : (rule : Numbers) (at : Frame) (n : ℕ) (old new : List ℕ) (boxes later : List Bounds) (holds_all : Bool)
     (before spans : List RowSpan) → IsSpannedBoard at rule old boxes holds_all before → length new ≡ length old
     → length spans ≡ length before → HasGoneOn rule at n old new later spans → IsSpannedBoard at rule new later (n % 2 == 1) spans
@@ -184,7 +184,7 @@ leapt_board rule at n old new boxes later holds_all before spans was long wide l
   plane = was.plane;
 }
 
--- the boxes around a pattern have their sides within the bound
+-- the boxes around a pattern have their sides within `box_bound`
 pub box_sides : (S cells : List Cell) (boxes : List Bounds) → cells ≡ S → IsPattern S
     → ((n : ℕ) → lies_within n cells ≡ true → All (AreSidesWithin n) boxes) → All (AreSidesWithin box_bound) boxes
 unfolding on_plane
@@ -195,7 +195,7 @@ box_sides S cells boxes is pattern sides k b low =
 pub no_sides : (n : ℕ) (boxes : List Bounds) → boxes ≡ [] → All (AreSidesWithin n) boxes
 no_sides n boxes is = subst (λ (bs : List Bounds). All (AreSidesWithin n) bs) (sym is) (All-nil (AreSidesWithin n))
 
--- a board on which a pattern was laid, and what it shows
+-- a board on which a pattern was laid is a board with spans, and it shows that pattern
 pub laid_spanned : (rule : Numbers) (at : Frame) (words : List ℕ) (boxes : List Bounds) (spans : List RowSpan) (S cells : List Cell)
     → cells ≡ S → IsPattern S → IsFrame at → AreSidesWithin plane_bound (bounds_of at) → FillsFrame at words
     → length spans ≡ at.word_columns → LieOn at S → Shows at words cells → LieInSpans at spans cells → HoldAll boxes cells

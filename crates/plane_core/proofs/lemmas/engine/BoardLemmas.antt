@@ -16,7 +16,7 @@ use Rattle.plane_core.proofs.lemmas.plane.BoxRoundLemmas.{lies_in}
 use Rattle.plane_core.proofs.lemmas.engine.OnBoardLemmas.{cells_in_order, cells_lie_on, shows_cells}
 use Rattle.plane_core.proofs.lemmas.engine.QuietLemmas.{quiet-start}
 
--- a board without a live cell needs no boxes, and may have any
+-- a board without a live cell may have any boxes whose sides are within `box_bound`
 pub blank_board : (at : Frame) (rule : Numbers) (words : List ℕ) (boxes : List Bounds) (holds_all : Bool) → IsFrame at
     → FillsFrame at words → All (AreSidesWithin box_bound) boxes → cells_on at words ≡ [] → IsBoard at rule words boxes holds_all
 blank_board at rule words boxes holds_all frame long sides empty = record {
@@ -30,7 +30,7 @@ blank_board at rule words boxes holds_all frame long sides empty = record {
     all : HoldAll boxes (cells_on at words)
     all c e = absurd (false≢true (sym (ap (λ (S : List Cell). has S c) empty) ∙ e))
 
--- an empty board shows the same pattern wherever it is
+-- an empty board still shows the empty pattern when its frame is moved
 pub moved_empty : (at new : Frame) (words : List ℕ) → new.word_columns ≡ at.word_columns → new.rows ≡ at.rows → cells_on at words ≡ [] → Shows new words []
 moved_empty at new words word_columns rows empty s r i hs hr hi =
     sym (ap (λ (S : List Cell). has S (board_cell at s r i)) empty)

@@ -63,7 +63,7 @@ joined_sides n one other b is h k = record {
     greatest : (l a d : ℤ) → l ≡ int_max a d → unsigned_abs a ≤ n → unsigned_abs d ≤ n → unsigned_abs l ≤ n
     greatest l a d e h k = omega (arith, ints, clamps)
 
--- taking a rectangle off the list and uniting it with another loses no cell
+-- removing a rectangle from the list and uniting it with another rectangle loses no cell
 pub joined_held : (boxes new : List Bounds) (i : ℕ) (other one b : Bounds) → i < length boxes → other ≡ get_or boxes i other
     → new ≡ swap_remove boxes i other → ((c : Cell) → IsWithin other c → IsWithin b c) → ((c : Cell) → IsWithin one c → IsWithin b c)
     → (c : Cell) → IsWithin one c ⊎ IsInOne boxes c → IsWithin b c ⊎ IsInOne new c
@@ -101,7 +101,7 @@ row_more first n row p c at h =
     further : (a x : ℤ) (n : ℕ) → x <ℤ (a +ℤ pos (56 * (n + 1))) → x <ℤ ((a +ℤ pos (56 * n)) +ℤ pos 56)
     further a x n h = omega (arith, ints)
 
--- a cell of the rectangle is in the spans across it
+-- if the spans cover the columns of the rectangle, each of its cells in an inner row of the windows is in a span
 in_row : (rectangle : Bounds) (across : Spans) (row : ℤ) (rows : ℕ) (c : Cell) → AreSideBySide rectangle.left rectangle.right 56 across
     → IsWithin rectangle c → row ≤ℤ c.y → (c.y +ℤ pos 8) <ℤ (row +ℤ pos rows) → IsInRow across row rows c
 in_row rectangle across row rows c beside within low high = record {
@@ -117,7 +117,7 @@ in_row rectangle across row rows c beside within low high = record {
     after : (x b e : ℤ) → x ≤ℤ b → b <ℤ e → x <ℤ e
     after x b e h k = omega (arith, ints)
 
--- one more row of windows covers more rows of the rectangle
+-- one more row of windows, each with `rows` rows, covers the next `rows - 8` rows of the rectangle
 pub rows_more : (rectangle : Bounds) (across : Spans) (first row : ℤ) (laid rows more : ℕ) (old new : List LeapWindow) → row ≡ first +ℤ pos laid
     → 8 ≤ rows → more ≡ laid + (rows - 8) → AreSideBySide rectangle.left rectangle.right 56 across
     → ((c : Cell) → IsWithin rectangle c → c.y <ℤ (first +ℤ pos laid) → IsCovered old c) → ((c : Cell) → IsCovered old c → IsCovered new c)
@@ -133,24 +133,24 @@ rows_more rectangle across first row laid rows more old new is some sum beside b
     further : (y : ℤ) → y <ℤ (first +ℤ pos more) → (y +ℤ pos 8) <ℤ (row +ℤ pos rows)
     further y h = omega (arith, ints, is, some, sum)
 
--- each row of the rectangle is above the end of the last windows
+-- if more rows are laid than the distance from `first` to `bottom`, they reach past each row of the rectangle
 pub below_end : (y bottom first : ℤ) (length laid : ℕ) → y ≤ℤ bottom → length ≡ distance first bottom → length < laid → y <ℤ (first +ℤ pos laid)
 below_end y bottom first length laid h is less = omega (arith, ints)
 
--- no row of the rectangle is above the first windows
+-- no row of the rectangle is above `first`, the first row that is laid
 pub none_above : (y top first : ℤ) → first ≤ℤ top → top ≤ℤ y → ¬ (y <ℤ (first +ℤ pos 0))
 none_above y top first h k less = absurd (omega (arith, ints))
 
 -- ---- how many spans there are, and where they begin
 
--- the spans are longer than what they cover by less than one span
+-- the spans reach past what they cover by less than one span
 pub left_over : (length size : ℕ) → 1 ≤ size → (length / size + 1) * size - length - 1 < size
 left_over length size some =
     let whole : length / size * size + length % size ≡ length = div-add-mod' length size in
     let rest : length % size < size = mod_below length size some in
     omega arith
 
--- a length less than the size needs only one span
+-- a length less than the size of a span needs only one span
 pub one_is_enough : (length size : ℕ) → length < size → 1 ≡ length / size + 1
 one_is_enough length size low = sym (ap (λ (n : ℕ). n + 1) (div-eq_of_lt low))
 

@@ -58,7 +58,7 @@ spans word some small = record { first = first; last = last; order = last low.0 
 
 -- ---- where two patterns differ
 
--- the cell's column and row in the window are both in the change
+-- the change marks both the cell's column and its row in the window
 pub record IsMarked (p : LeapWindow) (d : DifferenceMask) (c : Cell) : Type 0 where
   pub column : ℕ
   pub row : ℕ

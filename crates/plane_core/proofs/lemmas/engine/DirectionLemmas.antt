@@ -129,7 +129,7 @@ or_bits a b i = ap (λ (n : ℕ). n == 1) (bit_at_or a b i) ∙ either (bit_at a
     either (suc (suc m)) n p q = absurd (omega arith)
     either m (suc (suc n)) p q = absurd (omega arith)
 
--- the bit of one more cell is added
+-- if `bits` shows the first k cells and `bit` shows cell k, their union shows the first k + 1 cells
 pub bits_more : (cells : List Cell) (k : ℕ) (d : Cell) (bits bit : ℕ) (c : Cell) (i : ℕ) → k < length cells
     → (bit_at bits i == 1) ≡ has (take k cells) c
     → (bit_at bit i == 1) ≡ same_cell c (get_or cells k d) → (bit_at (bit_or bits bit) i == 1) ≡ has (take (k + 1) cells) c
@@ -175,12 +175,12 @@ unfolding on_plane
 cell_on_plane at s r i c hs hr hi plane is =
     ap (is_within plane_bound) is ∙ lies_near (bounds_of at) plane_bound (board_cell at s r i) plane (spot_within at s r i hs hr hi)
 
--- from step `first` on, the outermost cell is at most `step` deeper than m
+-- from step `first` on, the depth o of the outermost cell is at most m plus the step
 pub enough_steps : (o m : ℤ) (count apart first step : ℕ) → apart ≡ unsigned_abs (o -ℤ m) → first ≡ min count apart → first ≤ step → step < count
     → o ≤ℤ (m +ℤ pos step)
 enough_steps o m count apart first step is least low high = omega (arith, ints)
 
--- a cell in a row `step` steps inwards is less deep than the outermost cell by at least `step`
+-- a cell in the row that is `step` rows inwards is less deep than the outermost cell by at least `step`
 inner_depth : (at : Frame) (way : Direction) (word_column : ℕ) (rows : RowSpan) (step i : ℕ) → step < rows.end - rows.from → i < 64
     → (depth_in way (board_cell at word_column (inner_row way.down rows step) i) +ℤ pos step)
     ≤ℤ depth_in way (board_cell at word_column (inner_row way.down rows 0) (outer_column way.right))
@@ -204,7 +204,7 @@ no_deeper at way word_column rows first found m outermost is outer within step l
     sum : (a o b p : ℤ) → (a +ℤ p) ≤ℤ b → o ≡ b → o ≤ℤ (m +ℤ p) → a ≤ℤ m
     sum a o b p h e k = omega (arith, ints)
 
--- a cell in a column further out is at least as deep
+-- in a row, a cell in a column further out is at least as deep
 outer_depth : (at : Frame) (way : Direction) (word_column row i column : ℕ) → counted way.right (pos i) ≤ℤ counted way.right (pos column)
     → depth_in way (board_cell at word_column row i) ≤ℤ depth_in way (board_cell at word_column row column)
 outer_depth at way word_column row i column far = by_cases way.right far (counted way.down (at.top +ℤ pos row))
@@ -245,7 +245,7 @@ pub goes_deeper : (way : Direction) (cells : List Cell) (found mid later : Optio
     → GoesDeeper way cells found later
 goes_deeper way cells found mid later first second = record { kept = λ z h. second.kept z (first.kept z h); some = λ h. second.some (first.some h) }
 
--- the bits of a word are the cells of the pattern in a row of a word column
+-- the bits of a word show the cells of the pattern in a row of a word column
 abbrev pub IsRow : Frame → List Cell → ℕ → ℕ → ℕ → Type 0
 IsRow at cells word_column row word = (i : ℕ) → i < 64 → (bit_at word i == 1) ≡ has cells (board_cell at word_column row i)
 
@@ -280,7 +280,7 @@ row_deeper at way cells word_column row word column found deep later is low one 
 
 -- ---- a word column
 
--- if the word of a row is 0, the row has no live cell
+-- a row whose word is 0 has no live cell, so no live cell in it is deeper than what was found
 dead_row_seen : (at : Frame) (way : Direction) (words : List ℕ) (gone : List Cell) (word_column row : ℕ) (found : Option ℤ) → word_column < at.word_columns → row < at.rows
     → slice_index words (word_of at word_column row) ≡ 0 → IsSeen at way (without (cells_on at words) gone) word_column row found
 dead_row_seen at way words gone word_column row found hs hr none i low alive =
@@ -293,16 +293,16 @@ seen_later : (at : Frame) (way : Direction) (cells : List Cell) (word_column row
     → IsSeen at way cells word_column row found → IsSeen at way cells word_column row later
 seen_later at way cells word_column row found later deeper seen i low alive = deeper.kept _ (seen i low alive)
 
--- the row a number of steps inwards is a row of the board
+-- the row that is `step` rows inwards is a row of the board
 inner_row_low : (down : Bool) (rows : RowSpan) (step limit : ℕ) → rows.end ≤ limit → step < rows.end - rows.from → inner_row down rows step < limit
 inner_row_low true rows step limit most low = omega arith
 inner_row_low false rows step limit most low = omega arith
 
--- the first rows of a word column, from the outermost inwards, have been seen
+-- the first `count` rows of a word column, from the outermost inwards, have been seen
 abbrev pub AreSeen : Frame → Direction → List Cell → ℕ → RowSpan → ℕ → Option ℤ → Type 0
 AreSeen at way cells word_column rows count found = (step : ℕ) → step < count → IsSeen at way cells word_column (inner_row way.down rows step) found
 
--- the rows from step `from` to before step `to` are dead
+-- the rows from step `from` to before step `to` have no live cell
 abbrev pub AreDeadRows : Frame → Direction → List ℕ → ℕ → RowSpan → ℕ → ℕ → Type 0
 AreDeadRows at way words word_column rows from to =
     (step : ℕ) → from ≤ step → step < to → slice_index words (word_of at word_column (inner_row way.down rows step)) ≡ 0
@@ -364,7 +364,7 @@ word_column_seen at way words gone word_column rows step next end found hs most 
 
 -- ---- all word columns
 
--- all cells of the first word columns have been seen
+-- all rows of the first `count` word columns have been seen
 abbrev pub AreWordColumnsSeen : Frame → Direction → List Cell → ℕ → Option ℤ → Type 0
 AreWordColumnsSeen at way cells count found = (word_column row : ℕ) → word_column < count → row < at.rows → IsSeen at way cells word_column row found
 
@@ -400,14 +400,14 @@ all_seen at way words gone found seen c e =
     (seen (k / 64 / at.rows) (k / 64 % at.rows) spot.word_column spot.row (k % 64) (omega arith)
     (ap (λ (d : Cell). has (without (cells_on at words) gone) d) (sym bit.3) ∙ e))
 
--- the greatest depth that was found is how far the pattern reaches
+-- if each live cell is at most as deep as what was found, the pattern, turned, lies up to the depth that was found
 pub reaches : (way : Orientation) (direction : Direction) (cells : List Cell) (found : Option ℤ)
     → ((c : Cell) → depth_in direction c ≡ depth (turned_cell way c)) → ((c : Cell) → has cells c ≡ true → IsReached found (depth_in direction c))
     → IfSome found (λ m. LiesUpTo way m cells)
 reaches way direction cells None is seen = tt
 reaches way direction cells (Some m) is seen = λ c e. subst (λ (z : ℤ). z ≤ℤ m) (is c) (seen c e)
 
--- a cell that isn't at column i of the row has no bit there
+-- bit i of the word 0 is right for a cell that isn't in column i of the row
 pub no_bit : (first cell : Cell) (i : ℕ) → (first.y ≡ cell.y → first.x +ℤ pos i ≡ cell.x → ⊥)
     → (bit_at 0 i == 1) ≡ same_cell (cell_at (first.x +ℤ pos i) first.y) cell
 no_bit first cell i apart = bit_is 0 first cell i (λ one. absurd (omega (arith, one, bit_at-zero i)))

@@ -16,7 +16,7 @@ use Rattle.plane_core.proofs.lemmas.plane.CellLemmas.{same_cell-itself, same_cel
 use Rattle.plane_core.proofs.lemmas.engine.FrameLemmas.{one_spot, one_word, spot_inside, spot_of, word-inside}
 use Rattle.plane_core.proofs.lemmas.plane.SetLemmas.{has-append, has-head, or_right}
 
--- ---- one cell more
+-- ---- one more cell
 
 or_none : (a : Bool) → (a || (false || false)) ≡ a
 or_none true = refl
@@ -68,7 +68,7 @@ shown_more at ws S c s d i hs hd hi is low shown t y k ht hy hk = has-append S (
     row (inr apart) = kept (slice_index (set ws m new) (word_of at t y)) (get_or-set_other ws m (word_of at t y) new 0 apart)
         (λ (u, v, w). apart (λ j. word_of at (u j) (v j)))
 
--- ---- all cells
+-- ---- the cells of a list
 
 pub has-at : (cs : List Cell) (i : ℕ) (d : Cell) → i < length cs → has cs (get_or cs i d) ≡ true
 has-at [] i d low = absurd (omega arith)
@@ -88,7 +88,7 @@ put_shown at ws S c a d m long within p q is shown =
     subst (λ (n : ℕ). Shows at (set ws n (bit_or (get_or ws n 0) (1 * 2 ^ (a % 64) % 2 ^ 64))) (S ++ c ∷ [])) (sym is)
     (shown_more at ws S c (a / 64) d (a % 64) hs hd (omega arith) (spot_of at c a d p q) low shown)
 
--- one more cell of a list is put on the board
+-- a board that shows the first i cells of a list and cell i shows the first i + 1 cells
 pub shown_taken : (at : Frame) (ws : List ℕ) (cs : List Cell) (i : ℕ) (d : Cell) → i < length cs → Shows at ws (take i cs ++ get_or cs i d ∷ [])
     → Shows at ws (take (i + 1) cs)
 shown_taken at ws cs i d low shown = subst (λ (S : List Cell). Shows at ws S) (sym (take_more cs i d low)) shown

@@ -57,7 +57,7 @@ middle_low a b low small = omega arith
 fits_near : (x : ℤ) → unsigned_abs x ≤ plane_bound → FitsSigned w32 x
 fits_near x near = omega (arith, ints)
 
--- a coordinate that is passed on as 32 bits is still within the bound
+-- a coordinate within the bound of the plane is still within it after a conversion to 32 bits and back
 pub passed_near : (x : ℤ) → unsigned_abs x ≤ plane_bound → unsigned_abs (to_z w32 (of_z w32 x)) ≤ plane_bound
 passed_near x near = rw (to_z-of_z w32 x (fits_near x near)) near
 
@@ -113,7 +113,6 @@ room_sides at b room = fewer_sides (plane_bound - (64 * at.word_columns + at.row
 up_to : (a b c : ℕ) → a ≤ b → b ≤ c → a ≤ c
 up_to a b c low below = omega arith
 
--- a side that is no farther from the origin than the farthest one
 side_below : (x : ℤ) (size half all : ℕ) → FitsSigned w32 x → size ≡ unsigned_abs (to_z w32 (of_z w32 x)) → size ≤ half → half ≤ all → unsigned_abs x ≤ all
 side_below x size half all fits is low below = subst (λ (n : ℕ). n ≤ all) (is ∙ ap unsigned_abs (to_z-of_z w32 x fits)) (up_to size half all low below)
 
@@ -139,7 +138,7 @@ sides_below b left right top bottom across down all fl fr ft fb l r t m row colu
 pub sides_near : (far around : ℕ) (b : Bounds) → AreSidesWithin far b → far ≤ plane_bound - around → AreSidesWithin plane_bound b
 sides_near far around b sides low = fewer_sides far plane_bound b (omega (arith, low)) sides
 
--- the number so many back from one that was passed on
+-- subtracting n from `a` gives the same if `a` is first converted to 32 bits and back
 pub back_is : (a : ℤ) (n : ℕ) (b : ℤ) → unsigned_abs a ≤ plane_bound → b ≡ to_z w32 (of_z w32 a) -ℤ pos n → b ≡ a -ℤ pos n
 back_is a n b near is = rw (to_z-of_z w32 a (fits_near a near)) at is
 
@@ -212,7 +211,7 @@ corner_small at word_column x frame low is =
     let k = frame.left in
     omega (arith, ints, is)
 
--- ---- cells off the frame
+-- ---- cells off the frame and on it
 
 pub before_left : (at : Frame) (c : Cell) → FitsSigned w32 c.x → IsFrame at → lt_z (to_z w32 (of_z w32 c.x)) (to_z w32 (of_z w32 at.left)) ≡ true
     → IsWithin (bounds_of at) c → ⊥
@@ -246,7 +245,7 @@ past_bottom at c fits frame past within =
     let h = within.bottom in
     omega (arith, ints, past)
 
--- cells on the frame
+-- a cell that is neither left of the frame, right of it, above it nor below it is on the board
 pub in_frame : (at : Frame) (c : Cell) → FitsSigned w32 c.x → FitsSigned w32 c.y → IsFrame at
     → lt_z (to_z w32 (of_z w32 c.x)) (to_z w32 (of_z w32 at.left)) ≡ false
     → le_z (to_z w32 (of_z w32 (to_z w32 (of_z w32 at.left) +ℤ to_z w32 (64 * at.word_columns)))) (to_z w32 (of_z w32 c.x)) ≡ false
@@ -286,7 +285,7 @@ fits_bottom at frame =
     let k = frame.top in
     omega (arith, ints)
 
--- ---- how far from its first side a cell is
+-- ---- how far a cell is from the left or the top side of the frame
 
 pub offset_fits : (x l : ℤ) (n : ℕ) → unsigned_abs l ≤ 2 ^ 21 → n ≤ 2 ^ 22 → l ≤ℤ x → x ≤ℤ (l +ℤ (pos n -ℤ pos 1))
     → FitsSigned w32 (to_z w32 (of_z w32 x) -ℤ to_z w32 (of_z w32 l))

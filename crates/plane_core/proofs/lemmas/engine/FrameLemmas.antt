@@ -15,9 +15,9 @@ use Rattle.plane_core.proofs.lemmas.plane.BoxRoundLemmas.{fewer_sides, in_box}
 use Rattle.plane_core.proofs.lemmas.plane.CellLemmas.{same_cells}
 use Rattle.plane_core.proofs.lemmas.Between.{HasRoom}
 
--- ---- places in the list
+-- ---- the index of a row's word in the list
 
--- the index of a row's word is in the list, and isn't large
+-- the index of a row's word is less than the number of words
 pub word-inside : (at : Frame) (s r : ℕ) → s < at.word_columns → r < at.rows → word_of at s r < at.word_columns * at.rows
 word-inside at s r hs hr =
     let many : at.word_columns ≡ s + 1 + (at.word_columns - (s + 1)) = omega arith in
@@ -46,7 +46,7 @@ one_word h s r t y e hr hy = go (same_or_not s t)
 
 -- ---- cells
 
--- the cell that is a columns and d rows from the board's corner
+-- the cell `a` columns and d rows from the board's corner is bit a % 64 of row d of word column a / 64
 pub spot_of : (at : Frame) (c : Cell) (a d : ℕ) → pos a ≡ c.x -ℤ at.left → pos d ≡ c.y -ℤ at.top → c ≡ board_cell at (a / 64) d (a % 64)
 spot_of at c a d p q = same_cells c.x c.y _ _ (omega (arith, ints)) (omega (arith, ints))
 
@@ -72,7 +72,7 @@ lie_on S b at least h c e = h c (in_box S b c least e)
 pub sides_on_plane : (b : Bounds) (margin : ℕ) → AreSidesWithin (plane_bound - margin - 64) b → AreSidesWithin plane_bound b
 sides_on_plane b margin sides = fewer_sides (plane_bound - margin - 64) plane_bound b (omega arith) sides
 
--- a frame around a box with a margin
+-- the frame around a box, with a margin on each side
 pub record IsRoundBox (b : Bounds) (margin : ℕ) (at : Frame) : Type 0 where
   pub left : at.left ≡ b.left -ℤ pos margin
   pub top : at.top ≡ b.top -ℤ pos margin
@@ -107,7 +107,7 @@ round_has_on b margin at is c within =
       bottom = let p = within.bottom in omega (arith, ints);
     }
 
--- the sides of a least box are in order
+-- in the smallest box around a pattern, left is at most right, and top is at most bottom
 pub box_in_order : (S : List Cell) (b : Bounds) → IsLeastBox S b → (b.left ≤ℤ b.right) × (b.top ≤ℤ b.bottom)
 box_in_order S b least =
     let (k, x, low, same, left) = least.left in
@@ -136,9 +136,9 @@ round_on_plane b margin at low across down sides is =
       bottom = omega (arith, ints);
     }
 
--- ---- a frame in whose middle a box lies
+-- ---- a frame with a box in its middle
 
--- a frame in whose middle the box is
+-- `new` is as large as the frame `at`, and has the box in its middle
 pub record IsRoundMiddle (at : Frame) (b : Bounds) (new : Frame) : Type 0 where
   pub left : new.left ≡ b.left -ℤ pos ((64 * at.word_columns - (distance b.left b.right + 1)) / 2)
   pub top : new.top ≡ b.top -ℤ pos ((at.rows - (distance b.top b.bottom + 1)) / 2)

@@ -57,7 +57,7 @@ empty_window n left top r i a b d e =
     ap (λ (v : List ℕ). slice_index v (r / n)) vector ∙ get_or-replicate 4 (r / n) 0 0 (div_below r n 4 some low) in
     ap (λ (n : ℕ). n == 1) (sym (ap (λ (w : ℕ). bit_at w i) row ∙ bit_at-zero i))
 
--- after an odd number of generations, the window is compared with an empty one
+-- an odd number of generations is a run of the window, if the change marks the differences from an empty window
 pub run_odd : (n : ℕ) (rule : Numbers) (count : ℕ) (x y : List (List ℕ)) (change : DifferenceMask) → count ≤ 4 → count % 2 ≡ 1 → IsLaterWindow rule n x y count
     → DiffersOnlyIn n change y (replicate n (replicate 4 0)) → IsRun n rule count x y change
 run_odd n rule count x y change few odd made differs p cells height o shown = (
@@ -72,7 +72,8 @@ run_odd n rule count x y change few odd made differs p cells height o shown = (
     none : compared_with rule cells count ≡ []
     none = ap (λ (n : ℕ). cond (n == 0) (after rule cells (count - 2)) []) odd
 
--- after an even number of generations, the window is compared with the window two generations earlier
+-- an even number of generations is a run of the window, if the change marks the differences from the window two
+-- generations earlier
 pub run_even : (n : ℕ) (rule : Numbers) (count : ℕ) (x y z : List (List ℕ)) (change : DifferenceMask) → 2 ≤ count → count ≤ 4 → count % 2 ≡ 0
     → IsLaterWindow rule n x y (count - 2) → IsLaterWindow rule n y z 2 → DiffersOnlyIn n change z y → IsRun n rule count x z change
 run_even n rule count x y z change some few even first second differs p cells height o shown = (
@@ -137,7 +138,7 @@ pub window_shown : (left top : ℤ) (rows : List ℕ) (window : List (List ℕ))
 window_shown left top rows window cells shows packed r i a low d inside =
     shows r i (omega (arith, low)) (omega (arith, inside)) ∙ ap (λ (w : ℕ). bit_at w i == 1) (sym (packed r (omega (arith, low))))
 
--- the rows of a window that was read and run are those of the board `count` generations later
+-- in the inner part of a window that was read and run, the rows show the board `count` generations later
 pub run_place : (at : Frame) (p : LeapWindow) (words : List ℕ) (rule : Numbers) (count x y n : ℕ) (read : List ℕ) (window later : List (List ℕ)) (rows : List ℕ)
     (change : DifferenceMask) → p.rows ≡ 4 * n → x / 64 + 1 < at.word_columns → y + p.rows ≤ at.rows → p.left ≡ at.left +ℤ pos x → p.top ≡ at.top +ℤ pos y
     → AreRowsRead at words x y (4 * n) read → ((r : ℕ) → r < 4 * n → row_at n window r ≡ slice_index read r) → IsRun n rule count window later change
@@ -152,7 +153,7 @@ run_place at p words rule count x y n read window later rows change height word_
       both.1,
     )
 
--- ---- place after place
+-- ---- one window after another
 
 -- the first `done` windows were run
 pub record AreRunFirst (at : Frame) (words : List ℕ) (rule : Numbers) (count : ℕ) (places : List LeapWindow) (held : List (List ℕ))

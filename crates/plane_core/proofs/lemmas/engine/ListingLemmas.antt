@@ -1,4 +1,4 @@
--- The cells that are read from a board.
+-- How the cells of a board are read into a list.
 use Rattle.std.proofs.lemmas.Bool.Decides.{nat_tests}
 use Rattle.std.proofs.Common.{nat_le, min, ◌≡◌, ◌≢◌, ◌==◌, ◌+◌, ◌*◌, ◌/◌, ◌%◌, ◌^◌, ◌-◌, ◌<◌, ◌≤◌, ℕ, ℤ, pos, ◌+ℤ◌, ◌-ℤ◌, ◌≤ℤ◌, Bool, true, false, ◌||◌, List, [], ◌∷◌, ◌++◌}
 use Rattle.std.proofs.Common.{arith, refl, ap, ◌∙◌, sym, subst, inl, inr, ◌⊎◌, bit_or, slice_index, unsigned_abs, w64}
@@ -46,7 +46,7 @@ has-push cs c = has-append cs (c ∷ []) c ∙ or_right (has cs c) (has (c ∷ [
 
 -- ---- a word
 
--- a bit of a word is a bit of the shifted word
+-- bit i of a word is bit i - k of the word shifted down by k
 moved_down : (n k i : ℕ) → k ≤ i → bit_at n i ≡ bit_at (n / 2 ^ k) (i - k)
 moved_down n k i low =
     ap (λ (m : ℕ). bit_at m i) (sym (div-add-mod' n (2 ^ k))) ∙ bit_at_cat_high (n / 2 ^ k) k (n % 2 ^ k) i (mod-lt n (pow_pos k)) low
@@ -204,14 +204,14 @@ word_column-empty at words s band from columns is zero here k b low small =
     let spot : word_of at s (8 * band + k) ≡ from + k = omega (arith, is) in
     ap (λ (n : ℕ). bit_at (slice_index words n) b) spot ∙ here b k (ap (λ (n : ℕ). bit_at n b) zero ∙ bit_at-zero b) low
 
--- one word column more of a band is empty
+-- if the first n word columns of a band and word column n are empty, the first n + 1 word columns are
 pub band-more : (at : Frame) (words : List ℕ) (band n : ℕ) → IsBandEmpty at words band 0 n → IsWordColumnEmpty at words band n → IsBandEmpty at words band 0 (n + 1)
 band-more at words band n before here s low near = elim (same_or_not s n) [
   | inl same ↦ subst (λ (t : ℕ). IsWordColumnEmpty at words band t) (sym same) here
   | inr apart ↦ before s low (omega (arith, near, apart))
 ]
 
--- one more word column at the start of the range is empty
+-- if a range of word columns of a band and the word column before it are empty, so are both together
 pub band-less : (at : Frame) (words : List ℕ) (band n m : ℕ) → 1 ≤ n → IsBandEmpty at words band n m → IsWordColumnEmpty at words band (n - 1)
     → IsBandEmpty at words band (n - 1) m
 band-less at words band n m some before here s low near = elim (same_or_not s (n - 1)) [
@@ -219,7 +219,7 @@ band-less at words band n m some before here s low near = elim (same_or_not s (n
   | inr apart ↦ before s (omega (arith, low, apart, some)) near
 ]
 
--- one more word is added to the union of a block of eight
+-- a bit that is 0 in the union of the first k + 1 words of a block is 0 in each of these words
 pub eight-more : (words : List ℕ) (from k columns : ℕ)
     → ((b m : ℕ) → bit_at columns b ≡ 0 → m < k → bit_at (slice_index words (from + m)) b ≡ 0)
     → (b m : ℕ) → bit_at (bit_or columns (slice_index words (from + k))) b ≡ 0 → m < k + 1 → bit_at (slice_index words (from + m)) b ≡ 0
@@ -251,7 +251,7 @@ band_missed at words spans word_columns band from to hb most live held out s pas
     word_column_missed at words spans s band (omega (arith, near, most)) hb live
     (λ k low inside. out s past near (held s (8 * band + k) (omega (arith, near, most)) inside))
 
--- two adjacent ranges of word columns of a band are empty
+-- if two adjacent ranges of word columns of a band are empty, so are both together
 pub band_joined : (at : Frame) (words : List ℕ) (band from mid to : ℕ) → IsBandEmpty at words band from mid → IsBandEmpty at words band mid to
     → IsBandEmpty at words band from to
 band_joined at words band from mid to first second s past near = elim (less_or_not s mid) [
@@ -259,7 +259,7 @@ band_joined at words band from mid to first second s past near = elim (less_or_n
   | inr more ↦ second s more near
 ]
 
--- the bands that contain the rows of a span, up to the end of the board
+-- the first band that a span reaches begins at most at the end of the board
 pub bands_begin : (first all from : ℕ) → from ≡ min first all → 8 * (from / 8) ≤ all
 bands_begin first all from is = omega (arith, is)
 

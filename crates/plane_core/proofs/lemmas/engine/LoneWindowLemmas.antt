@@ -12,7 +12,7 @@ use Rattle.plane_core.specs.engine.OnBoard.{cells_on}
 use Rattle.plane_core.specs.windows.Windows.{row_at}
 use Rattle.plane_core.proofs.lemmas.engine.OnBoardLemmas.{only_cells}
 
--- the rows of a window that holds a pattern are a board that shows it
+-- the rows of a window that holds a pattern are the words of a board that shows exactly this pattern
 pub held_pattern : (at : Frame) (p : WindowOrigin) (window : List (List ℕ)) (rows : List ℕ) (S : List Cell) → at.left ≡ p.left → at.top ≡ p.top
     → at.word_columns ≡ 1 → at.rows ≡ 64 → Holds 16 p.left p.top window S → ((r : ℕ) → r < 64 → slice_index rows r ≡ row_at 16 window r)
     → cells_on at rows ≡ S

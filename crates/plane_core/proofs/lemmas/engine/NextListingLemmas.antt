@@ -44,7 +44,7 @@ use Rattle.plane_core.proofs.lemmas.Between.{IsReadAt}
 pub after-one : (rule : Numbers) (S : List Cell) → after rule S 1 ≡ next rule S
 after-one rule S = after-suc rule S 0 ∙ ap (next rule) (after-none rule S)
 
--- one more row is added to the union of the rows
+-- a bit that is 0 in the union of the first r + 1 rows is 0 in each of these rows
 pub rows_more : (rows : List ℕ) (r all : ℕ) → ((i : ℕ) → bit_at all i ≡ 0 → (k : ℕ) → k < r → bit_at (slice_index rows k) i ≡ 0)
     → (i : ℕ) → bit_at (bit_or all (slice_index rows r)) i ≡ 0 → (k : ℕ) → k < r + 1 → bit_at (slice_index rows k) i ≡ 0
 rows_more rows r all before i none k low = go (same_or_not k r)
@@ -56,7 +56,7 @@ rows_more rows r all before i none k low = go (same_or_not k r)
     go (inl same) = ap (λ (n : ℕ). bit_at (slice_index rows n) i) same ∙ omega (arith, both, none)
     go (inr apart) = before i (omega (arith, both, none)) k (omega arith)
 
--- a window that was run shows the next generation
+-- a window that was read and run shows the next generation in its inner part
 pub next_shown : (at : Frame) (words : List ℕ) (rule : Numbers) (x y : ℕ) (window later : List (List ℕ)) (rows : List ℕ) → x / 64 + 1 < at.word_columns
     → y + 40 ≤ at.rows → IsReadAt at words x y 10 window → IsNextWindow rule 10 window later
     → ((r : ℕ) → r < 40 → slice_index rows r ≡ row_at 10 later r) → AreNextRows at words rule x y rows
@@ -108,7 +108,7 @@ band_none at y from cells windows none = record {
   covered = λ u v a b d e. absurd (omega arith);
 }
 
--- one more window of the band
+-- with one more window, the windows show 56 more columns of the band
 pub band_more : (at : Frame) (y from x : ℕ) (cells : List Cell) (windows new : List NextRows) (window : NextRows) → window.x ≡ x
     → IsNextWindowOf at y cells window → new ≡ windows ++ window ∷ [] → AreBandOf at y from (x + 4) cells windows → AreBandOf at y from (x + 56 + 4) cells new
 band_more at y from x cells windows new window here is pushed before = record {
@@ -122,7 +122,7 @@ band_more at y from x cells windows new window here is pushed before = record {
     place u v a b d e alive (inr past) =
         inr (record { i = u - x; low = omega arith; high = omega arith; is = omega (arith, here) })
 
--- a window without live cells is skipped
+-- a window without live cells can be skipped: the windows so far also show its 56 columns of the band
 pub band_skipped : (at : Frame) (y from x : ℕ) (cells : List Cell) (windows : List NextRows) (rows : List ℕ) → ShowsInnerRows at x y rows cells
     → ((r i : ℕ) → r < 40 → bit_at (slice_index rows r) i ≡ 0) → AreBandOf at y from (x + 4) cells windows → AreBandOf at y from (x + 56 + 4) cells windows
 band_skipped at y from x cells windows rows shown empty before = record {
@@ -139,7 +139,7 @@ band_skipped at y from x cells windows rows shown empty before = record {
         absurd (false≢true (sym ((λ t. has cells (cell_on at (column t) (row t))) ∙ shown (v - y) (u - x) (omega arith) (omega arith) (omega arith) (omega arith)
         ∙ ap (λ (n : ℕ). n == 1) (empty (v - y) (u - x) (omega arith))) ∙ alive))
 
--- a band also shows each narrower range of columns
+-- windows that show a band up to before column `wide` also show it up to before each earlier column
 pub band_within : (at : Frame) (y from end wide : ℕ) (cells : List Cell) (windows : List NextRows) → end ≤ wide → AreBandOf at y from wide cells windows
     → AreBandOf at y from end cells windows
 band_within at y from end wide cells windows low band = record {
@@ -179,7 +179,7 @@ one_masked word i one = go (inner_bit i)
     go (inl inner) = let mask = inner.0 in (inner.1, inner.2, omega (arith, both, one, mask))
     go (inr outer) = let mask = outer.0 in absurd (omega (arith, both, one, mask))
 
--- the row of one more window has been listed
+-- after a row of window k is read, this row of the first k + 1 windows has been listed
 pub row_more : (at : Frame) (y r k : ℕ) (cells : List Cell) (windows : List NextRows) (window : NextRows) (word : ℕ) (first : Cell) (old mid new : List Cell)
     → 4 ≤ r → r < 36 → k < length windows → window ≡ get_or windows k window → IsNextWindowOf at y cells window
     → word ≡ bit_and (slice_index window.rows r) inner_mask → first ≡ cell_on at window.x (y + r) → HasListedRow at (y + r) cells (take k windows) old mid
@@ -214,7 +214,7 @@ row_more at y r k cells windows window word first old mid new low high there is 
 pub rows_none : (at : Frame) (y : ℕ) (cells : List Cell) (windows : List NextRows) (old : List Cell) → HasListedRows at y 4 cells windows old old
 rows_none at y cells windows old = record { grows = λ c e. e; sound = λ among. among; complete = λ u r low high. absurd (omega arith) }
 
--- one more row has been listed
+-- after row r of the windows is listed, the rows before r + 1 have been listed
 pub listed_more : (at : Frame) (y r : ℕ) (cells : List Cell) (windows : List NextRows) (old mid new : List Cell) → HasListedRows at y r cells windows old mid
     → HasListedRow at (y + r) cells windows mid new → HasListedRows at y (r + 1) cells windows old new
 listed_more at y r cells windows old mid new before row = record {
@@ -231,7 +231,7 @@ listed_more at y r cells windows old mid new before row = record {
 
 -- ---- the board
 
--- each cell of the next generation is at most one column and one row outside the hull
+-- the cell is in column u and row v of the board, which are at most one column and one row outside the hull
 pub record IsSpotOf (at : Frame) (hull : Hull) (c : Cell) : Type 0 where
   pub u : ℕ
   pub v : ℕ
@@ -279,7 +279,7 @@ next_spot at rule words hull c rim held alive = spot (near-after rule cells 1 c 
         let on = spot_inside at d a b within p q in
         beside d a b p q near (held (a / 64) b (a % 64) on.0 on.1 (omega arith) (ap (has cells) (sym (spot_of at d a b p q)) ∙ live))
 
--- the next generation is on the board
+-- if the board has a rim around the hull, the next generation is on the board
 pub next_on : (at : Frame) (rule : Numbers) (words : List ℕ) (hull : Hull) → HasRim at hull → LiesInHull at hull (cells_on at words)
     → LieOn at (after rule (cells_on at words) 1)
 next_on at rule words hull rim held c alive = within (next_spot at rule words hull c rim held alive)
@@ -307,7 +307,7 @@ above_none at rule words hull new rim held none = record {
       absurd (omega (arith, ints));
 }
 
--- one more band has been listed
+-- after the band that begins 4 below row y, all cells above row y + 36 have been listed
 pub above_more : (at : Frame) (rule : Numbers) (words : List ℕ) (hull : Hull) (y : ℕ) (windows : List NextRows) (old new : List Cell) → HasRim at hull
     → LiesInHull at hull (cells_on at words)
     → AreBandOf at y (64 * hull.word_columns.from - 5 + 4) (64 * hull.word_columns.end + 1) (after rule (cells_on at words) 1) windows
@@ -370,7 +370,7 @@ next_listed at rule words new set are is =
     is ∙ sym (is_set_of (after rule (cells_on at words) 1) new (in_order-after rule (cells_on at words) 1 (cells_in_order at words)) (λ c. sym (are.same c)))
     ∙ after-one rule (cells_on at words)
 
--- the next generation is a pattern
+-- if the board is on the plane, the next generation is a pattern
 pub next_is_pattern : (at : Frame) (rule : Numbers) (words : List ℕ) (new set : List Cell) → AreSidesWithin plane_bound (bounds_of at)
     → AreOnBoard at (after rule (cells_on at words) 1) new → set ≡ set_of new → IsPattern set
 unfolding on_plane

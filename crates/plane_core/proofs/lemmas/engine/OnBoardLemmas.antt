@@ -17,7 +17,7 @@ use Rattle.plane_core.proofs.lemmas.plane.CaseLemmas.{same_or_not}
 use Rattle.plane_core.proofs.lemmas.engine.FrameLemmas.{one_spot, spot_inside, spot_of, word-inside}
 use Rattle.plane_core.proofs.lemmas.plane.SetLemmas.{has-cases, has-head, has-set_of, in_order-set_of, or_right, same_lists}
 
--- each bit that is 1 is a listed cell
+-- the cell of each bit that is 1 is listed
 has-lit : (at : Frame) (ws : List ℕ) (n k : ℕ) → k < n → is_live_bit ws k ≡ true → has (lit_before at ws n) (lit_cell at k) ≡ true
 has-lit at ws zero k low lit = absurd (omega arith)
 has-lit at ws (suc n) k low lit = go (same_or_not k n) (is_live_bit ws n) refl (λ h. has-lit at ws n k h lit)
@@ -33,7 +33,7 @@ has-lit at ws (suc n) k low lit = go (same_or_not k n) (is_live_bit ws n) refl (
     go (inr apart) true is before = or_right _ _ (before (omega arith))
     go (inr apart) false is before = before (omega arith)
 
--- each listed cell is a bit that is 1
+-- each listed cell is the cell of a bit that is 1
 lit-has : (at : Frame) (ws : List ℕ) (n : ℕ) (c : Cell) → has (lit_before at ws n) c ≡ true → (k : ℕ) × (k < n) × (is_live_bit ws k ≡ true) × (c ≡ lit_cell at k)
 lit-has at ws zero c e = absurd (false≢true e)
 lit-has at ws (suc n) c e = go (is_live_bit ws n) refl e (lit-has at ws n c)
@@ -52,7 +52,7 @@ lit-has at ws (suc n) c e = go (is_live_bit ws n) refl e (lit-has at ws n c)
       | inr rest ↦ more (before rest)
     ]
 
--- the number of a bit
+-- the number of bit i of row r of word column s, counted through the list of words
 abbrev number_of : Frame → ℕ → ℕ → ℕ → ℕ
 number_of at s r i = 64 * word_of at s r + i
 
@@ -70,7 +70,7 @@ is_live_bit-number at ws s r i hi =
     let bit : number_of at s r i % 64 ≡ i = omega arith in
     λ j. bit_at (slice_index ws (word j)) (bit j) == 1
 
--- bit k of the list is in a word column and a row of the board
+-- bit k, counted through the list of words, is in a word column and a row of the board
 pub record IsPlaced (at : Frame) (k : ℕ) : Type 0 where
   pub word_column : k / 64 / at.rows < at.word_columns
   pub row : k / 64 % at.rows < at.rows
@@ -120,7 +120,7 @@ shows_cells at ws s r i hs hr hi = has-set_of _ c ∙ both_true (has (lit_before
         ap (λ (x : Cell). has (lit_before at ws n) x) (sym (lit_cell-number at s r i hr hi))
         ∙ has-lit at ws n (number_of at s r i) (omega (arith, inside)) (is_live_bit-number at ws s r i hi ∙ e)
 
--- each cell of a board's pattern is a bit that is 1
+-- each cell of a board's pattern is the cell of a bit that is 1
 pub bit_of_cell : (at : Frame) (ws : List ℕ) (c : Cell) → has (cells_on at ws) c ≡ true
     → (k : ℕ) × (k < 64 * (at.word_columns * at.rows)) × (is_live_bit ws k ≡ true) × (c ≡ lit_cell at k)
 unfolding cells_on

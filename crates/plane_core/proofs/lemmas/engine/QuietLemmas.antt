@@ -1,4 +1,4 @@
--- Boxes outside of which a pattern is quiet: what stays as it is in a leap, and the boxes for the next one.
+-- Boxes outside of which a pattern is quiet: what a leap leaves unchanged, and the boxes for the next leap.
 use Rattle.std.proofs.Common.{◌≡◌, ◌≢◌, ◌+◌, ◌-◌, ◌%◌, ◌≤◌, ℕ, zero, suc, Bool, true, false, cond, List, [], ◌⊎◌}
 use Rattle.std.proofs.Common.{arith, refl, ap, ◌∙◌, sym, subst, inl, inr}
 use Rattle.std.proofs.lemmas.Bool.{eq-eqb, false≢true, ne_eqb}
@@ -56,17 +56,18 @@ still-early rule S boxes m n c all le far =
     ∙ sym (false_unless (has S c)
     (λ h. far (near_in boxes m c c (omega (arith, distance_itself c.x, distance_itself c.y)) (all c h))))
 
--- boxes that hold all live cells are also right for leaps of an even number of generations
+-- if the boxes hold all live cells, each cell that isn't within 2 of a box is the same two generations later
 pub quiet-start : (rule : Numbers) (S : List Cell) (boxes : List Bounds) → HoldAll boxes S → IsQuiet rule S boxes
 quiet-start rule S boxes all c far = still-early rule S boxes 2 2 c all (omega arith) far
 
--- each cell in no inner part is unchanged for up to four generations
+-- if the windows cover boxes that hold all live cells, each cell outside all inner parts is unchanged for up to four
+-- generations
 pub still_outside-held : (rule : Numbers) (S : List Cell) (boxes : List Bounds) (places : List LeapWindow) (n : ℕ) → HoldAll boxes S
     → AreCovered places boxes → n ≤ 4 → IsStillOutside rule places S n
 still_outside-held rule S boxes places n all covered le c out =
     still-early rule S boxes 4 n c all le (λ near. out (covered c near))
 
--- ---- while they hold what changes
+-- ---- while the boxes hold what changes
 
 still-two : (rule : Numbers) (S : List Cell) (boxes : List Bounds) (c : Cell) → IsQuiet rule S boxes → ¬ IsNearOne 4 boxes c
     → has (after rule S 2) c ≡ has S c
@@ -100,7 +101,8 @@ pub still_outside-quiet : (rule : Numbers) (S : List Cell) (boxes : List Bounds)
 still_outside-quiet rule S boxes places n o quiet covered low high even c out =
     still-even rule S boxes n c o quiet (even_leap n low high even) (λ near. out (covered c near))
 
--- Outside the new boxes, the pattern is the same as two generations earlier, so two generations later it is unchanged.
+-- if a pattern differs from the one two generations earlier only in the boxes, each cell that isn't within 2 of a box
+-- is the same two generations later
 quiet_by_last : (rule : Numbers) (S last : List Cell) (new : List Bounds) → InOrder S → InOrder last → S ≡ after rule last 2
     → ((d : Cell) → ¬ IsInOne new d → has S d ≡ has last d) → IsQuiet rule S new
 quiet_by_last rule S last new o u is same c far =
@@ -156,7 +158,7 @@ boxed-next rule S boxes new places n all covered le odd differ c h =
 
 -- ---- when cells are taken out or put in
 
--- if the patterns differ only in cells of `more`, boxes around the old ones and `more` are quiet for the other pattern
+-- if S is quiet outside its boxes and T differs from it only in the boxes `more`, T is quiet outside boxes around both
 pub quiet-changed : (rule : Numbers) (S T : List Cell) (boxes more new : List Bounds) → InOrder S → InOrder T → IsQuiet rule S boxes
     → ((c : Cell) → has T c ≢ has S c → IsInOne more c) → ((c : Cell) → IsNearOne 2 boxes c → IsNearOne 2 new c)
     → ((c : Cell) → IsNearOne 2 more c → IsNearOne 2 new c) → IsQuiet rule T new

@@ -37,7 +37,7 @@ has-without S gone c = has-filter (λ d. not (has gone d)) S c
 pub without-has : (S gone : List Cell) (c : Cell) → has (without S gone) c ≡ true → has S c ≡ true
 without-has S gone c e = (and_parts (has S c) (not (has gone c)) (sym (has-without S gone c) ∙ e)).0
 
--- a cell that only one of the two patterns has is gone
+-- a cell in which S and S without `gone` differ is in `gone`
 pub gone-has : (S gone : List Cell) (c : Cell) → has (without S gone) c ≢ has S c → has gone c ≡ true
 gone-has S gone c apart = go (has S c) (has gone c) refl (λ e. apart (has-without S gone c ∙ e))
   where
@@ -46,7 +46,7 @@ gone-has S gone c apart = go (has S c) (has gone c) refl (λ e. apart (has-witho
     go true false e h = absurd (h refl)
     go false false e h = absurd (h refl)
 
--- one more cell is removed
+-- the cells that are left after c is removed too
 has-without_more : (S gone : List Cell) (c d : Cell) → has (without S (gone ++ c ∷ [])) d ≡ (has S d && not (has gone d || (same_cell d c || false)))
 has-without_more S gone c d = has-without S (gone ++ c ∷ []) d ∙ ap (λ (b : Bool). has S d && not b) (has-append gone (c ∷ []) d)
 
@@ -92,7 +92,7 @@ shown_fewer at ws S gone c s d i hs hd hi is low shown t y k ht hy hk = row (sam
     new : ℕ
     new = bit_and (get_or ws m 0) (bit_not w64 (1 * 2 ^ i % 2 ^ 64))
 
-    -- any other cell is unchanged if its bit is
+    -- any other cell is unchanged if its bit is unchanged
     kept : (w : ℕ) → bit_at w k ≡ bit_at (slice_index ws (word_of at t y)) k → ((t ≡ s) × (y ≡ d) × (k ≡ i) → ⊥)
         → has (without S (gone ++ c ∷ [])) p ≡ (bit_at w k == 1)
     kept w same apart =
@@ -127,7 +127,7 @@ taken_off at ws S gone c a d m long within p q is shown =
     subst (λ (n : ℕ). Shows at (set ws n (bit_and (get_or ws n 0) (bit_not w64 (1 * 2 ^ (a % 64) % 2 ^ 64)))) (without S (gone ++ c ∷ []))) (sym is)
     (shown_fewer at ws S gone c (a / 64) d (a % 64) hs hd (omega arith) (spot_of at c a d p q) low shown)
 
--- removing a cell that isn't on the board changes nothing
+-- removing a cell that isn't on the board doesn't change what the board shows
 pub shown_off : (at : Frame) (ws : List ℕ) (S gone : List Cell) (c : Cell) → ¬ IsWithin (bounds_of at) c → Shows at ws (without S gone)
     → Shows at ws (without S (gone ++ c ∷ []))
 shown_off at ws S gone c off shown s r i hs hr hi =
@@ -143,7 +143,7 @@ shown_all at ws s r i hs hr hi =
     kept true = refl
     kept false = refl
 
--- one more cell of a list is removed
+-- a board that shows S without the first i cells and cell i shows S without the first i + 1 cells
 pub fewer_taken : (at : Frame) (ws : List ℕ) (S cs : List Cell) (i : ℕ) (d : Cell) → i < length cs
     → Shows at ws (without S (take i cs ++ get_or cs i d ∷ [])) → Shows at ws (without S (take (i + 1) cs))
 fewer_taken at ws S cs i d low shown = subst (λ (gone : List Cell). Shows at ws (without S gone)) (sym (take_more cs i d low)) shown
@@ -168,7 +168,7 @@ lies_wider S m n low e = has-list_all (is_within n) S (λ c h. wider c (list_all
         and_from (leb (unsigned_abs c.x) n) (leb (unsigned_abs c.y) n) (le-leb (unsigned_abs c.x) n (omega arith))
         (le-leb (unsigned_abs c.y) n (omega arith))
 
--- a pattern is within the bound of boxes
+-- a pattern lies within `box_bound`
 pub lies_in_bound : (S : List Cell) → IsPattern S → lies_within box_bound S ≡ true
 unfolding on_plane
 lies_in_bound S pattern = lies_wider S plane_bound box_bound (omega arith) pattern.on_plane
@@ -189,7 +189,7 @@ wider_board at rule words boxes later holds_all spans is sides wider = record {
   plane = is.plane;
 }
 
--- a board is still a board with fewer cells, if its boxes hold the removed cells
+-- a board is still a board with fewer cells, if its wider boxes also hold the removed cells
 pub fewer_board : (at : Frame) (rule : Numbers) (old new : List ℕ) (boxes later : List Bounds) (holds_all : Bool) (spans : List RowSpan)
     (gone : List Cell) → IsSpannedBoard at rule old boxes holds_all spans → length new ≡ length old
     → cells_on at new ≡ without (cells_on at old) gone → All (AreSidesWithin box_bound) later → AreWider boxes later → HoldAll later gone

@@ -50,7 +50,7 @@ cell_held at spans c a d p q held s r i hs hr hi e = elim (has-cases c [] (board
       subst (λ (t : ℕ). IsInSpan spans t r) (sym is.0) (held r (record { low = omega (arith, is.1); high = omega (arith, is.1) }))
 ]
 
--- one more cell of a list is in the spans
+-- if the old spans hold the first k cells, and the new spans are wider and hold cell k, they hold the first k + 1 cells
 pub held_more : (at : Frame) (old new : List RowSpan) (cs : List Cell) (k : ℕ) (d : Cell) → k < length cs → AreWidened old new → LieInSpans at old (take k cs)
     → LieInSpans at new (get_or cs k d ∷ []) → LieInSpans at new (take (k + 1) cs)
 held_more at old new cs k d low wide before here s r i hs hr hi e =
@@ -63,7 +63,7 @@ held_more at old new cs k d low wide before here s r i hs hr hi e =
     c : Cell
     c = board_cell at s r i
 
--- the inner part of a window is in the spans of two word columns
+-- the spans hold the inner part of a window, if they have its inner rows in both of its word columns
 pub inner_held : (at : Frame) (p : LeapWindow) (x y end : ℕ) (mid new : List RowSpan) → p.left ≡ at.left +ℤ pos x → p.top ≡ at.top +ℤ pos y
     → end + 4 ≡ p.rows
     → ((r : ℕ) → HasRow (record { from = y + 4; end = y + end }) r → IsInSpan mid (x / 64) r) → AreWidened mid new
@@ -87,7 +87,8 @@ inner_held at p x y end mid new left top height first wide second s r i hs hr hi
         let is : x / 64 + 1 ≡ s = omega (arith, ints) in
         subst (λ (t : ℕ). IsInSpan new t r) is (second r here)
 
--- one more window is in the spans
+-- if the old spans hold the first `done` windows, and the new spans are wider and hold the next window, they hold the
+-- first `done + 1` windows
 pub places_more : (at : Frame) (old new : List RowSpan) (places : List LeapWindow) (done : ℕ) (d : LeapWindow) → done < length places → AreWidened old new
     → ((k : ℕ) (p : LeapWindow) → k < done → HoldInner at old (slice_index_or places k p)) → HoldInner at new (slice_index_or places done d)
     → (k : ℕ) (p : LeapWindow) → k < done + 1 → HoldInner at new (slice_index_or places k p)
@@ -188,7 +189,7 @@ empty_spans at words spans none long = record {
   live = λ s r i hs hr hi e. absurd (false≢true (sym (ap (λ (S : List Cell). has S (board_cell at s r i)) none) ∙ e));
 }
 
--- one more row of a word column is emptied
+-- if the rows from `from` to before `row` are empty, setting the word of `row` to 0 makes it empty as well
 pub row_emptied : (at : Frame) (words : List ℕ) (word_column row from i : ℕ) → i ≡ word_of at word_column row → i < length words
     → ((r : ℕ) → from ≤ r → r < row → slice_index words (word_of at word_column r) ≡ 0) → (r : ℕ) → from ≤ r → r < row + 1
     → slice_index (set words i 0) (word_of at word_column r) ≡ 0

@@ -14,7 +14,7 @@ use Rattle.plane_core.proofs.lemmas.Between.{IsReadAt}
 
 -- ---- reading
 
--- `n` rows from row `y` on, in the word column of column `x` and in the next one, are on the board
+-- the words of the n rows from row y on, in the word column of column x and in the next one, are in the list
 pub rows_inside : (at : Frame) (words : List ℕ) (x y n : ℕ) → FillsFrame at words → x / 64 + 1 < at.word_columns → y + n ≤ at.rows
     → x / 64 * at.rows + y + at.rows + n ≤ length words
 rows_inside at words x y n long low few =
@@ -22,7 +22,7 @@ rows_inside at words x y n long low few =
     let whole : at.word_columns * at.rows ≡ (x / 64 + 2 + (at.word_columns - (x / 64 + 2))) * at.rows = ap (λ (m : ℕ). m * at.rows) many in
     omega (arith, long, whole, few)
 
--- a row that is joined from two words of the board
+-- a word that is joined from two words of the board has the bits of the board from column x on, in row y + r
 pub read_word : (at : Frame) (words : List ℕ) (x y r i word : ℕ) → i < 64
     → (i + x % 64 < 64 → bit_at word i ≡ bit_at (slice_index words (x / 64 * at.rows + y + r)) (i + x % 64))
     → (64 ≤ i + x % 64 → bit_at word i ≡ bit_at (slice_index words (x / 64 * at.rows + y + at.rows + r)) (i + x % 64 - 64))
@@ -43,7 +43,7 @@ read_word at words x y r i word low left right = split (cases_lt (i + x % 64) 64
         let bit : i + x % 64 - 64 ≡ (x + i) % 64 = omega arith in
         right second ∙ (λ t. bit_at (slice_index words (place t)) (bit t))
 
--- one more row is read
+-- once row r is set to the bits of the board, the first r + 1 rows have been read
 pub rows_more : (at : Frame) (words : List ℕ) (x y r word : ℕ) (rows : List ℕ) → r < length rows → AreRowsRead at words x y r rows
     → ((i : ℕ) → i < 64 → bit_at word i ≡ bit_on at words (x + i) (y + r)) → AreRowsRead at words x y (r + 1) (set rows r word)
 rows_more at words x y r word rows within read new q i low inside = split (cases_eq q r)
@@ -56,7 +56,7 @@ rows_more at words x y r word rows within read new q i low inside = split (cases
         ∙ ap (λ (p : ℕ). bit_on at words (x + i) (y + p)) (sym e)
     split (inr apart) = ap (λ (w : ℕ). bit_at w i) (get_or-set_other rows r q word 0 apart) ∙ read q i (omega arith) inside
 
--- four more rows are read
+-- once rows r to r + 3 are set to the bits of the board, the first r + 4 rows have been read
 pub four_rows_read : (at : Frame) (words : List ℕ) (x y r : ℕ) (rows new : List ℕ) → AreRowsRead at words x y r rows
     → ((m : ℕ) → (m < r) ⊎ (r + 4 ≤ m) → slice_index new m ≡ slice_index rows m)
     → ((j i : ℕ) → j < 4 → i < 64 → bit_at (slice_index new (r + j)) i ≡ bit_on at words (x + i) (y + (r + j))) → AreRowsRead at words x y (r + 4) new
@@ -68,7 +68,7 @@ four_rows_read at words x y r rows new read others made q i low inside = split (
         let is : r + (q - r) ≡ q = omega arith in
         subst (λ (m : ℕ). bit_at (slice_index new m) i ≡ bit_on at words (x + i) (y + m)) is (made (q - r) i (omega arith) inside)
 
--- the window into which the rows that were read are packed
+-- a window that is packed from rows that were read has the bits of the board
 pub read_packed : (at : Frame) (words : List ℕ) (x y n : ℕ) (rows : List ℕ) (window : List (List ℕ)) → AreRowsRead at words x y (4 * n) rows
     → ((r : ℕ) → r < 4 * n → row_at n window r ≡ slice_index rows r) → IsReadAt at words x y n window
 read_packed at words x y n rows window read packed r i low inside = ap (λ (w : ℕ). bit_at w i) (packed r low) ∙ read r i low inside
@@ -110,7 +110,7 @@ put_there x y word old new u v i mask value row there back m w is = split (inner
           is ∙ chosen_no mask value old (m ∙ none),
         )
 
--- one bit of the board, when a row is put back into two words
+-- putting a row back into two words replaces a bit of the board by an inner bit of the row, or leaves it unchanged
 pub place_put : (at : Frame) (x y word m1 v1 m2 v2 u v old new : ℕ) → y < at.rows → v < at.rows
     → ((i : ℕ) → i < x % 64 → bit_at m1 i ≡ 0) → ((i : ℕ) → x % 64 ≤ i → i < 64 → bit_at m1 i ≡ bit_at inner_mask (i - x % 64))
     → ((i : ℕ) → x % 64 ≤ i → i < 64 → bit_at v1 i ≡ bit_at word (i - x % 64))
@@ -163,7 +163,7 @@ place_put at x y word m1 v1 m2 v2 u v old new inside hv m1low m1high v1high m2is
     split (inr apart) (inl e) = in_second e (same_spot at.rows (u / 64) v (x / 64 + 1) y (omega arith) hv inside)
     split (inr apart) (inr further) = inr (outside apart further, kept apart further)
 
--- a row is put back into two words
+-- writing the inner bits of a row into two words puts the row back on the board
 pub row_put : (at : Frame) (old mid new : List ℕ) (x y word m1 v1 m2 v2 : ℕ) → y < at.rows
     → ((i : ℕ) → i < x % 64 → bit_at m1 i ≡ 0) → ((i : ℕ) → x % 64 ≤ i → i < 64 → bit_at m1 i ≡ bit_at inner_mask (i - x % 64))
     → ((i : ℕ) → x % 64 ≤ i → i < 64 → bit_at v1 i ≡ bit_at word (i - x % 64))
@@ -213,7 +213,7 @@ out_of_four n a none = split (cases_lt n a) (cases_lt n (a + 4))
     split (inr least) (inr high) = inr high
     split (inr least) (inl low) = absurd (none (n - a) (omega arith) (omega arith))
 
--- four rows are put back into four words of each of two word columns
+-- writing the inner bits of four rows into four words of each of two word columns puts the rows back on the board
 pub rows_put : (at : Frame) (old mid new rows first second : List ℕ) (x y r m1 m2 : ℕ) → y + 4 ≤ at.rows
     → ((i : ℕ) → i < x % 64 → bit_at m1 i ≡ 0) → ((i : ℕ) → x % 64 ≤ i → i < 64 → bit_at m1 i ≡ bit_at inner_mask (i - x % 64))
     → ((j i : ℕ) → j < 4 → x % 64 ≤ i → i < 64 → bit_at (slice_index first j) i ≡ bit_at (slice_index rows (r + j)) (i - x % 64))
@@ -295,7 +295,7 @@ rows_put at old mid new rows first second x y r m1 m2 inside m1low m1high v1high
     split (inr least) (inr high) = off (λ j low e. absurd (omega arith))
     split (inr least) (inl low) = on (v - y) (omega arith) (omega arith)
 
--- four more rows are put back
+-- after the four rows from row `end` on, the inner part is put back up to before row `end + 4`
 pub four_more : (at : Frame) (x y end : ℕ) (rows old mid new : List ℕ) → 4 ≤ end → IsPutBack at x y end rows old mid
     → AreRowsPut at x (y + end) end rows mid new → IsPutBack at x y (end + 4) rows old new
 four_more at x y end rows old mid new least put four u v hu hv = split (four u v hu hv) (put u v hu hv)
@@ -325,7 +325,7 @@ four_more at x y end rows old mid new least put four u v hu hv = split (four u v
                 let row = c.row.is in
                 off c.column (record { j = c.row.r - end; low = omega arith; is = omega arith })
 
--- one more row is put back
+-- after row `end`, the inner part is put back up to before row `end + 1`
 pub put_more : (at : Frame) (x y end : ℕ) (rows old mid new : List ℕ) → 4 ≤ end → IsPutBack at x y end rows old mid
     → IsRowPut at x (y + end) (slice_index rows end) mid new → IsPutBack at x y (end + 1) rows old new
 put_more at x y end rows old mid new least put row u v hu hv = split (row u v hu hv) (put u v hu hv)
@@ -354,12 +354,12 @@ put_more at x y end rows old mid new least put row u v hu hv = split (row u v hu
 pub none_put : (at : Frame) (x y : ℕ) (rows old : List ℕ) → IsPutBack at x y 4 rows old old
 none_put at x y rows old u v hu hv = inr (λ c. let low = c.row.low in let high = c.row.high in absurd (omega arith), refl)
 
--- ---- words
+-- ---- the indices of words
 
 pub column_low : (x : ℕ) → x % 64 < 64
 column_low x = omega arith
 
--- the two words of a row that begins in column x are in the list
+-- the indices of the two words of a row that begins in column x are in the list
 pub words_in : (at : Frame) (words : List ℕ) (x y : ℕ) → FillsFrame at words → x / 64 + 1 < at.word_columns → y < at.rows
     → (x / 64 * at.rows + y < length words) × (x / 64 * at.rows + y + at.rows < length words)
 words_in at words x y long word_column row =
@@ -367,7 +367,7 @@ words_in at words x y long word_column row =
     let second : (x / 64 + 1) * at.rows + y < at.word_columns * at.rows = word-inside at (x / 64 + 1) y word_column row in
     (omega (arith, long, first), omega (arith, long, second))
 
--- the indices of these words fit their type, since the type has more numbers than a list has items
+-- the indices of the two words of a row that begins in column x fit in 64 bits, as a list has fewer than 2^60 items
 pub fits_begin : (at : Frame) (words : List ℕ) (x y most : ℕ) → length words * 8 < 9223372036854775808 → FillsFrame at words → x / 64 + 1 < at.word_columns
     → y + most ≤ at.rows → Fits w64 (x / 64 * at.rows) × Fits w64 (x / 64 * at.rows + y) × Fits w64 (x / 64 * at.rows + y + at.rows)
 fits_begin at words x y most small long word_column row =

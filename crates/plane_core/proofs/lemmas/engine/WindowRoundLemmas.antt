@@ -50,7 +50,7 @@ place_is_inland b width height p sides is =
       top = let q = is.top in omega (arith, ints);
     }
 
--- a side far from the edge, as it is passed
+-- a side far from the edge of the plane fits in 32 bits
 near_fits : (x : ℤ) → unsigned_abs x ≤ 900000 → FitsSigned w32 x
 near_fits (pos n) near = record { sfits = omega (arith, near) }
 near_fits (negsuc n) near = record { sfits = omega (arith, near) }
@@ -101,7 +101,7 @@ inland_within p S far inside = has-list_all (is_within 951000) S near
         and_from (leb (unsigned_abs c.x) 951000) (leb (unsigned_abs c.y) 951000) (le-leb (unsigned_abs c.x) 951000 (omega (arith, ints)))
         (le-leb (unsigned_abs c.y) 951000 (omega (arith, ints)))
 
--- ---- rows
+-- ---- the rows into which cells are put
 
 pub none_shown : (p : WindowOrigin) (rows : List ℕ) → ((r : ℕ) → slice_index rows r ≡ 0) → ShowsRows p rows []
 none_shown p rows empty r i low near = sym (ap (λ (m : ℕ). bit_at m i == 1) (empty r) ∙ ap (λ (m : ℕ). m == 1) (bit_at-zero i))
@@ -115,7 +115,7 @@ zeros zero i = refl
 zeros (suc n) zero = refl
 zeros (suc n) (suc i) = zeros n i
 
--- the cell at a place of a list is a member
+-- the cell at a place of a list is a member of the list
 pub has-at : (cs : List Cell) (i : ℕ) (d : Cell) → i < length cs → has cs (get_or cs i d) ≡ true
 has-at [] i d low = absurd (omega arith)
 has-at (c ∷ cs) zero d low = has-head c cs
@@ -125,7 +125,7 @@ or_none : (a : Bool) → (a || false) ≡ a
 or_none true = refl
 or_none false = refl
 
--- one more cell is put into the rows
+-- setting the bit of cell c makes the rows show c as well
 pub put_shown : (p : WindowOrigin) (rows : List ℕ) (S : List Cell) (c : Cell) (a d : ℕ) → IsSpot p c a d → a < 64 → d < length rows → ShowsRows p rows S
     → ShowsRows p (set rows d (bit_or (get_or rows d 0) (1 * 2 ^ a % 2 ^ 64))) (S ++ c ∷ [])
 put_shown p rows S c a d at ha hd shown r i low near = has-append S (c ∷ []) e ∙ row (same_or_not r d)
@@ -167,12 +167,12 @@ put_shown p rows S c a d at ha hd shown r i low near = has-append S (c ∷ []) e
         missed (same_cell e c) refl (λ (u, v). apart v) ∙ shown r i low near
         ∙ ap (λ (w : ℕ). bit_at w i == 1) (sym (get_or-set_other rows d r new 0 apart))
 
--- one more cell of a list is put into the rows
+-- rows that show the first i cells of a list and cell i show the first i + 1 cells
 pub shown_taken : (p : WindowOrigin) (rows : List ℕ) (cs : List Cell) (i : ℕ) (d : Cell) → i < length cs → ShowsRows p rows (take i cs ++ get_or cs i d ∷ [])
     → ShowsRows p rows (take (i + 1) cs)
 shown_taken p rows cs i d low shown = subst (λ (S : List Cell). ShowsRows p rows S) (sym (take_more cs i d low)) shown
 
--- ---- where a cell of a window stands in it
+-- ---- the column and the row of a cell in its window
 
 abbrev pub IsAcross : (origin : WindowOrigin) → (cell : Cell) → Type 0
 IsAcross origin cell = AreApart cell.x origin.left (unsigned_abs (cell.x -ℤ origin.left))
@@ -208,7 +208,7 @@ inside_at origin cells k all low = all _ (has-at cells k _ low)
 pub in_rows : (n long : ℕ) → long ≡ 64 → n < 64 → n < long
 in_rows n long is low = omega arith
 
--- ---- rows in vectors
+-- ---- rows packed into vectors
 
 -- a window packed from rows holds the pattern of the rows
 pub shown_packed : (p : WindowOrigin) (rows : List ℕ) (x : List (List ℕ)) (S : List Cell) → FillsRows p.left p.top rows S

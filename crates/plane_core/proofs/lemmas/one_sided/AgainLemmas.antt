@@ -25,7 +25,7 @@ use Rattle.plane_core.proofs.lemmas.Between.{IsCorner}
 
 -- ---- where a pattern begins
 
--- the first column that has a cell of the pattern, and the first row
+-- i is the first column, counted from `left`, that has a cell of the pattern
 pub record BeginsColumn (left : ℤ) (S : List Cell) (i : ℕ) : Type 0 where
   pub some : (c : Cell) × (has S c ≡ true) × (c.x ≡ left +ℤ pos i)
   pub least : (c : Cell) → has S c ≡ true → (left +ℤ pos i) ≤ℤ c.x
@@ -34,7 +34,7 @@ pub record BeginsRow (top : ℤ) (S : List Cell) (r : ℕ) : Type 0 where
   pub some : (c : Cell) × (has S c ≡ true) × (c.y ≡ top +ℤ pos r)
   pub least : (c : Cell) → has S c ≡ true → (top +ℤ pos r) ≤ℤ c.y
 
--- if a pattern is moved, its first column and row move with it
+-- if a pattern is moved, its first column moves by the same amount
 column_moves : (left dx dy : ℤ) (S : List Cell) (b a : ℕ) → BeginsColumn left S b → BeginsColumn left (shifted dx dy S) a → pos a ≡ pos b +ℤ dx
 column_moves left dx dy S b a p q =
     let c = p.some in
@@ -59,7 +59,7 @@ row_moves top dx dy S b a p q =
     one : (cx ex fx : ℤ) → cx ≡ top +ℤ pos b → ex ≡ top +ℤ pos a → ex ≡ fx +ℤ dy → (top +ℤ pos a) ≤ℤ (cx +ℤ dy) → (top +ℤ pos b) ≤ℤ fx → pos a ≡ pos b +ℤ dy
     one cx ex fx p q r s t = omega (arith, ints)
 
--- a bit that is 1 is a cell of the pattern
+-- a bit of the window that is 1 is a cell of the pattern
 cell_of : (n : ℕ) (left top : ℤ) (x : List (List ℕ)) (S : List Cell) (i r : ℕ) → 0 < n → Holds n left top x S → AreVectors n x → bit_at (row_at n x r) i ≡ 1
     → has S (in_window left top i r) ≡ true
 cell_of n left top x S i r some h whole e = held_anywhere n left top x S i r some h whole ∙ ap (λ (m : ℕ). m == 1) e
@@ -94,7 +94,7 @@ begins_row n left top x S r some h whole first = record {
       | inr past ↦ let p = ap (λ (d : Cell). d.y) l.place in omega (arith, ints)
     ]
 
--- ---- the start again
+-- ---- a window that shows the start again
 
 -- a moved pattern has a moved cell exactly if the pattern has the cell
 has-moved : (dx dy : ℤ) (S : List Cell) (c d : Cell) → d ≡ moved_by dx dy c → has (shifted dx dy S) d ≡ has S c
@@ -116,7 +116,7 @@ equal_bits (suc zero) (suc zero) p q e = refl
 equal_bits (suc (suc a)) b p q e = absurd (omega arith)
 equal_bits a (suc (suc b)) p q e = absurd (omega arith)
 
--- Two windows show the same cells, from column b and row e in x, and from column a and row d in y.
+-- windows x and y show the same cells, counted from column b and row e in x, and from column a and row d in y
 pub record IsAgain (n : ℕ) (x y : List (List ℕ)) (b a e d : ℕ) : Type 0 where
   pub same : (i r : ℕ) → bit_at (row_at n x (e + r)) (b + i) ≡ bit_at (row_at n y (d + r)) (a + i)
 
@@ -139,7 +139,7 @@ is_again n left top dx dy x y S b a e d some wx wy hx hy p q r s = record { same
         (same_cell_at _ _ _ _ (omega (arith, ints, across)) (omega (arith, ints, down))))
         ∙ held_anywhere n left top y (shifted dx dy S) (a + i) (d + k) some hy wy)
 
--- the rows of the two windows are equal, counted from where their cells begin
+-- the rows of the two windows are equal, counted from the first column and row of their cells
 pub rows_again : (n : ℕ) (x y : List (List ℕ)) (b a e d r : ℕ) → IsAgain n x y b a e d → row_at n x (e + r) / 2 ^ b ≡ row_at n y (d + r) / 2 ^ a
 rows_again n x y b a e d r again = same_from_bits _ _ (λ i. moved_bit (row_at n x (e + r)) b i ∙ again.same i r ∙ sym (moved_bit (row_at n y (d + r)) a i))
 
@@ -184,7 +184,7 @@ columns_again n left top dx dy x y S w v b a some wx wy cw cv hx hy p q =
             let at : k ≡ b + i = let o = ap (λ (d : Cell). d.x) l.place in omega (arith, ints, across) in
             ap (λ (c : ℕ). bit_at w c) (sym at) ∙ cw.all s k l.row l.bit
 
--- if the first window has a cell, so has the second
+-- if window x has a live cell, so has window y, which shows the same pattern moved
 pub some_again : (n : ℕ) (left top dx dy : ℤ) (x y : List (List ℕ)) (S : List Cell) (w v : ℕ) → 0 < n → AreVectors n x → IsColumns n x w → IsColumns n y v
     → Holds n left top x S → Holds n left top y (shifted dx dy S) → 0 < w → w < 2 ^ 64 → v ≡ 0 → ⊥
 some_again n left top dx dy x y S w v some wx cw cv hx hy alive small none =
@@ -203,7 +203,8 @@ pub begins : (n : ℕ) (left top : ℤ) (x : List (List ℕ)) (S : List Cell) (w
 begins n left top x S w some h whole columns alive small =
     let f = bit_at-trailing_zeros w64 w alive small in begins_column n left top x S w (trailing_zeros w64 w) some h whole columns f.1 f.2
 
--- the rows are the same, where rows past the window are read as empty
+-- the windows of a pattern and of the pattern moved have the same rows, counted from the first row and column of their
+-- cells; rows past a window are read as empty
 pub same_rows : (n : ℕ) (left top dx dy : ℤ) (x y : List (List ℕ)) (S : List Cell) (w v p q r first second a b : ℕ) → 0 < n → AreVectors n x → AreVectors n y
     → IsColumns n x w → IsColumns n y v → Holds n left top x S → Holds n left top y (shifted dx dy S) → IsCorner n x w first a → IsCorner n y v second b
     → (first + r < 4 * n → p ≡ row_at n x (first + r)) → (4 * n ≤ first + r → p ≡ 0)
@@ -247,7 +248,7 @@ alike_held n left top x y S T alike hx hy = same_lists S T hx.in_order hy.in_ord
 pub new-none : (rule : Numbers) (S : List Cell) → NeverRecurs rule S 0
 new-none rule S p dx dy some none = absurd (omega arith)
 
--- one more generation that isn't a translate of the start
+-- a pattern doesn't recur within g + 1 generations if it doesn't within g, and generation g + 1 isn't a translate of it
 pub new-more : (rule : Numbers) (S : List Cell) (g : ℕ) → NeverRecurs rule S g → ((dx dy : ℤ) → after rule S (g + 1) ≢ shifted dx dy S)
     → NeverRecurs rule S (g + 1)
 new-more rule S g before other p dx dy some low = new p some low (same_or_not p (g + 1))
@@ -266,12 +267,12 @@ unmoved (c ∷ cs) = λ i. same_cell_at _ _ _ _ (still c.x) (still c.y) i ∷ un
     still : (a : ℤ) → a +ℤ pos 0 ≡ a
     still a = omega (arith, ints)
 
--- if generation m equals an earlier one and the start doesn't recur up to m, it never recurs
+-- if generation m equals an earlier one and the pattern doesn't recur within m generations, it never recurs
 pub new-ever : (rule : Numbers) (S : List Cell) (m h g : ℕ) → h < m → after rule S h ≡ after rule S m → NeverRecurs rule S m → NeverRecurs rule S g
 new-ever rule S m h g less back new p dx dy some low e =
     let q = earlier p in new q.0 dx dy (q.2 some) (omega (arith, q.1)) (sym q.3 ∙ e)
   where
-    --     the earlier generation isn't the start
+    -- the earlier generation isn't the start
     late : 1 ≤ h
     late = elim (less_or_not 0 h) [
       | inl past ↦ past
@@ -312,7 +313,7 @@ changing_start rule n start now columns made followed whole are = record {
   earlier = (made, omega arith, followed.held);
 }
 
--- one more generation, which isn't a translate of the start
+-- the window after one more generation, if that isn't a translate of the start
 pub changing_more : (rule : Numbers) (n : ℕ) (start now kept later : List (List ℕ)) (columns columns_later made : ℕ) (again : Bool) → 0 < n
     → IsChanging rule n start now kept columns made → IsRimClear n now → IsNextWindow rule n now later → AreVectors n later → IsColumns n later columns_later
     → ((S : List Cell) (left top dx dy : ℤ) → Holds n left top start S → Holds n left top later (shifted dx dy S) → again ≡ true) → again ≡ false
@@ -332,12 +333,12 @@ changing_more rule n start now kept later columns columns_later made again some 
     held S left top h = subst (λ (T : List Cell). Holds n left top later T) (sym (after-more rule S made))
         (next_held rule n left top now later (after rule S made) some before.whole clear step (before.followed.held S left top h))
 
--- the current window is kept
+-- the current window can be kept in place of the earlier one
 pub changing_keeps : (rule : Numbers) (n : ℕ) (start now kept : List (List ℕ)) (columns made : ℕ) → IsChanging rule n start now kept columns made
     → IsChanging rule n start now now columns made
 changing_keeps rule n start now kept columns made c = changing_start rule n start now columns made c.followed c.whole c.columns_are
 
--- if the current window equals the kept one, the pattern never recurs
+-- if the current window equals the earlier one that was kept, the pattern never recurs
 pub changing_ends : (rule : Numbers) (n : ℕ) (left top : ℤ) (start now kept : List (List ℕ)) (columns made most : ℕ) (S : List Cell)
     → IsChanging rule n start now kept columns (made + 1) → (h : ℕ) → h ≤ made
     → ((S : List Cell) (left top : ℤ) → Holds n left top start S → Holds n left top kept (after rule S h)) → AreAlike n now kept → Holds n left top start S

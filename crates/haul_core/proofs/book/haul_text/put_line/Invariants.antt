@@ -4,7 +4,7 @@ use Rattle.plane_core.specs.Outputs.{Writes}
 use Rattle.haul_core.specs.HaulTexts.{spaced}
 use Rattle.haul_core.proofs.book.haul_text.put_line.Given as goal
 
--- the name and those numbers that were passed have been written
+-- the name and the numbers before the current one have been written
 abbrev pub invariant-loop-number : goal.invariant-loop-number
 invariant-loop-number g l =
     (prefix : List ℕ) × (l.name ++ flat_map (λ n. spaced (g.N.Integer.text n)) l.fn.numbers

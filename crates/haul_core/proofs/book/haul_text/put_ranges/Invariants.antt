@@ -4,7 +4,7 @@ use Rattle.plane_core.specs.Outputs.{Writes}
 use Rattle.haul_core.specs.HaulTexts.{ended, range_line, range_lines, text_of}
 use Rattle.haul_core.proofs.book.haul_text.put_ranges.Given as goal
 
--- those ranges that were passed have been written
+-- the ranges before the current one have been written
 abbrev pub invariant-loop-range : goal.invariant-loop-range
 invariant-loop-range g l =
     (prefix : List ℕ) × (text_of (range_lines l.fn.ranges)

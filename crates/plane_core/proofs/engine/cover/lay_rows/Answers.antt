@@ -4,7 +4,7 @@ use Rattle.std.proofs.lemmas.Result.{IfOk-from_err}
 use Rattle.plane_core.proofs.lemmas.engine.CoverLemmas.{below_end, few_columns, few_rows, none_above, row_is, row_near, rows_more, spans_begin, wider_bound}
 use Rattle.plane_core.proofs.engine.cover.lay_rows.Goals as goal
 
--- a number that is passed on as 32 bits is still within the bound
+-- a number that fits in 32 bits and is within n is still within n after a conversion to 32 bits and back
 passed : (x : ℤ) (n : ℕ) → FitsSigned w32 x → unsigned_abs x ≤ n → unsigned_abs (to_z w32 (of_z w32 x)) ≤ n
 passed x n fits low = rw (to_z-of_z w32 x fits) low
 

@@ -16,7 +16,7 @@ use Rattle.plane_core.proofs.engine.first_boxes.boxes_round.Goals as goal
 abbrev origin : Cell
 origin = cell_at (pos 0) (pos 0)
 
--- one more cell is in a box
+-- the first k + 1 cells are in the new boxes, if these keep the cells of the old boxes and `next` has cell k
 more_held : (cells : List Cell) (k : ℕ) (x : Cell) (run next : Bounds) (old new : List Bounds) → k < length cells
     → ((d : Cell) → IsWithin run d → IsWithin next d ⊎ IsInOne new d) → ((d : Cell) → IsInOne old d → IsInOne new d) → IsWithin next (get_or cells k x)
     → All (λ (d : Cell). IsWithin run d ⊎ IsInOne old d) (take k cells) → All (λ (d : Cell). IsWithin next d ⊎ IsInOne new d) (take (k + 1) cells)
@@ -88,7 +88,7 @@ returns-in_err-put_in_box-clause-sides c n near =
 no_boxes_sides : (n : ℕ) (boxes : List Bounds) → boxes ≡ [] → All (AreSidesWithin n) boxes
 no_boxes_sides n boxes none = subst (λ (bs : List Bounds). All (AreSidesWithin n) bs) (sym none) (All-nil (AreSidesWithin n))
 
--- the box of the first cell is within the same bound as all cells
+-- if all cells are within n of the origin, the sides of the first cell's box are too
 first_sides : (n : ℕ) (cells : List Cell) (first : Cell) (run : Bounds) → run ≡ box_at first → first ≡ get_or cells 0 first → 0 < length cells
     → lies_within n cells ≡ true → AreSidesWithin n run
 first_sides n cells first run is same low near =

@@ -8,7 +8,7 @@ use Rattle.plane_core.proofs.engine.listing.read_word.Goals as goal
 use Rattle.plane_core.proofs.engine.listing.read_word.Goals.{Else-remainder-eq0}
 use Rattle.plane_core.proofs.lemmas.Between.{IsNextAlive}
 
--- the column of the next live cell
+-- the column of the first live cell from column `done` on
 next : ℕ → ℕ → ℕ
 next word done = done + trailing_zeros w64 (word / 2 ^ done)
 
@@ -20,7 +20,7 @@ pub along-requires-clause-columns : goal.along-requires-clause-columns
 unfolding next
 along-requires-clause-columns c = (mark (goal.at.along-requires-clause-columns c).Else-remainder-eq0).high
 
--- one cell more
+-- an iteration reads one more live cell
 pub loop-done-preserved : goal.loop-done-preserved
 unfolding next
 loop-done-preserved c =

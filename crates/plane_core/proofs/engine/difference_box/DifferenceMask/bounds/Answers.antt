@@ -49,7 +49,7 @@ column-requires-2-clause-reach c = c.requires
 pub row-requires-2-clause-reach : goal.row-requires-2-clause-reach
 row-requires-2-clause-reach c = c.requires
 
--- the first bit is also below 64
+-- the first bit of a span is below 64
 first_low : (word : ℕ) (span : BitSpan) → HasBits word span → span.first < 64
 first_low word span bits = omega (arith, bits.order, bits.high)
 
