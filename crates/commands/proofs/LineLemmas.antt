@@ -242,7 +242,7 @@ little_more room once size more old left read ahead consumed is short few =
 pub less_room : (room size more : ℕ) → 0 < more → size + more ≤ room → room + 1 - (size + more) < room + 1 - size
 less_room room size more some within = omega arith
 
--- if at most `room` bytes were read after `read`, and both are at most `most` bytes, at most `most` bytes were read
+-- if `read` and then at most `room` bytes were read, and both add up to at most `most`, at most `most` bytes were read
 pub after_read : (room most : ℕ) (reader old new : Option (List ℕ)) (read : List ℕ) → Consumes reader old read → length read + room ≤ most
     → HasReadAtMost room old new → HasReadAtMost most reader new
 after_read room most reader old new read consumed few (more, next, short) =

@@ -364,7 +364,7 @@ take_finishes may_stop lets workers plan reader bytes held (Err (ReadFailed erro
 take_finishes may_stop lets workers plan reader bytes held (Err TooLong) output errors h none not still = absurd not
 take_finishes may_stop lets workers plan reader bytes held (Err (Refused refusal)) output errors h none not still = absurd not
 
--- each way in which the crew ends, and then writing the haul text, is a right end of `take`
+-- once its haul is open, each way in which `take` ends is right
 pub take_ends : (may_stop lets : ℕ → ℕ → Type 0) (workers : ℕ) (plan : Plan)
     (reader : Option (List ℕ)) (bytes : List ℕ) (opened held : Held) (taken : Result (Unit {0}) Complaint) (outcome : Outcome) (output errors : Stream)
     → IsOpenedFor plan workers opened → HasTakenMore opened held → All (λ t. is_in held.terms.ranges t.1 ≡ true) held.taken

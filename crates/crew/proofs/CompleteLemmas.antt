@@ -1,8 +1,9 @@
 -- If no worker was stopped and memory never ran out, each missing soup was taken.
 --
--- The collector has received as many notes "done" as there are workers, and each worker presents at most one, so exactly
--- one was received from each worker. This is the worker's last note, so all the worker's notes were received. No worker
--- stopped early, so each went on until no number was left. So all numbers were drawn, and each of them was reported.
+-- The collector has received as many notes "done" as there are workers, and each worker presents at most one. So
+-- exactly one was received from each worker. This is the worker's last note, so all the worker's notes were received.
+-- No worker stopped early, so each went on until no number was left. So all numbers were drawn, and each of them was
+-- reported.
 use Rattle.std.proofs.Common.{◌≡◌, ◌<◌, ◌≤◌, ◌+◌, ◌++◌, ◌∙◌, ℕ, zero, suc, All, Bool, true, false, true≢false, List, [], ◌∷◌, ap}
 use Rattle.std.proofs.Common.{◌&&◌, arith, cond, drop, get_or, length, map, nat_eq, nat_le, nat_lt, not, refl, subst, sym}
 use Rattle.std.specs.Prelude.{None, count_by, slice_index}

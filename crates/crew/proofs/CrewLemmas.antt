@@ -160,7 +160,7 @@ module _ {before after : Collector} {answered : Bool} (c : Collected before afte
       subst (λ (l : List Reported). IsSubsequence (part ++ more) l) (sym (reports_push c.notes (sender, Report r)))
       (part_append part (reports_in c.notes) more (r ∷ []) p q)
 
-  -- if a report was lost before, one is lost after the next report, whether or not the haul takes that next report
+  -- a report that was lost before is still lost after the next report, whether or not the haul takes the next one
   -- (`more`)
   lost_more : (r : Reported) (sender : ℕ) (more : List Reported) → IsSubsequence more (r ∷ [])
       → HasLost (reports_in c.notes) c.part before.haul

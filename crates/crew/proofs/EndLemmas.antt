@@ -19,7 +19,7 @@ use Rattle.crew.specs.declared.take.CrewError.{CrewError}
 use Rattle.crew.specs.declared.take.CrewError.TheVariants as crew_error
 use Rattle.crew.proofs.TakeLemmas.{all_numbers}
 
--- `IfSome` holds if the property holds for the value of the option, if it has one
+-- `IfSome o P` holds if `P` holds for each `x` for which `o` is `Some x`
 pub if_some : {X : Type 0} (P : X → Type 0) (o : Option X) → ((x : X) → o ≡ Some x → P x) → IfSome o P
 if_some P None each = tt
 if_some P (Some x) each = each x refl

@@ -67,8 +67,7 @@ once_if_some_below m numbers some n =
     let one = one_at_most (nat_lt n m) in
     omega (arith, below, one)
 
--- the number at place `t` of an ascending list occurs among the numbers at some places at most as often as `t` among
--- the places
+-- if the numbers ascend, the number at place `t` occurs at some places at most as often as `t` is one of the places
 module _ (missing : List ℕ) (up : Rises missing) (t : ℕ) (lt : t < length missing) where
   other_number : (p : ℕ) → p < length missing → t ≢ p → slice_index missing t ≢ slice_index missing p
   other_number p below apart same =
@@ -125,8 +124,8 @@ module _ {may_stop lets : ℕ → ℕ → Type 0} (shared : Shared) (got : List 
 
 -- ---- all workers
 
--- if the value of the notes received from each worker is at most the number of times that it drew `t`, that holds for
--- the sums over all workers
+-- if the value of the notes received from each worker is at most how often it drew `t`, the sum of the values is at
+-- most how often all workers drew `t`
 pub of_workers : (of : Note → ℕ) (t : ℕ) (got : List (ℕ × Note)) (results : List WorkerResult) (first : ℕ)
     → map (λ s. s.sender.number) results ≡ range_with_len (first + 1) (length results)
     → All (λ s. sum_by of (notes_of s.sender.number got) ≤ count_by (nat_eq t) s.pass.numbers) results

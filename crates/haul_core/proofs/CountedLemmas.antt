@@ -83,7 +83,7 @@ one_count a b h k e =
     let n = decimal_injective a.1 b.1 h.fits k.fits c.1 in
     λ i. (c.0 i, n i)
 
--- `all` begins with `counts` and one more count, whose field is this one
+-- `all` begins with `counts` and one more count, whose field is `field`
 record IsNext (counts all : Counts) (field : List ℕ) : Type 0 where
   object : List ℕ × ℕ
   more : Counts

@@ -69,7 +69,7 @@ size_below bound (r ∷ rs) h below =
     let sum : size_of (r ∷ rs) ≡ r.count + size_of rs = sum_by-cons (λ r. r.count) r rs in
     omega arith
 
--- ---- the numbers taken by both hauls
+-- ---- the numbers that the two hauls have taken together
 
 all-append : (P : ℕ → Type 0) (xs ys : List ℕ) → AllByRecursion P xs → AllByRecursion P ys → AllByRecursion P (xs ++ ys)
 all-append P [] ys h k = k
@@ -106,7 +106,7 @@ other_numbers a b (t ∷ ts) others apart h k = (
   other_numbers a b ts others apart (All-tail (λ t. is_in a t.1 ≡ true) t ts h) k,
 )
 
--- if the sets share no number, the numbers taken by both hauls are distinct
+-- if the sets share no number, no number was taken twice by the two hauls together
 pub distinct_both : (a b : List Range) (taken others : List (ℕ × ℕ)) → ¬ ShareNumber a b → All (λ t. is_in a t.1 ≡ true) taken
     → All (λ t. is_in b t.1 ≡ true) others → IsDistinct nat_eq (numbers_in taken) → IsDistinct nat_eq (numbers_in others)
     → IsDistinct nat_eq (numbers_in (taken ++ others))
@@ -114,7 +114,7 @@ distinct_both a b taken others apart h k d e =
     subst (IsDistinct nat_eq) (sym (map-append (λ (t : ℕ × ℕ). t.1) taken others))
     (distinct-append (numbers_in taken) (numbers_in others) d e (other_numbers a b taken others apart h k))
 
--- ---- the totals of both hauls
+-- ---- the totals of the two hauls together
 
 score_both : (sa sb : List Survey) (code : List ℕ) → score_of (sa ++ sb) code ≡ together (together no_score (score_of sa code)) (score_of sb code)
 score_both sa sb code = λ i. record { total = sum i; samples = least i }

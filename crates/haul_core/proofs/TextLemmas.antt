@@ -47,7 +47,7 @@ module _ {A V : Type 0} {contents : V → Option (List ℕ)} {old here : Output 
       → Writes {E = WriteError} contents here new (Ok tt) (text x) → HasWritten contents old new text xs (i + 1) whole
   item_more i x more is (prefix, left, wrote) wrote_one = (prefix ++ text x, text_more text xs i x whole prefix more is left, Writes_then wrote wrote_one)
 
-  -- writing `whole` has failed if an item could not be written completely
+  -- if writing an item fails, writing `whole` fails
   pub item_stops : {F : Type 0} {new : Output V} {e : WriteError} {r : Result (Unit {0}) F} (i : ℕ) (x : A) → i < length xs → x ≡ get_or xs i x
       → HasWritten contents old here text xs i whole → IsErr r → Writes contents here new (Err e) (text x) → Writes contents old new r whole
   item_stops i x more is (prefix, left, wrote) err stopped =

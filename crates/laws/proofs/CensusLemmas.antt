@@ -31,7 +31,7 @@ use Rattle.ranges.proofs.NormalLemmas.{normal_forms}
 use Rattle.haul_core.proofs.NumberLemmas.{same_least, same_length, same_member, same_sum}
 use Rattle.laws.proofs.RowLemmas.{same_rows}
 
--- ---- what is found of a number
+-- ---- the findings of soups, by their numbers
 
 abbrev pub IsFound : Job → ℕ → Finding → Type 0
 IsFound job n finding = IsFinding job.rule job.profile (soup job.seed n) finding
@@ -95,7 +95,7 @@ samples_surveys f code (n ∷ ns) = go (has_object code (survey_of f n)) (sample
     go true ih = ap (λ (xs : List ℕ). n ∷ xs) ih
     go false ih = ih
 
--- two lists of surveys are those of one function, over the same numbers in any order
+-- both lists have the surveys that one function gives, for the same numbers in any order
 record AreAlike (surveys others : List Survey) : Type 0 where
   found : ℕ → Finding
   numbers : List ℕ
@@ -173,7 +173,7 @@ complete_hauls law job ranges others numbers more one other normal also set all 
 
 -- ---- the same soups in another order
 
--- the rows over some soups are those over the same soups in another order
+-- the rows over some soups are also the rows over these soups in another order
 rows_reordered : (surveys others : List Survey) (rows : List Row) → AreAlike surveys others → AreRowsOf surveys rows → AreRowsOf others rows
 rows_reordered surveys others rows a are = record {
   in_order = are.in_order;

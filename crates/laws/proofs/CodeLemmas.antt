@@ -70,7 +70,7 @@ decimal_plain : (n : ℕ) → list_all is_plain (decimal n) ≡ true
 unfolding digits
 decimal_plain n = digits_plain 64 n [] refl
 
--- so the text of a code is the part after its first `_`
+-- the text in a code is the part after the code's first `_`
 text_of_code : (kind : Kind) (number : ℕ) (t : List ℕ) → past_mark (code_text kind number (Some t)) ≡ t
 unfolding code_text
 text_of_code Still number t = past_mark-plain (decimal number) t (decimal_plain number)
@@ -94,7 +94,7 @@ same_text kind other number n t None same =
 same_text kind other number n t (Some u) same =
     ap Some (sym (text_of_code other n u) ∙ ap past_mark (sym same) ∙ text_of_code kind number t)
 
--- ---- from a phase of one pattern to the other pattern
+-- ---- images of patterns, and of their generations
 
 in_order-corner : (S : List Cell) → InOrder S → InOrder (at_corner S)
 in_order-corner [] order = order
@@ -123,7 +123,7 @@ same_image o p S T t one other =
     let same : at_corner (turned o S) ≡ at_corner (turned p T) = cc in
     sym (corner-turned o S (in_order-turned o S)) ∙ same ∙ corner-turned p T (in_order-turned p T)
 
--- the generations of a pattern don't depend on where it is, up to a move
+-- a pattern that is moved to the corner has the same generations as before, up to a move
 corner-after : (rule : Numbers) (S : List Cell) (n : ℕ) → InOrder S → at_corner (after rule (at_corner S) n) ≡ at_corner (after rule S n)
 corner-after rule [] n order = refl
 corner-after rule (c ∷ cs) n order =
@@ -137,8 +137,8 @@ unfolding turned
 turned-after o rule S n order =
     corner-after rule (image o S) n (in_order-image o S) ∙ ap at_corner (after-image o rule S n order)
 
--- if a phase of a pattern looks like a phase of another pattern that recurs, it looks like the other pattern itself
--- after the generations that complete the other's period
+-- if generation `g` of a pattern looks like generation `h` of another pattern, which recurs after `h + n` generations,
+-- then generation `g + n` of the first looks like the other pattern
 reached : (o p : Orientation) (rule : Numbers) (cells others : List Cell) (g h n period : ℕ) (dx dy : _) → InOrder cells → InOrder others → h + n ≡ period
     → after rule others period ≡ shifted dx dy others → turned o (after rule cells g) ≡ turned p (after rule others h)
     → turned o (after rule cells (g + n)) ≡ turned p others

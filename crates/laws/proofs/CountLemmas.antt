@@ -1,4 +1,5 @@
--- The counts of objects add up to the number of clusters. The codes other than the first object's are the others'.
+-- The counts of objects add up to the number of clusters. To prove it, the first object is removed from the list, and
+-- with it all clusters that have its code.
 use Rattle.std.proofs.Common.{◌≡◌, ◌∙◌, ap, sym, refl, ℕ, ◌+◌, Bool, true, false, not, cond, List, [], ◌∷◌, count_by, length, sum, Some, unwrap_or, arith}
 use Rattle.std.specs.Cmp.{tied_itself}
 use Rattle.std.specs.Cmp.Lexicographic.{nat_list_cmp_total, slice_cmp}
@@ -48,7 +49,7 @@ none_left k (c ∷ cs) = go (is_code k c) refl (none_left k cs)
         one_more (is_code k) c (others k cs) ∙ ap (λ (b : Bool). cond b 1 0 + count_by (is_code k) (others k cs)) e in
         omega (arith, kept, one, remainder)
 
--- another code isn't among the codes that equal k
+-- a code that differs from `k` isn't among the codes that equal `k`
 none_counted : (code k : List ℕ) → is_code code k ≡ false → (codes : List (List ℕ)) → count_by (is_code code) (filter (is_code k) codes) ≡ 0
 none_counted code k other [] = refl
 none_counted code k other (c ∷ cs) = go (code_cmp k c) refl (none_counted code k other cs)
@@ -69,7 +70,7 @@ none_counted code k other (c ∷ cs) = go (code_cmp k c) refl (none_counted code
     go Less e remainder = dropped (ap is_eq e) remainder
     go Greater e remainder = dropped (ap is_eq e) remainder
 
--- so another code occurs as often among the codes other than k as among all
+-- a code that differs from `k` occurs as often among the codes other than `k` as among all
 same_count : (code k : List ℕ) (codes : List (List ℕ)) → is_code code k ≡ false
     → count_by (is_code code) (others k codes) ≡ count_by (is_code code) codes
 same_count code k codes other =

@@ -16,12 +16,12 @@ use Rattle.ranges.proofs.CutLemmas.{IsWritten, joined-cons, tail, tail-no_digit}
 use Rattle.ranges.proofs.DecimalLemmas.{IsDecimal-decimal}
 use Rattle.ranges.proofs.FaultLemmas.{Apart, FitsU64, LastByte, large_some, list_text-joined, pair-append, small_decimal, written-all}
 
--- ---- where a list's text can be cut after a byte that is no digit
+-- ---- where a list's text can be cut after a byte that isn't a digit
 
 none_last : (l : LastByte []) → ⊥
 none_last l = let e = ap length l.spelled in omega (arith, length-append l.start (l.byte ∷ []))
 
--- x begins with the digits d and ends with a byte that isn't a digit, and z is the remainder of x, followed by y
+-- `x` begins with the digits `d` and ends with a byte that isn't a digit; `z` is `x` without `d`, followed by `y`
 record Skipped (d x y z : List ℕ) : Type 0 where
   more : List ℕ
   prefix : x ≡ d ++ more
@@ -66,7 +66,7 @@ record CountsAt (x y : List ℕ) : Type 0 where
 abbrev At : List ℕ → List ℕ → Type 0
 At x y = StartsAt x y ⊎ CountsAt x y
 
--- the same cut, with one more range in front
+-- a cut where a range or a count begins is still such a cut if the text has one more range in front
 consed : (r : Range) → FitsU64 r → (x more y : List ℕ) → x ≡ pair_text (written r) ++ 44 ∷ more → At more y → At x y
 consed r fits x more y e (inl a) = inl (record {
   prefix = r ∷ a.prefix;
@@ -87,7 +87,7 @@ consed r fits x more y e (inr a) = inr (record {
   remainder = a.remainder;
 })
 
--- the cut is after the count of the first range
+-- a cut after the count of the first range is where a range or a count begins
 after_count : (r : Range) (rs : List Range) → FitsU64 r → ((x y : List ℕ) → Apart x → joined (map written rs) ≡ x ++ y → At x y) → (x y more : List ℕ)
     → x ≡ pair_text (written r) ++ more → tail (map written rs) ≡ more ++ y → LastByte more → At x y
 after_count r rs fits go x y [] e s last = absurd (none_last last)
@@ -102,7 +102,7 @@ after_count r (q ∷ rs) fits go x y (b ∷ more) e s last =
     apart (c ∷ start) f = let left : more ≡ start ++ last.byte ∷ [] = cc in
         inr (record { start = start; byte = last.byte; spelled = left; other = last.other })
 
--- the cut is after the first number of the first range
+-- a cut after the first number of the first range is where a range or a count begins
 after_first : (r : Range) (rs : List Range) → FitsU64 r → ((x y : List ℕ) → Apart x → joined (map written rs) ≡ x ++ y → At x y) → (x y more : List ℕ)
     → x ≡ decimal r.first ++ more → 43 ∷ (decimal r.count ++ tail (map written rs)) ≡ more ++ y → (last : LastByte more) → (start : List ℕ)
     → more ≡ start ++ last.byte ∷ [] → At x y
@@ -143,13 +143,13 @@ at (r ∷ rs) fit x y (inr l) s =
     let m = skip (decimal r.first) x y (43 ∷ (decimal r.count ++ tail (map written rs))) l.start l.byte digits l.spelled l.other whole in
     after_first r rs fit.0 (at rs fit.1) x y m.more m.prefix m.remainder m.last m.last.start m.last.spelled
 
--- ---- what begins a list
+-- ---- beginnings of lists
 
 begins_at : (x remainder : List ℕ) → Apart x → IsListText (x ++ remainder) → At x remainder
 begins_at x remainder apart list =
     at list.ranges (recursion_from_All FitsU64 list.ranges list.fit) x remainder apart (sym (list_text-joined list.ranges) ∙ list.spelled)
 
--- no text of a list has a decimal of 2^64 or more after a byte that isn't a digit
+-- in the text of a list, no decimal of 2^64 or more stands at the start or after a byte that isn't a digit
 no_large : (x there : List ℕ) → Apart x → BeginsLargeDecimal there → ¬ IsListText (x ++ there)
 no_large x there apart large list = go (begins_at x there apart list)
   where
@@ -186,7 +186,8 @@ are_written rs w fit one =
 zero_is_decimal : IsDecimal (48 ∷ [])
 zero_is_decimal = record { digits = refl; some = omega arith; plain = λ e. refl }
 
--- any decimal may follow such a byte if numbers of any size are allowed
+-- at the start of a list's text, or after a byte in it that isn't a digit, any decimal may follow if numbers of any
+-- size are allowed
 goes_on : (x number : List ℕ) → Apart x → BeginsList x → IsDecimal number → BeginsLongList (x ++ number)
 goes_on x number apart b is = go (begins_at x b.remainder apart b.whole)
   where
@@ -220,7 +221,7 @@ long_of x b = record {
   spelled = sym (list_text-joined b.whole.ranges) ∙ b.whole.spelled;
 }
 
--- ---- fronts of a text
+-- ---- prefixes of a text
 
 prefix_of : (text : List ℕ) (m n : ℕ) → m ≤ n → take n text ≡ take m text ++ drop m (take n text)
 prefix_of text m n le = sym (take-append-drop m (take n text)) ∙ ap (λ (t : List ℕ). t ++ drop m (take n text)) (take-take m n text le)

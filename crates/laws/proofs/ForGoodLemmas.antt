@@ -30,7 +30,7 @@ empty_is_at_rest rule profile = (
   },
 )
 
--- a pattern that is itself after a period is itself after each multiple of the period
+-- a pattern that is unchanged after `p` generations is unchanged after each multiple of `p` generations
 after_periods : (rule : Numbers) (cells : List Cell) (p k : ℕ) → after rule cells p ≡ cells → after rule cells (k * p) ≡ cells
 after_periods rule cells p k back =
     after_remainder rule cells p (k * p) back ∙ ap (after rule cells) (mul-mod_left k p) ∙ after-none rule cells

@@ -97,7 +97,7 @@ all_printed census h =
     (printed-append (total_lines census.rows) _ (refl, (refl, totals_printed census.rows rows))
     (refl, (refl, samples_printed census.rows rows)))))
 
--- ---- what a line tells
+-- ---- each line determines its part of the census
 
 code_lack : (row : Row) → IsShortRow row → Lacks 32 row.code
 code_lack row h = all_lack _ 32 refl row.code (code_visible row.code h.code.bytes)
@@ -140,7 +140,7 @@ ranges_once (r ∷ rs) (s ∷ ss) h k e =
     let more : rs ≡ ss = ranges_once rs ss h.1 k.1 (cc) in
     λ i. first i ∷ more i
 
--- the line for an empty list of ranges is the line of no nonempty list in normal form
+-- an empty list of ranges and a nonempty list in normal form have different lines
 no_range : (s : Range) (ss : List Range) → AreNormal (s ∷ ss) → IsShortRange s → range_line (record { first = 0; count = 0 }) ∷ [] ≡ map range_line (s ∷ ss) → ⊥
 no_range s ss normal short e =
     let same : record { first = 0; count = 0 } ≡ s =
@@ -178,7 +178,7 @@ number_once name n m h low less e = ap (λ (ns : List ℕ). get_or ns 0 0) (line
 
 -- ---- the parts of a haul text
 
--- whether a line is a range's, by its second byte: `R` (82) and not `N`
+-- whether a line is a range's, by its second byte, which is `R` (82) in `@RANGE`
 abbrev is_range_line : List ℕ → Bool
 is_range_line line = get_or line 1 0 == 82
 
@@ -191,7 +191,7 @@ are_range_lines (r ∷ more) = go (r ∷ more)
     go [] = refl
     go (r ∷ more) = go more
 
--- a line of a row isn't empty
+-- the line has at least one byte, as each line of a row has
 abbrev is_filled : List ℕ → Bool
 is_filled [] = false
 is_filled (b ∷ bs) = true

@@ -119,7 +119,7 @@ module _ (f g : Cell → Cell) (rigid : IsRigid f g) (cells : List Cell) (order 
   }
 
   module _ (clusters : List (List Cell)) (are : AreClusters cells clusters) where
-    -- the images of the clusters, in their own order
+    -- the images of the clusters, sorted by their first cells
     abbrev pub images : List (List Cell)
     images = sorted first (map (image_by f) clusters)
 

@@ -1,4 +1,4 @@
--- A phase of a pattern that recurs has the name of the pattern.
+-- Each generation of a pattern that recurs has the pattern's apgcode.
 use Rattle.std.proofs.Common.{◌≡◌, ◌∙◌, sym, ap, refl, subst, ℕ, zero, suc, ℤ, ◌+◌, ◌-◌, ◌≤◌, List, length, arith, eq-or-lt_of_le, inl, inr, add-zero}
 use Rattle.std.proofs.Common.{Bool, true, false, ◌&&◌, ◌==◌, cond, int_eq, pos, eqb-true}
 use Rattle.plane_core.specs.declared.plane.cell.Cell.{Cell}
@@ -27,7 +27,7 @@ after-after rule cells g (suc h) = after-suc rule (after rule cells g) h ∙ ap 
     ∙ sym (after-suc rule cells (g + h)) ∙ ap (after rule cells) (omega arith)
 
 module _ (rule : Numbers) (cells : List Cell) (limit : ℕ) (r : Recurrence) (order : InOrder cells) (h : Recurs rule cells limit r) where
-  -- a period later each generation is itself again, moved
+  -- each generation occurs again one period later, moved
   a_period_later : (g : ℕ) → after rule cells (r.period + g) ≡ shifted r.dx r.dy (after rule cells g)
   a_period_later g = sym (after-after rule cells r.period g) ∙ ap (λ (S : List Cell). after rule S g) h.back ∙ after-shifted r.dx r.dy rule cells g order
 
@@ -58,7 +58,7 @@ module _ (rule : Numbers) (cells : List Cell) (limit : ℕ) (r : Recurrence) (or
   text_later : (o : _) (g : ℕ) → text (turned o (after rule cells (r.period + g))) ≡ text (turned o (after rule cells g))
   text_later o g = ap (λ (S : List Cell). text (turned o S)) (a_period_later g) ∙ ap text (turning_moved o r.dx r.dy (after rule cells g))
 
-  -- the phases of the next generation are those of the pattern, one further on
+  -- a text of a phase of the next generation is a text of a phase of the pattern
   text-next : (t : List ℕ) → IsImageText rule (after rule cells 1) r.period t → IsImageText rule cells r.period t
   text-next t one = elim (eq-or-lt_of_le one.within) [
     | inl last ↦ record {
@@ -106,7 +106,7 @@ still_period r is = eqb-true r.period 1 (only (int_eq r.dx (pos 0) && int_eq r.d
     only true false is = cc
     only false one is = cc
 
--- the number in the name of the next generation is the same; for a still life, it is the population
+-- the next generation has the same number in its apgcode; for a still life, the number is the population
 number-next : (rule : Numbers) (cells : List Cell) (limit : ℕ) (r : Recurrence) (kind : Kind) → Recurs rule cells limit r → kind_of r ≡ kind
     → number_of kind cells r ≡ number_of kind (after rule cells 1) r
 number-next rule cells limit r Still h is =
@@ -126,7 +126,7 @@ codes_next rule cells limit code order h = record {
       (number-next rule cells limit h.recurrence (kind_of h.recurrence) h.recurs refl);
 }
 
--- each phase has the name of the pattern
+-- each generation has the apgcode of the pattern
 pub codes_later : CodesLater
 codes_later zero rule cells limit code order h = subst (λ (S : List Cell). IsCode rule S limit code) (sym (after-none rule cells)) h
 codes_later (suc g) rule cells limit code order h =

@@ -1,4 +1,4 @@
--- The lines of `name` are cut into a checkpoint, codes and counts.
+-- The lines of `name` determine the checkpoint, the codes and the counts of a finding.
 use Rattle.std.proofs.Common.{◌≡◌, ◌∙◌, ap, sym, refl, subst, ℕ, suc, ◌+◌, ◌<◌, ◌≤◌, ◌^◌, ◌++◌, List, [], ◌∷◌, All, append_assoc, arith, codes, decimal, flat_map, get_or, sum}
 use Rattle.std.specs.Cmp.{both_ways as both_true}
 use Rattle.std.specs.List.{AllByRecursion}
@@ -18,7 +18,7 @@ use Rattle.laws.specs.NameTexts.{NameTextsAreFaithful}
 use Rattle.laws.proofs.ShapeLemmas.{small_finding}
 use Rattle.laws.proofs.TextLemmas.{all_lack, code_visible, decimal_lack, decimal_once}
 
--- an object whose code has its shape, and whose count is short
+-- the code has the shape of an apgcode, and the count is short
 record IsShortObject (object : List ℕ × ℕ) : Type 0 where
   code : HasCodeShape object.0
   count : IsWrittenWhole object.1
@@ -26,7 +26,7 @@ record IsShortObject (object : List ℕ × ℕ) : Type 0 where
 lacks_space : (object : List ℕ × ℕ) → IsShortObject object → Lacks 32 object.0
 lacks_space object h = all_lack _ 32 refl object.0 (code_visible object.0 h.code.bytes)
 
--- the line of an object, and what follows it
+-- the line of an object is its code, a space, its count and a line feed
 line_before : (object : List ℕ × ℕ) (more : List ℕ) → object_line object ++ more ≡ object.0 ++ 32 ∷ (decimal object.1 ++ 10 ∷ more)
 line_before object more =
     append_assoc object.0 (32 ∷ (decimal object.1 ++ 10 ∷ [])) more

@@ -12,7 +12,7 @@ begin_prefix before field more b = record {
   spelled = b.spelled ∙ append_assoc before (field ∷ more) b.more ∙ sym (append_assoc before (field ∷ []) (more ++ b.more));
 }
 
--- the other list begins with the fields `before` and then this field
+-- `other` begins with the fields `before` and then `field`
 abbrev Goes : List (List ℕ) → List ℕ → List (List ℕ) → Type 0
 Goes before field other = (more : List (List ℕ)) × (other ≡ before ++ field ∷ more)
 

@@ -13,7 +13,7 @@ use Rattle.ranges.specs.Ranges.{is_in}
 use Rattle.haul_core.specs.Reports.{Reported}
 use Rattle.commands.proofs.TakenLemmas.{count_part, filter_part, first_part, map_part, numbers, numbers_entries, once, others, part_filter, part_trans}
 
--- ---- of the set
+-- ---- what is taken is in the set
 
 all_first : (P : Reported → Type 0) (rs : List Reported) → All P rs → All P (first_of_each rs)
 all_first P [] all = all

@@ -40,7 +40,7 @@ use Rattle.laws.proofs.ImageLemmas.{after-image, clusters-image, image-back, ima
 use Rattle.laws.proofs.ImageLemmas.{partition-permuted}
 use Rattle.laws.proofs.SortedClusters.{first, place, sorted, sorted-permutes}
 
--- The map takes a moved pattern to the moved image, and keeps the names of objects.
+-- The image of a moved pattern is the pattern's image, moved, and images have the same apgcodes as their patterns.
 record KeepsObjects (f : Cell → Cell) : Type 0 where
   moves : (dx dy : ℤ) (cells : List Cell) → InOrder cells
       → (ex : ℤ) × (ey : ℤ) × (image_by f (shifted dx dy cells) ≡ shifted ex ey (image_by f cells))
@@ -97,7 +97,7 @@ lefts-sorted (pair ∷ pairs) = lefts-place pair (sorted (λ p. first p.0) pairs
         go true ih = refl
         go false ih = ap (λ (more : List (List Cell)). other.0 ∷ more) ih
 
--- sorting the clusters by their first cells keeps how often each code occurs
+-- if clusters are sorted by their first cells, and their codes with them, each code occurs as often as before
 sorted_codes : (R : List Cell → List ℕ → Type 0) (xs : List (List Cell)) (ys : List (List ℕ)) → AllZip R xs ys
     → (zs : List (List ℕ)) × AllZip R (sorted first xs) zs × ((p : List ℕ → Bool) → count_by p zs ≡ count_by p ys)
 sorted_codes R xs ys all = (
@@ -145,9 +145,9 @@ module _ (f g : Cell → Cell) (rigid : IsRigid f g) (there : KeepsObjects f) (h
       recurs-image limit cells order (record { period = period; dx = pos 0; dy = pos 0 }) back (pos 0) (pos 0)
       (ap (image_by f) (shifted-none cells) ∙ sym (shifted-none (image_by f cells)))
 
--- ---- what stays for good
+-- ---- clusters that stay for good
 
--- the image recurs in its place if and only if the pattern does
+-- if the image recurs in its place, so does the pattern
 in_place-home : (f g : Cell → Cell) (rigid : IsRigid f g) → KeepsObjects f → KeepsObjects g → (rule : Numbers) (limit : ℕ) (cells : List Cell)
     (period : ℕ) → InOrder cells → RecursInPlace rule limit (image_by f cells) period → RecursInPlace rule limit cells period
 in_place-home f g rigid there home rule limit cells period order back =
@@ -285,7 +285,7 @@ module _ (f g : Cell → Cell) (rigid : IsRigid f g) (there : KeepsObjects f) (h
         moved = sorted_codes (λ cluster code. IsCode rule cluster profile.period code) (map (image_by f) is.clusters) is.counted.codes
             (named is.clusters is.counted.codes (λ k d low. (is.rest.parts.each k d low).in_order) is.counted.named)
 
--- if the image is at rest, so is the pattern
+-- if a generation of the image is at rest, so is the same generation of the pattern
 rest-home : (f g : Cell → Cell) → IsRigid f g → KeepsObjects f → KeepsObjects g → (rule : Numbers) (profile : Settling) (cells : List Cell) (n : ℕ)
     → InOrder cells → IsAtRest rule profile (after rule (image_by f cells) n) → IsAtRest rule profile (after rule cells n)
 rest-home f g rigid there home rule profile cells n order rest =

@@ -28,11 +28,11 @@ use Rattle.haul_core.specs.ClaimChecks.{HaveShape}
 use Rattle.laws.proofs.CountLemmas.{counts_add_up}
 use Rattle.survey_core.proofs.lemmas.shapes.MarkLemmas.{of_objects}
 
--- the rank of a cell within 101,000 columns and rows of the origin, row by row
+-- the place of a cell in the square within 101,000 columns and rows of the origin, counted row by row
 rank : Cell → ℕ
 rank c = unsigned_abs (c.y +ℤ pos 101000) * 202001 + unsigned_abs (c.x +ℤ pos 101000)
 
--- a coordinate within this reach
+-- the coordinate is within 101,000 of the origin
 record IsNear (x : ℤ) : Type 0 where
   is : unsigned_abs x ≤ 101000
 
@@ -134,7 +134,7 @@ few_clusters cells (one ∷ clusters) are within =
 
 -- ---- findings
 
--- the finding of a pattern near the origin has codes with the shape of apgcodes, and fewer than 2^64 objects
+-- each code of the finding has the shape of an apgcode, and the finding has fewer than 2^64 objects
 pub record IsSmallFinding (finding : Finding) : Type 0 where
   pub shape : HaveShape finding
   pub few : objects_in finding < 2 ^ 64
@@ -163,6 +163,6 @@ small_finding rule profile cells (Settled t objects good) valid close found = re
         let within : t ≤ profile.limit = found.0.within in
         within_later 1000 101000 rule cells t (omega arith) close
 
--- soups are near the origin
+-- soups are within 1,000 columns and rows of the origin
 pub soup_close : (seed : List ℕ) (number : ℕ) → lies_within 1000 (soup seed number) ≡ true
 soup_close seed number = within_more 15 1000 (soup seed number) (omega arith) (soup_is_small (sha256 (seed ++ decimal number)))

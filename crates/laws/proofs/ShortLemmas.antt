@@ -30,7 +30,7 @@ use Rattle.laws.proofs.ShapeLemmas.{IsSmallFinding, small_finding, soup_close}
 
 -- ---- surveys
 
--- each finding is small
+-- the findings of soups are small
 small_surveys : (job : Job) (numbers : List ℕ) (surveys : List Survey) → IsJob job → AreSurveys job numbers surveys
     → All (λ s. IsSmallFinding s.finding) surveys
 small_surveys job numbers surveys valid are =
@@ -42,7 +42,7 @@ count_shape : (code : List ℕ) (finding : Finding) → HaveShape finding → 1 
 count_shape code (Settled t objects good) shape some = listed_code objects code some HasCodeShape shape
 count_shape code Unsettled shape some = absurd (omega (arith, some))
 
--- a code with a total has the shape of an apgcode
+-- a code whose total is at least 1 has the shape of an apgcode
 total_shape : (code : List ℕ) (surveys : List Survey) → All (λ s. IsSmallFinding s.finding) surveys → 1 ≤ total surveys code → HasCodeShape code
 total_shape code [] small some = absurd (omega (arith, some))
 total_shape code (s ∷ surveys) small some =
@@ -131,7 +131,7 @@ row_below (row ∷ rows) (suc k) d low =
     let more = row_below rows k d (omega arith) in
     omega (arith, whole, more)
 
--- ---- the law
+-- ---- the census of a haul is short
 
 pub haul_censuses_are_short : HaulCensusesAreShort
 haul_censuses_are_short job ranges numbers census valid normal below taken h = record {

@@ -14,7 +14,7 @@ use Rattle.plane_core.proofs.lemmas.plane.CellLemmas.{same_cell-same}
 use Rattle.plane_core.proofs.lemmas.plane.SetLemmas.{IsBefore, has-head, has-set_of, in_order-head, in_order-set_of, in_order-tail}
 use Rattle.survey_core.proofs.lemmas.PartitionLemmas.{Disjoint}
 
--- the first cell; an empty list has none, and stands for the origin
+-- the first cell of a list, or the origin if the list is empty
 abbrev pub first : List Cell → Cell
 first [] = record { y = pos 0; x = pos 0 }
 first (c ∷ cs) = c
@@ -72,7 +72,7 @@ module _ {X : Type 0} (key : X → Cell) where
       place-put x (sorted xs) (ap (λ (cells : List Cell). has cells (key x)) remainder ∙ has-set_of (map key xs) (key x) ∙ differ.0)
       ∙ ap (put (key x)) remainder
 
--- nonempty clusters whose first cells are in order
+-- if the first cells of nonempty clusters are in order, each cluster begins before those after it
 pairs_from : (clusters : List (List Cell)) → All (λ cluster. cluster ≢ []) clusters → InOrder (map first clusters) → AllPairs FirstBefore clusters
 pairs_from [] some order = λ i j d lt low. absurd (omega arith)
 pairs_from (x ∷ xs) some order =
@@ -112,7 +112,7 @@ firsts_differ (x ∷ xs) some apart = (
         λ i. another y (more 0 y (omega arith)) (none 0 y (omega arith)) i
         || other ys (λ k d low. more (suc k) d (omega arith)) (λ k d low. none (suc k) d (omega arith)) i
 
--- so sorting puts disjoint clusters into the order of their first cells
+-- sorting disjoint clusters puts them into the order of their first cells
 pub sorted_in_order : (clusters : List (List Cell)) → All (λ cluster. cluster ≢ []) clusters → All (λ cluster. cluster ≢ []) (sorted first clusters)
     → AllPairs Disjoint clusters → AllPairs FirstBefore (sorted first clusters)
 sorted_in_order clusters some all apart =

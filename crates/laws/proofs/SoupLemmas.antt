@@ -14,7 +14,7 @@ use Rattle.survey_core.specs.Soups.{is_set}
 use Rattle.survey_core.proofs.lemmas.SoupLemmas.{soups_by_cells}
 use Rattle.laws.specs.Soups.{SoupsAreFaithful}
 
--- a digest consists of bytes
+-- the number is a byte
 abbrev IsByte : ℕ → Type 0
 IsByte b = b < 256
 

@@ -137,7 +137,7 @@ job_valid plan job range is = go_seed (seed_read plan.set.seed) refl is
 
 -- ---- from a report to a correct line
 
--- the reports have one on each of the numbers
+-- if `n` is among the numbers, one of the reports is on soup `n`
 report_among : (job : Job) (worker n : ℕ) (numbers : List ℕ) (reports : List Reported) → AreReportsOn job worker numbers reports
     → list_any (nat_eq n) numbers ≡ true → (report : Reported) × IsReportOn job worker n report × Contains reports report
 report_among job worker n [] reports each h = absurd (false≢true h)
@@ -151,7 +151,7 @@ report_among job worker n (m ∷ numbers) (r ∷ reports) each h = elim (cases_B
       (more.0, more.1, (suc more.2.0, omega (arith, more.2.1), more.2.2))
 ]
 
--- the line of a report
+-- the line of a report, without its line feed
 line_in : Reported → List ℕ
 line_in report = claim_line (claim_of 2 report)
 
@@ -240,7 +240,7 @@ worked_line plan job workers bytes n terms valid job_is workers_are w = (
         let low : w.worker ≤ workers = w.known in
         omega (arith, worker, low, workers_are)
 
--- ---- the law
+-- ---- split work is whole
 
 -- an accepted set isn't refused
 not_refused : (plan : Plan) (job : Job) (refusal : Refusal) → IsAccepted plan job → IsRefused plan.set refusal → ⊥
@@ -251,7 +251,8 @@ not_refused plan job refusal accepted (Too_large ranges named large is) =
 not_refused plan job refusal accepted (Overlapping ranges named small overlap is) =
     accepted.apart (subst Overlap (same_ranges plan.set ranges accepted.ranges named accepted.named) overlap)
 
--- numbers that are those of a set, each once, are all of them
+-- if exactly the numbers of a set are listed, each at most once, a number occurs once if it is in the set, and
+-- otherwise not
 counted_once : (numbers : List ℕ) (n : ℕ) (within : Bool) → count_by (nat_eq n) numbers ≤ 1
     → (within ≡ true → list_any (nat_eq n) numbers ≡ true) → (list_any (nat_eq n) numbers ≡ true → within ≡ true)
     → count_by (nat_eq n) numbers ≡ cond {A = ℕ} within 1 0

@@ -157,7 +157,7 @@ text_once (l ∷ ls) (m ∷ ms) h k e =
     let more : ls ≡ ms = text_once ls ms h.1 k.1 cut.1 in
     λ i. cut.0 i ∷ more i
 
--- the next line, if there is one, fails the test
+-- the first line, if there is one, fails the test
 abbrev pub Ends : (List ℕ → Bool) → List (List ℕ) → Type 0
 Ends test [] = Unit {0}
 Ends test (l ∷ ls) = test l ≡ false

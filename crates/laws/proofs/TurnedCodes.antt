@@ -1,4 +1,4 @@
--- A pattern that is turned keeps its name.
+-- A pattern that is turned or mirrored keeps its apgcode.
 use Rattle.std.proofs.Common.{◌≡◌, ◌∙◌, sym, ap, refl, subst, ℕ, zero, suc, ℤ, pos, neg_ℤ, ◌≤◌, Bool, true, ◌&&◌, ◌==◌, List, [], ◌∷◌, length}
 use Rattle.std.proofs.Common.{map, arith, cond, int_eq, Ordering, Less, Equal, Greater}
 use Rattle.std.proofs.lemmas.Int.{ints}
@@ -46,7 +46,7 @@ after-image o rule cells (suc g) order =
     ∙ next-image o rule (after rule cells g) (in_order-after rule cells g order)
     ∙ ap (image o) (sym (after-suc rule cells g))
 
--- how an image recurs
+-- the recurrence of an image
 abbrev turned_recurrence : Orientation → Recurrence → Recurrence
 turned_recurrence o r = record { period = r.period; dx = (turned_cell o (cell_at r.dx r.dy)).x; dy = (turned_cell o (cell_at r.dx r.dy)).y }
 
@@ -69,7 +69,7 @@ turned-image : (a b : Orientation) (cells : List Cell) → turned b (image a cel
 unfolding turned
 turned-image a b cells = ap at_corner (image-image a b cells)
 
--- the images of an image are images of the pattern
+-- a text of a phase of an image is a text of a phase of the pattern
 text-image : (o : Orientation) (rule : Numbers) (cells : List Cell) (period : ℕ) (t : List ℕ) → InOrder cells
     → IsImageText rule (image o cells) period t → IsImageText rule cells period t
 text-image o rule cells period t order h = record {
@@ -137,17 +137,17 @@ stays-turned Flip x y = ap (λ (b : Bool). int_eq x (pos 0) && b) (still-negated
 stays-turned Diagonal x y = and_swap (int_eq y (pos 0)) (int_eq x (pos 0))
 stays-turned AntiDiagonal x y = (λ i. still-negated y i && still-negated x i) ∙ and_swap (int_eq y (pos 0)) (int_eq x (pos 0))
 
--- the number in a name depends on the recurrence only by its period
+-- the number in an apgcode depends on the recurrence only by the period
 number-period : (kind : Kind) (S : List Cell) (r q : Recurrence) → r.period ≡ q.period → number_of kind S r ≡ number_of kind S q
 number-period Still S r q is = refl
 number-period Oscillator S r q is = is
 number-period Ship S r q is = is
 
--- so an image is of the pattern's kind
+-- an image is of the pattern's kind
 kind-turned : (o : Orientation) (r : Recurrence) → kind_of (turned_recurrence o r) ≡ kind_of r
 kind-turned o r = ap (λ (stays : Bool). cond stays (cond (r.period == 1) Still Oscillator) Ship) (stays-turned o r.dx r.dy)
 
--- an image has the name of the pattern
+-- an image has the apgcode of the pattern
 codes_image : (o : Orientation) (rule : Numbers) (cells : List Cell) (limit : ℕ) (code : List ℕ) → InOrder cells → IsCode rule cells limit code
     → IsCode rule (image o cells) limit code
 codes_image o rule cells limit code order h = record {
@@ -166,7 +166,7 @@ codes_image o rule cells limit code order h = record {
         ∙ number-period (kind_of h.recurrence) (image o cells) h.recurrence (turned_recurrence o h.recurrence) refl
         ∙ ap (λ (kind : Kind). number_of kind (image o cells) (turned_recurrence o h.recurrence)) (sym (kind-turned o h.recurrence))
 
--- and so has an image at the corner
+-- an image that is moved to the corner has the apgcode of the pattern
 pub codes_turned : CodesTurned
 unfolding turned
 codes_turned o rule cells limit code order h = go (image o cells) refl

@@ -25,17 +25,17 @@ use Rattle.pattern_commands.specs.Inputs.{HasReadAtMost, Reads, rule_named, inpu
 use Rattle.pattern_commands.specs.Streams.{Stream, Has}
 use Rattle.pattern_commands.specs.TextSteps.{ReachesText}
 
--- a result whose error is known is that error
+-- a result that is an error with the value `e` is `Err e`
 pub err_of : {A E : Type 0} (r : Result A E) (e : E) → IsErrAnd r (λ x. x ≡ e) → r ≡ Err e
 err_of (Ok a) e h = absurd h
 err_of (Err x) e h = ap Err h
 
--- a reader's input is some bytes
+-- for each reader, some bytes may be its input
 pub some_input : (reader : Option (List ℕ)) → (bytes : List ℕ) × IsInput reader bytes
 some_input None = ([], tt)
 some_input (Some left) = (left, refl)
 
--- nothing was read yet
+-- reading no bytes leaves a reader as it was
 pub none_read : (reader : Option (List ℕ)) (bytes : List ℕ) → bytes ≡ [] → Consumes reader reader bytes
 none_read reader bytes none = subst (Consumes reader reader) (sym none) (Consumes-nil reader)
 
@@ -52,7 +52,7 @@ whole_input (Some xs) (Some ys) (Some zs) bytes buffer n before now none end =
     let rest : ys ≡ [] = now ∙ ap (λ k. take k buffer ++ zs) none ∙ end in
     sym (before ∙ ap (λ l. bytes ++ l) rest ∙ append-nil bytes)
 
--- an input of which more than a limit was read is longer than the limit
+-- if more bytes than a limit were read, the input is longer than the limit
 pub long_input : (limit : ℕ) (old mid : Option (List ℕ)) (bytes : List ℕ) → Consumes old mid bytes → limit < length bytes
     → IfSome old (λ left. limit < length left)
 long_input limit None mid bytes before long = tt
@@ -103,7 +103,7 @@ pattern_of-short bytes answer short is =
     let looked : nat_le (length bytes) (2 ^ 24) ≡ true = search rules in
     rw (looked, is)
 
--- a refused pattern is the answer
+-- if a pattern is refused, the complaint about it is a right result of reading it
 pub Reads_refused : (bytes : List ℕ) (fault : PlaintextFault) → length bytes ≤ 2 ^ 24 → pattern bytes ≡ Err fault
     → Reads (pattern_of bytes) (Err (pattern_complaint fault))
 Reads_refused bytes (plaintext_fault.BadByte line column) short is = pattern_of-short bytes _ short is
@@ -115,13 +115,13 @@ pub Reads_error : (bytes : List ℕ) (error : PlaintextError) → length bytes �
 Reads_error bytes (plaintext_error.Fault fault) short faults = Reads_refused bytes fault short ((faults fault).0 refl)
 Reads_error bytes (plaintext_error.Memory refused) short faults = tt
 
--- memory that runs out after the input is begun leaves nothing on the output
+-- a command that reads its input may run out of memory, if it has written nothing
 pub Reaches_no_memory : (reads : Bool) (right : Right) (output : Stream) → reads ≡ true → Has output []
     → ReachesText reads true right (Err (Memory out_of_memory)) output
 Reaches_no_memory reads right output read nothing =
     (λ unread complaint is. let bad : false ≡ true = sym unread ∙ read in cc, nothing)
 
--- a command whose input was refused or not read ends with that complaint, with nothing on the output
+-- a command whose input was refused or couldn't be read may end with the complaint about it, if it has written nothing
 pub Reaches_unread : {A : Type 0} (reads : Bool) (right : Right) (answer : Result A Complaint) (complaint : Complaint) (output : Stream) → reads ≡ true
     → ((other : Complaint) → answer ≡ Err other → right (Err other)) → Reads answer (Err complaint) → Has output []
     → ReachesText reads true right (Err complaint) output
@@ -131,7 +131,7 @@ Reaches_unread reads right answer (ReadFailed error) output read is refused noth
 Reaches_unread reads right answer TooLong output read is long nothing = (read, is TooLong long, nothing)
 Reaches_unread reads right answer (WriteFailed error) output read is refused nothing = absurd refused
 
--- the refusal of a rule is a right answer, with nothing on the output
+-- a command whose rule was refused may end with the complaint about it, if it has written nothing
 pub Reaches_rule : (reads : Bool) (right : Right) (text : List ℕ) (error : RuleFault) (output : Stream) → rule_read text ≡ Err error
     → ((complaint : Complaint) → rule_named text ≡ Err complaint → right (Err complaint)) → Has output []
     → ReachesText reads true right (Err (rule_complaint error)) output

@@ -29,7 +29,7 @@ use Rattle.pattern_commands.specs.SizeSteps.{IsGap, RunApart, advanced, parts_af
 abbrev pub origin : Cell
 origin = record { y = pos 0; x = pos 0 }
 
--- ---- patterns as they are
+-- ---- patterns and parts of them
 
 -- no cell of a pattern is off the plane
 pub none_off : (cells : List Cell) → list_all on_plane cells ≡ true → position off_plane cells ≡ None
@@ -49,7 +49,7 @@ is_pattern-part cells i n is = is_pattern-take (drop i cells) n (is_pattern-drop
 
 -- ---- gaps
 
--- each cell up to place i is in the row of the cell there, or above it
+-- each cell up to place `i` is in the row of the cell at `i`, or in a row above
 above_gap : (S : List Cell) (i : ℕ) (z c : Cell) → InOrder S → i < length S → has (take (suc i) S) c ≡ true → c.y ≤ℤ (get_or S i z).y
 above_gap [] i z c o low h = absurd (omega arith)
 above_gap (d ∷ ds) zero z c o low h = elim (has-cases d [] c h) [ inl same ↦ at_once c.y d.y (ap (λ (e : Cell). e.y) same) | inr none ↦ absurd (false≢true none) ]
@@ -62,7 +62,7 @@ above_gap (d ∷ ds) (suc i) z c o low h = elim (has-cases d (take (suc i) ds) c
   | inr more ↦ above_gap ds i z c (in_order-tail d ds o) (omega arith) more
 ]
 
--- each cell from place i on is in the row of the cell there, or below it
+-- each cell from place `i` on is in the row of the cell at `i`, or in a row below
 below_gap : (S : List Cell) (i : ℕ) (z d : Cell) → InOrder S → has (drop i S) d ≡ true → (get_or S i z).y ≤ℤ d.y
 below_gap [] zero z d o h = absurd (false≢true h)
 below_gap [] (suc i) z d o h = absurd (false≢true h)
@@ -78,7 +78,7 @@ below_gap (c ∷ cs) (suc i) z d o h = below_gap cs i z d (in_order-tail c cs o)
 row_gap : (a b c d : ℤ) (far : ℕ) → a ≤ℤ b → b ≤ℤ c → far < unsigned_abs (c -ℤ b) → c ≤ℤ d → (a +ℤ pos far) <ℤ d
 row_gap a b c d far p q h r = omega (arith, ints)
 
--- a cell that is more than `far` rows below the cell before it comes after a gap
+-- if a cell is more than `far` rows below the previous cell, there is a gap between them
 pub gap_at : (S : List Cell) (i far : ℕ) (z : Cell) → InOrder S → 1 ≤ i → i < length S → far < unsigned_abs ((get_or S i z).y -ℤ (get_or S (i - 1) z).y)
     → IsGap far S i
 gap_at S zero far z o some low h = absurd (omega arith)
@@ -100,7 +100,7 @@ gap_at S (suc i) far z o some low h = gap
         row_gap c.y (get_or S i z).y (get_or S (suc i) z).y d.y far (above_gap S i z c o (omega arith) p) (next_row S i o low) step
         (below_gap S (suc i) z d o q)
 
--- there is a gap before the first cell, and after the last
+-- there is a gap before the first cell
 pub gap_first : (S : List Cell) (far : ℕ) → IsGap far S 0
 gap_first S far c d p q = absurd (false≢true p)
 
@@ -133,7 +133,7 @@ still_below a b c d n g gap p q low = omega (arith, ints)
 far_rows : (a b : ℤ) (n g : ℕ) → (a +ℤ pos (2 * n)) <ℤ b → g ≤ n → 2 * g < distance a b
 far_rows a b n g gap low = omega (arith, ints)
 
--- two patterns with a gap of more than 2n rows between them run apart for n generations, and stay one below the other
+-- two patterns with a gap of more than 2n rows between them run apart for n generations
 pub rows_apart : (rule : Numbers) (S T : List Cell) (n g : ℕ) → InOrder S → InOrder T
     → ((c d : Cell) → has S c ≡ true → has T d ≡ true → (c.y +ℤ pos (2 * n)) <ℤ d.y) → g ≤ n
     → after rule (S ++ T) g ≡ after rule S g ++ after rule T g
@@ -167,7 +167,8 @@ no_parts rule n (suc g) low = after-suc rule [] g ∙ ap (next rule) (no_parts r
     none : (rule : Numbers) → next rule [] ≡ []
     none rule = refl
 
--- one more part runs apart
+-- if the cells before place `i` run apart in parts, and there is a gap at `i`, the cells before place `j` run apart
+-- with one more part
 pub one_part_more : (rule : Numbers) (S : List Cell) (i j n : ℕ) (parts later : List Running) → InOrder S → i < j → IsGap (2 * n) S i
     → RunApart rule (take i S) n parts → later ≡ parts ++ record { rule = rule; cells = take (j - i) (drop i S) } ∷ []
     → RunApart rule (take j S) n later
@@ -182,7 +183,7 @@ one_part_more rule S i j n parts later o more gap apart is g low =
     ∙ sym (flat_map-append (λ (p : Running). after p.rule p.cells g) parts (part ∷ []))
     ∙ ap (parts_after g) (sym is)
 
--- the parts one generation later
+-- one generation later, the parts still run apart, for one generation less
 pub parts_next : (rule : Numbers) (cells : List Cell) (n : ℕ) (parts : List Running) → RunApart rule cells (suc n) parts
     → RunApart rule (after rule cells 1) n (map advanced parts)
 parts_next rule cells n parts apart g low = after-plus rule cells 1 g ∙ apart (1 + g) (omega arith) ∙ each parts

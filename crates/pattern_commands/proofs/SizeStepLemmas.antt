@@ -21,10 +21,10 @@ use Rattle.pattern_commands.specs.TextSteps.{ReachesText, TextOutcome}
 use Rattle.pattern_commands.proofs.SizeLemmas.{later_more, later_none, later_rest, later_then, text_later}
 use Rattle.pattern_commands.proofs.SizePartLemmas.{parts_next, parts_now}
 
--- ---- one line more
+-- ---- one more line
 
 module _ (rule : Numbers) (cells : List Cell) (g : ℕ) where
-  -- the lines, with the line of one more generation
+  -- the lines of `k + 1` generations are those of `k` generations and the line of the size at the next one
   pub line_more : (k : ℕ) (size : Size) → size ≡ pattern_size (after rule cells (k + 1))
       → later_sizes rule cells g (k + 1) ≡ later_sizes rule cells g k ++ sized_line (g + (k + 1)) size
   line_more k size is =
@@ -33,7 +33,7 @@ module _ (rule : Numbers) (cells : List Cell) (g : ℕ) where
       ∙ (λ i. later_sizes rule cells g k ++ size_line (g + sym next i) (after rule cells (sym next i)))
       ∙ ap (λ (s : Size). later_sizes rule cells g k ++ sized_line (g + (k + 1)) s) (sym is)
 
-  -- the parts one generation later, and the line for them
+  -- one generation later, the parts still run apart, and the next line is that of their size
   pub parts_more : (k most : ℕ) (parts news : List Running) (size : Size) → k < most → RunApart rule (after rule cells k) (most - k) parts
       → news ≡ map advanced parts → size ≡ pattern_size (flat_map (λ (part : Running). part.cells) news)
       → RunApart rule (after rule cells (k + 1)) (most - (k + 1)) news
@@ -48,7 +48,7 @@ module _ (rule : Numbers) (cells : List Cell) (g : ℕ) where
       subst (λ (ps : List Running). RunApart rule (after rule cells (k + 1)) (most - (k + 1)) ps) (sym is) here in
       (new, line_more k size (so ∙ ap pattern_size (sym (parts_now rule (after rule cells (k + 1)) (most - (k + 1)) news new))))
 
-  -- the parts before the first line
+  -- before the first line, the parts run apart for all `n` generations
   pub parts_first : (n : ℕ) (parts : List Running) → RunApart rule cells n parts → RunApart rule (after rule cells 0) (n - 0) parts
   parts_first n parts apart =
       let all : n - 0 ≡ n = omega arith in
@@ -59,13 +59,13 @@ module _ (rule : Numbers) (cells : List Cell) (g : ℕ) where
 
   -- ---- how a call ends
 
-  -- memory ran out after some of the lines
+  -- if memory ran out after `k` lines, a prefix of the text was written
   pub leaves_memory : {A : Type 0} (done : A → List ℕ) (k most : ℕ) (error : OutOfMemory) (output : Stream) → k ≤ most
       → Has output (later_sizes rule cells g k) → PutsLines done (later_sizes rule cells g most) (Err (Memory error)) output
   leaves_memory done k most error output low has =
       (later_sizes rule cells g k, later_sizes rule (after rule cells k) (g + k) (most - k), later_rest rule cells g k most low, has)
 
-  -- a write failed in a line
+  -- if a write failed in the line after `k` lines, a prefix of the text was written
   pub leaves_cut : {A V : Type 0} (contents : V → Option (List ℕ)) (done : A → List ℕ) (k most : ℕ) (error : WriteError) (x y z : Output V) (line : List ℕ)
       → k < most → Has (stream contents x y) (later_sizes rule cells g k)
       → later_sizes rule cells g (k + 1) ≡ later_sizes rule cells g k ++ line → Writes contents y z (Err error) line
@@ -77,7 +77,7 @@ module _ (rule : Numbers) (cells : List Cell) (g : ℕ) where
       (subst (HasPrefix (stream contents x z)) (sym more) cut) in
       (subst (HasPrefix (stream contents x z)) (sym (later_rest rule cells g (k + 1) most (omega arith))) longer, writes.remembers)
 
-  -- a line was written
+  -- if one more line was written after `k` lines, `k + 1` lines were written
   pub has_more : {V E : Type 0} (contents : V → Option (List ℕ)) (k : ℕ) (x y z : Output V) (line : List ℕ)
       → Has (stream contents x y) (later_sizes rule cells g k)
       → later_sizes rule cells g (k + 1) ≡ later_sizes rule cells g k ++ line → Writes {E = E} contents y z (Ok tt) line
@@ -85,7 +85,7 @@ module _ (rule : Numbers) (cells : List Cell) (g : ℕ) where
   has_more contents k x y z line has more writes =
       subst (Has (stream contents x z)) (sym more) (Appends-append _ _ _ (later_sizes rule cells g k) line has writes.whole)
 
-  -- some lines, and then some of the next ones
+  -- if `k` lines were written, and then `m` more, `k + m` lines were written
   pub has_after : {V : Type 0} (contents : V → Option (List ℕ)) (k m : ℕ) (x y z : Output V) → Has (stream contents x y) (later_sizes rule cells g k)
       → Has (stream contents y z) (later_sizes rule (after rule cells k) (g + k) m) → Has (stream contents x z) (later_sizes rule cells g (k + m))
   has_after contents k m x y z one two =
@@ -100,7 +100,7 @@ module _ (rule : Numbers) (cells : List Cell) (g : ℕ) where
       subst (HasPrefix (stream contents x z)) (sym (later_rest rule cells g (k + m) all low))
       (AppendsPrefix-longer _ _ (later_sizes rule cells g (k + m)) (later_sizes rule (after rule cells (k + m)) (g + (k + m)) (all - (k + m))) some)
 
-  -- some lines were written, and then only a prefix of the next ones
+  -- if `k` lines were written, and the next `m` only in part, a prefix of the text was written
   pub leaves_after : {A B V : Type 0} (contents : V → Option (List ℕ)) (done : A → List ℕ) (told : B → List ℕ) (k m all : ℕ) (complaint : Complaint) (x y z : Output V)
       → k + m ≤ all → Has (stream contents x y) (later_sizes rule cells g k)
       → PutsLines told (later_sizes rule (after rule cells k) (g + k) m) (Err complaint) (stream contents y z)
@@ -113,7 +113,7 @@ module _ (rule : Numbers) (cells : List Cell) (g : ℕ) where
 
 -- ---- whole texts
 
--- a text was written, and then another wholly or in part
+-- if `one` was written, and then `two` wholly or in part, so was `one ++ two`
 pub leaves_then : {V : Type 0} (contents : V → Option (List ℕ)) (one two : List ℕ) (outcome : TextOutcome) (x y z : Output V)
     → Has (stream contents x y) one → PutsLines (λ _. two) two outcome (stream contents y z) → PutsLines (λ _. one ++ two) (one ++ two) outcome (stream contents x z)
 leaves_then contents one two (Ok _) x y z has more = (Appends-append _ _ _ one two has more.0, more.1)
@@ -123,7 +123,7 @@ leaves_then contents one two (Err (ReadFailed error)) x y z has more = absurd mo
 leaves_then contents one two (Err TooLong) x y z has more = absurd more
 leaves_then contents one two (Err (Refused refusal)) x y z has more = absurd more
 
--- a text was written in part, and the text after it not at all
+-- if writing `one` failed, `one ++ two` was written in part
 pub leaves_first : {V : Type 0} (contents : V → Option (List ℕ)) (one two : List ℕ) (error : WriteError) (x y : Output V)
     → Writes contents x y (Err error) one → PutsLines {A = Unit {0}} (λ _. one ++ two) (one ++ two) (Err (WriteFailed error)) (stream contents x y)
 leaves_first contents one two error x y writes = (AppendsPrefix-longer _ _ one two writes.prefix, writes.remembers)
@@ -138,7 +138,7 @@ whole_text rule cells from last low =
 
 -- ---- how the command ends
 
--- an input that was refused or not read leaves nothing on the output
+-- a complaint after which nothing was written may also end a command that writes its text line by line
 pub reaches_lines : (reads : Bool) (answer : Answer) (complaint : Complaint) (output : Stream) → Has output []
     → ReachesText reads true (only answer) (Err complaint) output → ReachesText reads false (only answer) (Err complaint) output
 reaches_lines reads answer (Refused refusal) output nothing reached = reached

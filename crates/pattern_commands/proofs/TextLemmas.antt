@@ -14,7 +14,7 @@ use Rattle.pattern_commands.specs.Streams.{Stream, HasPrefix, IsUntouched}
 use Rattle.pattern_commands.specs.Behaviours.{Made, alone, text_made, text_behaviour}
 use Rattle.pattern_commands.specs.TextSteps.{LeavesTextPrefix, LeavesTextPart, ReachesText, TextOutcome, none_missing}
 
--- the part of a text that was written is one that the command's behaviour allows
+-- the part of a text that `LeavesTextPart` allows is one that the command's behaviour allows
 part_of : (whole : Bool) (right : Right) (output : Stream) → LeavesTextPart whole right output → LeavesPart whole (alone right) output
 part_of true right output left = left
 part_of false right output left = go
@@ -28,7 +28,7 @@ prefix_of : (whole : Bool) (right : Right) (output errors : Stream) → LeavesTe
 prefix_of true right output errors (text, is, prefix) still = (record { text = text; diagnostics = []; missing = 0 }, (is, refl, refl), prefix, still.0)
 prefix_of false right output errors (never, prefixes) still = (never, λ made is. prefixes made.text is.0, still.0)
 
--- what the streams have after a text, if standard error is untouched
+-- if `ReachesText` holds and standard error is untouched, the outcome is one that the command's behaviour allows
 reaches_text : (reads whole : Bool) (right : List ℕ → Right) (reader : Option (List ℕ)) (bytes : List ℕ) (outcome : TextOutcome) (output errors : Stream)
     → ReachesText reads whole (right bytes) outcome output → IsUntouched errors
     → Reaches (text_behaviour reads whole right) reader bytes (none_missing outcome) output errors
@@ -52,7 +52,7 @@ reaches_text reads whole right reader bytes (Err TooLong) output errors (read, l
 reaches_text reads whole right reader bytes (Err (WriteFailed error)) output errors (left, cut) still =
     inl (record { left = prefix_of whole (right bytes) output errors left still; cut = cut; fine = still.1 })
 
--- how a command that writes only a text ends
+-- a command that writes only a text ends as its behaviour says
 pub text_ends : (reads whole : Bool) (right : List ℕ → Right) (reader : Option (List ℕ)) (bytes : List ℕ) (outcome : TextOutcome) (status : Status)
     (output errors : Stream)
     → ReachesText reads whole (right bytes) outcome output → status ≡ status_after (none_missing outcome) → HasLast (none_missing outcome) errors
@@ -69,13 +69,13 @@ text_ends reads whole right reader bytes outcome status output errors reached is
       status_is = is;
     }
 
--- only a refusal has the status of one
+-- if the status is `Refused`, the outcome is a refusal
 pub text_refused : {P : Type 0} (outcome : TextOutcome) → status_after (none_missing outcome) ≡ statuses.Refused
     → IfErr outcome (λ complaint. status_of complaint ≡ statuses.Refused → P) → P
 text_refused (Ok _) is = cc
 text_refused (Err complaint) is = λ so. so is
 
--- only an outcome that memory ran out has the status of out of memory
+-- if the status is `Memory`, memory ran out
 pub text_memory : {P : Type 0} (outcome : TextOutcome) → status_after (none_missing outcome) ≡ statuses.Memory
     → IfErr outcome (λ complaint. complaint ≡ Memory out_of_memory → P) → P
 text_memory (Ok _) is = cc

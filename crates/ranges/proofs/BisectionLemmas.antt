@@ -1,4 +1,4 @@
--- Ranges in normal form ascend, so only the last one that begins at a number or before it can have the number.
+-- Ranges in normal form ascend, so only the last range that begins at a number or before it can have the number.
 use Rattle.std.proofs.Common.{◌≡◌, ◌∙◌, ◌-◌, ◌<◌, ◌≤◌, ℕ, Bool, true, false, List, [], ◌∷◌, ap, arith, get_or, leb, length, refl, suc, sym, take, zero, ◌||◌}
 use Rattle.std.proofs.Math.Bool.{or-false}
 use Rattle.std.proofs.lemmas.Bool.{leb-false, leb-true}
@@ -8,7 +8,7 @@ use Rattle.std.specs.List.Sorted.{IsNonDecreasingBy, IsPartitionPoint}
 use Rattle.ranges.specs.declared.range.Range.{Range}
 use Rattle.ranges.specs.Ranges.{AreNormal, BeginAfter, end_of, is_in, is_in_range}
 
--- a range doesn't have a number before its first one
+-- a range has no number before its first number
 before : (n : ℕ) (r : Range) → n < r.first → is_in_range n r ≡ false
 before n r early = grind (arith, nat_tests)
 
@@ -23,7 +23,7 @@ all_later n (r ∷ more) later =
     ap (λ (b : Bool). b || is_in more n) (before n r (later 0 r (omega arith)))
     ∙ all_later n more (λ k d low. later (suc k) d (omega arith))
 
--- if ranges in normal form begin after a place, each of them does
+-- if the first of ranges in normal form begins after a place, each of them does
 each_after : (place : ℕ) (rs : List Range) → AreNormal rs → BeginAfter place rs → (k : ℕ) (d : Range) → k < length rs → place < (get_or rs k d).first
 each_after place [] normal starts k d low = absurd (omega arith)
 each_after place (r ∷ more) normal starts zero d low = starts
@@ -53,7 +53,7 @@ only_last n (r ∷ more) (suc i) d normal low begun later =
     ap (λ (b : Bool). b || is_in more n) (past n r (omega arith))
     ∙ only_last n more i d normal.2 (omega arith) begun (λ k e from below. later (suc k) e (omega arith) (omega arith))
 
--- `begun` ranges begin at the number or before it, and the others after it
+-- the first `begun` ranges begin at n or before n, and the others begin after n
 abbrev pub Begun : (n : ℕ) (rs : List Range) (begun : ℕ) → Type 0
 Begun n rs begun = IsPartitionPoint (λ r. leb r.first n ≡ true) (λ r. leb r.first n ≡ false) rs begun
 
@@ -62,7 +62,7 @@ pub none_begun : (n : ℕ) (rs : List Range) (begun : ℕ) → Begun n rs begun 
 none_begun n rs begun point bound empty =
     all_later n rs (λ k d low. leb-false _ _ (point.1 k d (omega (arith, empty, length-take-le begun rs bound)) low))
 
--- otherwise the last such range has the number, or none has it
+-- if some ranges begin at n or before n, the last of these has n exactly if the set has n
 pub last_begun : (n : ℕ) (rs : List Range) (begun : ℕ) (last : Range) → AreNormal rs → Begun n rs begun → begun ≤ length rs → 0 < length (take begun rs)
     → last ≡ get_or (take begun rs) (length (take begun rs) - 1) last → is_in_range n last ≡ is_in rs n
 last_begun n rs zero last normal point bound some is = absurd (omega (arith, some, length-take-le zero rs bound))

@@ -11,7 +11,7 @@ use Rattle.ranges.specs.RangeListFaults.{IsDecimal}
 use Rattle.ranges.specs.RangeListSteps.{has_digit}
 use Rattle.ranges.proofs.DecimalLemmas.{IsDecimal-decimal}
 
--- the decimal ends before the remainder: a digit follows only a `0` (48)
+-- the decimal doesn't continue in the remainder: a digit follows it only if its first digit is `0` (48)
 abbrev pub Ends : List ℕ → List ℕ → Type 0
 Ends number remainder = has_digit remainder ≡ true → slice_index number 0 ≡ 48
 
@@ -49,7 +49,7 @@ cut_zero d e x y p q z s =
     let whole : 48 ∷ x ≡ 48 ∷ y = sym (ap (λ (t : List ℕ). t ++ x) f) ∙ s ∙ ap (λ (t : List ℕ). t ++ y) g in
     (f ∙ sym g, cc)
 
--- two decimals that begin a text, and that both end there, are equal
+-- if a text begins with the decimals d and e, and neither continues in its remainder, d and e are equal
 pub cut : (d e x y : List ℕ) → IsDecimal d → IsDecimal e → Ends d x → Ends e y → d ++ x ≡ e ++ y → (d ≡ e) × (x ≡ y)
 cut d e x y p q h k s = go (has_digit x) (has_digit y) refl refl
   where
@@ -67,7 +67,7 @@ IsWritten-written r f c = (IsDecimal-decimal r.first f, IsDecimal-decimal r.coun
 pair-append : (w : Written) (x : List ℕ) → pair_text w ++ x ≡ w.first ++ 43 ∷ (w.count ++ x)
 pair-append w x = append_assoc w.first (43 ∷ w.count) x
 
--- two ranges that begin a text, and whose counts end there, are equal
+-- if a text begins with the ranges w and v, and neither count continues in its remainder, w and v are equal
 pub cut_pair : (w v : Written) (x y : List ℕ) → IsWritten w → IsWritten v → Ends w.count x → Ends v.count y → pair_text w ++ x ≡ pair_text v ++ y
     → (w ≡ v) × (x ≡ y)
 cut_pair w v x y p q h k s =
@@ -77,7 +77,7 @@ cut_pair w v x y p q h k s =
     let count = cut w.count v.count x y p.1 q.1 h k remainder in
     (λ i. record { first = first.0 i; count = count.0 i }, count.1)
 
--- the text after the first range of a list
+-- the text that follows the first range of a list, if these are the other ranges
 abbrev pub tail : List Written → List ℕ
 tail [] = []
 tail (w ∷ more) = 44 ∷ joined (w ∷ more)

@@ -12,7 +12,7 @@ use Rattle.ranges.specs.RangeListSteps.{BeginsDecimal, has_digit}
 pub ascii : IsNumeralModel (λ ds. all_ascii_digits ds ≡ true) (digits_value 10)
 ascii = numerals_by_value _ tells_all_ascii_digits
 
--- one more digit at the end
+-- the decimal of 10 * n + d is the decimal of n followed by the digit d
 pub decimal-push : (n d : ℕ) → 1 ≤ n → n < 2 ^ 64 → d ≤ 9 → decimal (10 * n + d) ≡ decimal n ++ (48 + d) ∷ []
 decimal-push n d some fits digit =
     let quotient : (10 * n + d) / 10 ≡ n = omega arith in
@@ -61,7 +61,7 @@ large n d text remainder some fits digit big e =
       spelled = e ∙ sym (ap (λ (xs : List ℕ). xs ++ remainder) pushed ∙ append_assoc (decimal n) ((48 + d) ∷ []) remainder);
     }
 
--- the digits so far are those of the number, which isn't 0
+-- the digits read so far are the decimal of `number`, which isn't 0
 pub record Reading (first : ℕ) (text : List ℕ) (number : ℕ) (remainder : List ℕ) : Type 0 where
   pub some : 1 ≤ number
   pub fits : number < 2 ^ 64

@@ -18,7 +18,7 @@ use Rattle.ranges.specs.RangeListSteps.{has_byte, has_digit, ranges_and_commas}
 use Rattle.ranges.proofs.DecimalLemmas.{IsDecimal-decimal, ascii}
 use Rattle.ranges.proofs.CutLemmas.{Ends, IsWritten, IsWritten-written, cut, cut_pair, joined-cons, pair-some, tail, tail-no_digit}
 
--- the byte at the front, if there is one
+-- the first byte of a text, if there is one
 abbrev pub head_of : List ℕ → Option ℕ
 head_of [] = None
 head_of (b ∷ remainder) = Some b
@@ -50,7 +50,7 @@ IsOfU64 w = (r : Range) × (FitsU64 r × (w ≡ written r))
 abbrev AreWritten : List Written → Type 0
 AreWritten ws = AllByRecursion IsWritten ws
 
--- the ranges of a list that are left after those already passed
+-- `more` are the last ranges of the list `qs`, whose text is x: those after the ranges that have been passed
 record Walked (qs : List Written) (x : List ℕ) : Type 0 where
   more : List Written
   each : AreWritten more
@@ -75,11 +75,12 @@ walk (r ∷ rs) fit (q ∷ q' ∷ qs) each x s =
     let w = walk rs fit.1 (q' ∷ qs) each.1 x t in
     record { more = w.more; each = w.each; spelled = w.spelled; some = λ h. w.some (λ e. absurd (cc)); keeps = λ h. w.keeps h.1 }
 
--- no list's text begins with the prefix and goes on as `there` does: with the same byte, or by ending
+-- no list has a text that begins with the prefix and then continues like `there`: with the same byte, or with the end
+-- of the text if `there` is empty
 abbrev pub Refused : List ℕ → List ℕ → Type 0
 Refused prefix there = (qs : List Written) → AreWritten qs → (x : List ℕ) → head_of there ≡ head_of x → joined qs ≢ prefix ++ x
 
--- the same for the text of the first range that is left, and what follows it
+-- no range, together with the ranges after it, has a text that begins with the prefix and then continues like `there`
 abbrev pub RefusedRange : List ℕ → List ℕ → Type 0
 RefusedRange prefix there = (w : Written) (ws : List Written) → IsWritten w → (x : List ℕ) → head_of there ≡ head_of x → pair_text w ++ tail ws ≢ prefix ++ x
 
@@ -111,7 +112,7 @@ first_digit (a ∷ d) x h = let s = h.digits in search (rules)
 pub pair-append : (w : Written) (x : List ℕ) → pair_text w ++ x ≡ w.first ++ 43 ∷ (w.count ++ x)
 pair-append w x = append_assoc w.first (43 ∷ w.count) x
 
--- no range begins without a digit
+-- if `there` doesn't begin with a digit, no range begins like it
 pub refused_first : (there : List ℕ) → has_digit there ≡ false → RefusedRange [] there
 refused_first there none = λ w ws each x same s.
     let d : has_digit (w.first ++ 43 ∷ (w.count ++ tail ws)) ≡ true = first_digit w.first (43 ∷ (w.count ++ tail ws)) each.0 in
@@ -126,7 +127,7 @@ zero_first n z = ap (λ (m : ℕ). slice_index (decimal m) 0) z ∙ ap (λ (t : 
 ends_alike : (n : ℕ) (there x : List ℕ) → (has_digit there ≡ true → n ≡ 0) → head_of there ≡ head_of x → Ends (decimal n) x
 ends_alike n there x ends same = λ h. zero_first n (ends (same_digit there x same ∙ h))
 
--- a range that begins with this decimal goes on with a `+` (43) and its count
+-- if a range begins with the decimal of n, which doesn't continue in x, then x is a `+` (43) and the count
 cut_first : (w : Written) (ws : List Written) (n : ℕ) (x : List ℕ) → IsWritten w → n < 2 ^ 64 → Ends (decimal n) x → pair_text w ++ tail ws ≡ decimal n ++ x
     → 43 ∷ (w.count ++ tail ws) ≡ x
 cut_first w ws n x each fits ends s =
@@ -136,12 +137,12 @@ has_byte-prefix : (c : ℕ) (x y : List ℕ) → c ∷ y ≡ x → has_byte c x
 has_byte-prefix c [] y h = absurd (cc)
 has_byte-prefix c (b ∷ x) y h = cc
 
--- no range goes on after its first number without a `+` (43)
+-- if `there` doesn't begin with a `+` (43), no range continues like it after its first number
 pub refused_plus : (n : ℕ) (there : List ℕ) → n < 2 ^ 64 → (has_digit there ≡ true → n ≡ 0) → ¬ has_byte 43 there → RefusedRange (decimal n) there
 refused_plus n there fits ends other = λ w ws each x same s.
     other (same_byte 43 there x same (has_byte-prefix 43 x (w.count ++ tail ws) (cut_first w ws n x each fits (ends_alike n there x ends same) s)))
 
--- no count begins without a digit
+-- if `there` doesn't begin with a digit, no range continues like it after its `+`
 pub refused_count : (n : ℕ) (there : List ℕ) → n < 2 ^ 64 → has_digit there ≡ false → RefusedRange (decimal n ++ 43 ∷ []) there
 refused_count n there fits none = λ w ws each x same s.
     let t : 43 ∷ (w.count ++ tail ws) ≡ 43 ∷ x =
@@ -155,7 +156,7 @@ tail-byte : (ws : List Written) (x : List ℕ) → x ≢ [] → tail ws ≡ x �
 tail-byte [] x some h = absurd (some (sym h))
 tail-byte (w ∷ ws) x some h = has_byte-prefix 44 x (joined (w ∷ ws)) h
 
--- after a range, no list goes on without a `,` (44)
+-- if `there` isn't empty and doesn't begin with a `,` (44), no list continues like it after a range
 pub refused_comma : (r : Range) (there : List ℕ) → FitsU64 r → (has_digit there ≡ true → r.count ≡ 0) → there ≢ [] → ¬ has_byte 44 there
     → RefusedRange (pair_text (written r)) there
 refused_comma r there fits ends some other = λ w ws each x same s.
@@ -175,7 +176,7 @@ all_digits_prefix (a ∷ d) (b ∷ e) x y digits none s =
     let more = all_digits_prefix d e x y (search rules) none remainder in
     λ i. same i ∷ more i
 
--- a text that begins with a decimal below 2^64 doesn't begin with one of 2^64 or more
+-- a text that begins with a decimal below 2^64, followed by no digit, doesn't begin with a decimal of 2^64 or more
 pub small_decimal : (n : ℕ) (x there : List ℕ) → n < 2 ^ 64 → has_digit x ≡ false → BeginsLargeDecimal there → decimal n ++ x ≢ there
 small_decimal n x there fits none b s =
     let prefix = all_digits_prefix (decimal n) b.number x b.remainder b.is_decimal.digits none (s ∙ b.spelled) in
@@ -238,7 +239,7 @@ bad text prefix (b ∷ remainder) s begins refused = record {
   short = λ e. let l : length text ≡ length prefix + suc (length remainder) = omega (arith, ap length s, length-append prefix (b ∷ remainder)) in absurd (omega arith);
 }
 
--- the text's last byte is no digit
+-- the last byte of the prefix isn't a digit
 pub record LastByte (prefix : List ℕ) : Type 0 where
   pub start : List ℕ
   pub byte : ℕ
@@ -280,7 +281,7 @@ large_at text prefix there s begins apart large = record {
       ∙ ap (λ (t : List ℕ). drop (length prefix) t) s ∙ drop-append_seam prefix there)) large;
 }
 
--- if the next range begins with a number that is too large, the text isn't a list
+-- if the next range begins with a number of 2^64 or more, the text isn't a list
 pub refused_large : (text there : List ℕ) (ranges : List Range) → FitU64 ranges → text ≡ ranges_and_commas ranges ++ there → BeginsLargeDecimal there
     → ¬ IsListText text
 refused_large text there ranges fit s large list =
@@ -296,7 +297,7 @@ refused_large text there ranges fit s large list =
         small_decimal r.first (43 ∷ (v.count ++ tail vs)) there fit.0.1.0.0 refl large
         (ap (λ (d : List ℕ). d ++ 43 ∷ (v.count ++ tail vs)) (sym first) ∙ sym (pair-append v (tail vs)) ∙ sym (joined-cons v vs) ∙ t)
 
--- if the next range has a count that is too large, the text isn't a list
+-- if the next range has a count of 2^64 or more, the text isn't a list
 pub refused_large_count : (text there : List ℕ) (ranges : List Range) (n : ℕ) → FitU64 ranges → n < 2 ^ 64
     → text ≡ ranges_and_commas ranges ++ (decimal n ++ 43 ∷ there)
     → BeginsLargeDecimal there → ¬ IsListText text

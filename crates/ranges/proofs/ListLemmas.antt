@@ -13,7 +13,7 @@ use Rattle.ranges.proofs.FaultLemmas.{Apart, FitsU64, Refused, bad, large_at, li
 use Rattle.ranges.proofs.FaultLemmas.{refused_count}
 use Rattle.ranges.proofs.FaultLemmas.{refused_first, refused_large, refused_large_count, refused_plus, written-all}
 
--- one more range at the end of a list
+-- the text of a list to which the range r was added at the end, and of the parts of such a list
 tail-push : (rs : List Range) (r : Range) → tail (map written (rs ++ r ∷ [])) ≡ 44 ∷ joined (map written (rs ++ r ∷ []))
 tail-push [] r = refl
 tail-push (a ∷ rs) r = refl
@@ -48,7 +48,7 @@ begins rs r prefix remainder fit fits s = record {
 abbrev of_first : ℕ → Range
 of_first n = record { first = n; count = 0 }
 
--- the first fault is at this place, and the text is no list
+-- the first fault of the text is at this place, and the text isn't a list
 abbrev pub IsFaulty : List ℕ → ℕ → Type 0
 IsFaulty text place = IsFirstListFault text place × ¬ IsListText text
 
@@ -132,7 +132,7 @@ fault_after text remainder there rs fit s some (inl (inr (inl h))) = no_plus tex
 fault_after text remainder there rs fit s some (inl (inr (inr h))) = no_count text remainder there rs fit s some h
 fault_after text remainder there rs fit s some (inr h) = no_comma text remainder there rs fit s some h
 
--- these ranges have been passed, and the next one, if there is one, begins the remainder
+-- these ranges have been read, and the remainder is the text from the next range on, or `None` if no range follows
 pub record Passed (text : List ℕ) (ranges : List Range) (remainder : Option (List ℕ)) : Type 0 where
   pub fit : FitU64 ranges
   pub passed : HasPassed text ranges remainder
@@ -160,8 +160,8 @@ passed_more text ranges here r (Some remainder) p h = record {
   some = λ here' e. p.some here refl;
 }
 
--- what each pass of a loop over a text's ranges makes smaller: 0 if no range follows, otherwise one more than the
--- number of bytes that are left
+-- the measure of a loop over the ranges of a text, which each iteration decreases: 0 if no range follows, otherwise one
+-- more than the number of bytes left
 abbrev pub left_of : Option (List ℕ) → ℕ
 left_of None = 0
 left_of (Some remainder) = 1 + length remainder

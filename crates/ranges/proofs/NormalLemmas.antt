@@ -17,7 +17,7 @@ after place n (r ∷ rs) h k is = go (is_in_range n r) refl (after (end_of r) n 
         let m = more remainder in
         omega arith
 
--- no number of ranges in normal form comes before the first range
+-- ranges in normal form have no number before the first number of the first range
 from_first : (n : ℕ) (r : Range) (rs : List Range) → AreNormal (r ∷ rs) → is_in (r ∷ rs) n ≡ true → r.first ≤ n
 from_first n r rs h is = go (is_in_range n r) refl
   where
@@ -31,7 +31,7 @@ from_first n r rs h is = go (is_in_range n r) refl
 first_in : (r : Range) (rs : List Range) → AreNormal (r ∷ rs) → is_in (r ∷ rs) r.first ≡ true
 first_in r rs h = let i = in_range r.first r (omega arith) (let s = h.0 in omega arith) in cc
 
--- the number at the end of the first range is left out
+-- ranges in normal form don't have the number just after the first range
 end_out : (r : Range) (rs : List Range) → AreNormal (r ∷ rs) → is_in (r ∷ rs) (end_of r) ≡ false
 end_out r rs h = go (is_in (r ∷ rs) (end_of r)) refl
   where

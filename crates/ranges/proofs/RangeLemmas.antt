@@ -43,7 +43,7 @@ count_hit p x xs h = sum_by-cons (λ y. cond {A = ℕ} (p y) 1 0) x xs ∙ ap (�
 pub count_miss : {X : Type 0} (p : X → Bool) (x : X) (xs : List X) → p x ≡ false → count_by p (x ∷ xs) ≡ count_by p xs
 count_miss p x xs h = sum_by-cons (λ y. cond {A = ℕ} (p y) 1 0) x xs ∙ ap (λ (b : Bool). cond {A = ℕ} b 1 0 + count_by p xs) h ∙ zero-add (count_by p xs)
 
--- if a range passes the test with one of the others, some number of it is in one of them
+-- if r passes the test `shares` with one of the ranges rs, some number of r is in one of them
 pub met : (r : Range) (rs : List Range) → list_any (shares r) rs ≡ true → (n : ℕ) × (is_in_range n r ≡ true) × (1 ≤ count_by (is_in_range n) rs)
 met r [] h = absurd (false≢true h)
 met r (x ∷ xs) h = elim (cases_Bool (shares r x)) [
@@ -54,7 +54,7 @@ met r (x ∷ xs) h = elim (cases_Bool (shares r x)) [
       (more.0, more.1, omega (arith, more.2, sum_by-cons (λ y. cond {A = ℕ} (is_in_range more.0 y) 1 0) x xs))
 ]
 
--- if a range passes the test with none of the others, none of its numbers is in them
+-- if r passes the test `shares` with none of the ranges rs, no number of r is in one of them
 pub unmet : (n : ℕ) (r : Range) (rs : List Range) → list_any (shares r) rs ≡ false → is_in_range n r ≡ true → count_by (is_in_range n) rs ≡ 0
 unmet n r [] h is = refl
 unmet n r (x ∷ xs) h is = elim (cases_Bool (is_in_range n x)) [
@@ -120,7 +120,7 @@ size_joined (x ∷ more) a r remainder =
     sum_by-cons (λ (x : Range). x.count) x (more ++ grown a r ∷ remainder) ∙ ap (λ (n : ℕ). x.count + n) (size_joined more a r remainder)
     ∙ sym (sum_by-cons (λ (x : Range). x.count) x (more ++ a ∷ r ∷ remainder))
 
--- the next range touches the latest
+-- if the next range r begins at the end of the latest range a, then a grows by r
 pub joining_touch : (all done : List Range) (a r : Range) (remainder : List Range) → end_of a ≡ r.first → Joining all done a (r ∷ remainder)
     → Joining all done (grown a r) remainder
 joining_touch all done a r remainder e j =
@@ -136,7 +136,7 @@ joining_touch all done a r remainder e j =
           (All-tail (λ x. end_of x ≤ number_bound) r remainder (All-tail (λ x. end_of x ≤ number_bound) a (r ∷ remainder) j.below));
     }
 
--- a gap comes before the next range
+-- if the next range r doesn't begin at the end of the latest range a, then a is done, and r is the latest range
 pub joining_gap : (all done : List Range) (a r : Range) (remainder : List Range) → end_of a ≢ r.first → Joining all done a (r ∷ remainder)
     → Joining all (done ++ a ∷ []) r remainder
 joining_gap all done a r remainder apart j =
@@ -267,7 +267,7 @@ latest_below all done latest remainder j = All-head (λ x. end_of x ≤ number_b
 pub next_below : (all done : List Range) (latest r : Range) (remainder : List Range) → Joining all done latest (r ∷ remainder) → end_of r ≤ number_bound
 next_below all done latest r remainder j = All-head (λ x. end_of x ≤ number_bound) r remainder (All-tail (λ x. end_of x ≤ number_bound) latest (r ∷ remainder) j.below)
 
--- the same, range by range of a slice
+-- the lemmas about `Joining` for a loop over a slice, where the ranges to come are those from place i on
 pub touch_at : (all done : List Range) (latest : Range) (more : List Range) (i : ℕ) (d : Range) → i < length more → end_of latest ≡ (get_or more i d).first
     → Joining all done latest (drop i more) → Joining all done (grown latest (get_or more i d)) (drop (i + 1) more)
 touch_at all done latest more i d low e j =
@@ -287,7 +287,7 @@ pub start_from : (all : List Range) (a : Range) (remainder : List Range) → all
 start_from all a remainder e asc below =
     subst (λ (xs : List Range). Joining xs [] a remainder) (sym e) (joining_start a remainder (subst Ascending e asc) (subst (AreBelow number_bound) e below))
 
--- all ranges are joined
+-- after the loop, the joined ranges are the normal form of all ranges, with the same number of numbers
 pub all_joined : (all done joined more : List Range) (latest : Range) (i : ℕ) → length more ≤ i → Joining all done latest (drop i more)
     → joined ≡ done ++ latest ∷ [] → IsNormalForm all joined × (size_of joined ≡ size_of all) × AreBelow number_bound joined
 all_joined all done joined more latest i past j is =

@@ -11,7 +11,7 @@ use Rattle.ranges.specs.Ranges.{AreNormal, Overlap, ShareNumber, end_of, is_in, 
 use Rattle.ranges.proofs.NormalLemmas.{after}
 use Rattle.ranges.proofs.RangeLemmas.{count_hit, count_miss, end_of_in, met, unmet}
 
--- a number that no range has is counted nowhere, and one that is counted is in the set
+-- a number that isn't in the set is in 0 of its ranges, and a number that is in at least one range is in the set
 count_out : (n : ℕ) (rs : List Range) → is_in rs n ≡ false → count_by (is_in_range n) rs ≡ 0
 count_out n [] h = refl
 count_out n (r ∷ rs) h =
@@ -48,7 +48,7 @@ count-append n (r ∷ a) b = go (is_in_range n r) refl (count-append n a b)
     go true e remainder = let c = count_hit (is_in_range n) r (a ++ b) e in let d = count_hit (is_in_range n) r a e in omega arith
     go false e remainder = let c = count_miss (is_in_range n) r (a ++ b) e in let d = count_miss (is_in_range n) r a e in omega arith
 
--- so two sets that share no number don't overlap
+-- two sets in normal form that share no number don't overlap
 pub apart_sets : (a b : List Range) → AreNormal a → AreNormal b → ¬ ShareNumber a b → ¬ Overlap (a ++ b)
 apart_sets a b h k apart o =
     let n = o.0 in
@@ -81,7 +81,7 @@ counted_in n (r ∷ rs) h = go (is_in_range n r) refl (counted_in n rs)
         let more = remainder there in
         omega arith
 
--- one more range has no number in common with the other set
+-- if neither the first i ranges of b nor range i shares a number with a, the first i + 1 ranges of b don't
 pub apart_more : (d : Range) (a b : List Range) (i : ℕ) → i < length b → ¬ ShareNumber a (take i b) → list_any (shares (get_or b i d)) a ≡ false
     → ¬ ShareNumber a (take (i + 1) b)
 apart_more d a b i low apart none s = go (is_in_range s.number (get_or b i d)) refl

@@ -4,7 +4,7 @@ use Rattle.plane_core.specs.Outputs.{Writes}
 use Rattle.pattern_commands.specs.Coordinates.{coordinate_line}
 use Rattle.pattern_commands.proofs.coordinates.put_cells.Given as goal
 
--- the lines of the cells that were passed have been written
+-- the lines of the cells before the current one have been written
 abbrev pub invariant-loop-cell : goal.invariant-loop-cell
 invariant-loop-cell g l =
     (prefix : List ℕ) × (flat_map coordinate_line l.fn.cells ≡ prefix ++ flat_map coordinate_line (drop l.cell-index l.cells))

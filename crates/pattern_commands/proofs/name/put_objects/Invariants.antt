@@ -4,7 +4,7 @@ use Rattle.plane_core.specs.Outputs.{Writes}
 use Rattle.pattern_commands.specs.Name.{object_line}
 use Rattle.pattern_commands.proofs.name.put_objects.Given as goal
 
--- the lines of the objects that were passed have been written
+-- the lines of the objects before the current one have been written
 abbrev pub invariant-loop-object : goal.invariant-loop-object
 invariant-loop-object g l =
     (prefix : List ℕ) × (flat_map object_line l.fn.objects ≡ prefix ++ flat_map object_line (drop l.object-index l.objects))

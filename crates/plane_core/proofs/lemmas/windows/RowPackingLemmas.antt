@@ -6,9 +6,9 @@ use Rattle.std.proofs.lemmas.Nat.{mod-mul-add}
 use Rattle.plane_core.specs.windows.Windows.{lane_at}
 use Rattle.plane_core.proofs.lemmas.plane.CaseLemmas.{same_or_not}
 
--- ---- four vectors at a time
+-- ---- transposing four vectors
 
--- lane i of each of four vectors, two of which follow each other in a list
+-- the vector of lane i of a, b, c and d, if these have four lanes each
 abbrev pub lanes_of : List ℕ → List ℕ → List ℕ → List ℕ → ℕ → List ℕ
 lanes_of a b c d i = get_or (a ++ b) i 0 ∷ get_or (a ++ b) (4 + i) 0 ∷ get_or (c ++ d) i 0 ∷ get_or (c ++ d) (4 + i) 0 ∷ []
 
@@ -22,7 +22,7 @@ lane_of_four a b c d la lb lc ld i (suc (suc (suc zero))) low lane =
     get_or-append_right c d 4 (4 + i) 0 lc (omega arith) ∙ ap (λ (m : ℕ). get_or d m 0) (omega arith)
 lane_of_four a b c d la lb lc ld i (suc (suc (suc (suc j)))) low lane = absurd (omega (arith, lane))
 
--- four vectors, transposed
+-- the vectors of lanes 0, 1, 2 and 3 are a, b, c and d transposed
 pub turned_lanes : (a b c d : List ℕ) → length a ≡ 4 → length b ≡ 4 → length c ≡ 4 → length d ≡ 4 → (i j : ℕ) → i < 4 → j < 4
     → lane_at (lanes_of a b c d 0 ∷ lanes_of a b c d 1 ∷ lanes_of a b c d 2 ∷ lanes_of a b c d 3 ∷ []) i j ≡ lane_at (a ∷ b ∷ c ∷ d ∷ []) j i
 turned_lanes a b c d la lb lc ld zero j low lane = lane_of_four a b c d la lb lc ld 0 j low lane
@@ -31,7 +31,7 @@ turned_lanes a b c d la lb lc ld (suc (suc zero)) j low lane = lane_of_four a b 
 turned_lanes a b c d la lb lc ld (suc (suc (suc zero))) j low lane = lane_of_four a b c d la lb lc ld 3 j low lane
 turned_lanes a b c d la lb lc ld (suc (suc (suc (suc i)))) j low lane = absurd (omega (arith, low))
 
--- four vectors of a window, as a list of their own
+-- in the list of vectors k to k + 3 of a window, vector i is vector k + i of the window
 pub four_of : (x : List (List ℕ)) (k i j : ℕ) → i < 4
     → lane_at (get_or x k [] ∷ get_or x (k + 1) [] ∷ get_or x (k + 2) [] ∷ get_or x (k + 3) [] ∷ []) i j ≡ lane_at x (k + i) j
 four_of x k zero j low = ap (λ (m : ℕ). lane_at x m j) (omega arith)
@@ -42,11 +42,11 @@ four_of x k (suc (suc (suc (suc i)))) j low = absurd (omega (arith, low))
 
 -- ---- packing
 
--- the vectors before vector k have their rows
+-- in the vectors before vector k, lane j of vector m is row j * n + m
 abbrev pub ArePacked : ℕ → List ℕ → List (List ℕ) → ℕ → Type 0
 ArePacked n rows x k = (m j : ℕ) → m < k → j < 4 → lane_at x m j ≡ slice_index rows (j * n + m)
 
--- four more vectors are packed
+-- packing vectors k to k + 3, and leaving the packed vectors before them unchanged, packs the vectors before k + 4
 pub packed_four : (n k : ℕ) (rows : List ℕ) (x y : List (List ℕ)) → ArePacked n rows x k
     → ((i j : ℕ) → i < 4 → j < 4 → lane_at y (k + i) j ≡ slice_index rows (j * n + (k + i)))
     → ((m j : ℕ) → m < k → lane_at y m j ≡ lane_at x m j) → ArePacked n rows y (k + 4)
@@ -60,7 +60,7 @@ packed_four n k rows x y before made others m j less lane = split (cases_lt m k)
 
 -- ---- unpacking
 
--- the rows of the first `count` vectors are at their places
+-- row j * n + m is lane j of vector m, for each of the first `count` vectors
 abbrev pub AreUnpacked : ℕ → List (List ℕ) → List ℕ → ℕ → Type 0
 AreUnpacked n window rows count = (j m : ℕ) → j < 4 → m < count → slice_index rows (j * n + m) ≡ lane_at window m j
 
@@ -74,7 +74,7 @@ unpacked_more n window rows more vector k small is same at others j m low less =
         ap (λ (q : ℕ). slice_index more (j * n + q)) e ∙ at j low ∙ ap (λ (v : List ℕ). slice_index v j) same ∙ ap (λ (q : ℕ). lane_at window q j) (sym e)
     split (inr apart) = others j m low (omega arith) apart ∙ is j m low (omega arith)
 
--- four more vectors are unpacked
+-- unpacking vectors k to k + 3, and leaving the rows of the vectors before unchanged, unpacks the first k + 4 vectors
 pub unpacked_four : (n k : ℕ) (window : List (List ℕ)) (rows more : List ℕ) → AreUnpacked n window rows k
     → ((i j : ℕ) → i < 4 → j < 4 → slice_index more (j * n + (k + i)) ≡ lane_at window (k + i) j)
     → ((m j : ℕ) → m < k → j < 4 → slice_index more (j * n + m) ≡ slice_index rows (j * n + m)) → AreUnpacked n window more (k + 4)
@@ -86,7 +86,8 @@ unpacked_four n k window rows more before made others j m lane less = split (cas
         let is : k + (m - k) ≡ m = omega arith in
         subst (λ (q : ℕ). slice_index more (j * n + q) ≡ lane_at window q j) is (made (m - k) j (omega arith) lane)
 
--- four words put in each quarter of the rows
+-- four words are written in each quarter of the rows: r1 is r0 with vector 0 of `four` from row k on, r2 is r1 with
+-- vector 1 of `four` from row n + k on, and so on; r4 is the result
 module _ (n k : ℕ) (r0 r1 r2 r3 r4 : List ℕ) (four : List (List ℕ)) (fit : k + 4 ≤ n)
     (at1 : (i : ℕ) → i < 4 → slice_index r1 (k + i) ≡ lane_at four 0 i) (others1 : (m : ℕ) → (m < k) ⊎ (k + 4 ≤ m) → slice_index r1 m ≡ slice_index r0 m)
     (at2 : (i : ℕ) → i < 4 → slice_index r2 (n + k + i) ≡ lane_at four 1 i)
@@ -120,7 +121,7 @@ module _ (n k : ℕ) (r0 r1 r2 r3 r4 : List ℕ) (four : List (List ℕ)) (fit :
       ∙ others1 (3 * n + m) (inr (omega arith))
   words_kept m (suc (suc (suc (suc j)))) low lane = absurd (omega (arith, lane))
 
--- the rows of other vectors are unchanged
+-- writing the four rows of vector k leaves the rows of each other vector m unchanged
 pub other_rows : (n k j m : ℕ) (rows : List ℕ) (a b c d : ℕ) → k < n → m < n → m ≢ k
     → slice_index (set (set (set (set rows k a) (n + k) b) (2 * n + k) c) (3 * n + k) d) (j * n + m) ≡ slice_index rows (j * n + m)
 other_rows n k j m rows a b c d small low apart =
@@ -132,7 +133,7 @@ other_rows n k j m rows a b c d small low apart =
     off : (q : ℕ) → j * n + m ≢ q * n + k
     off q e = apart (sym (mod-mul-add j n m low) ∙ ap (λ (r : ℕ). r % n) e ∙ mod-mul-add q n k small)
 
--- the rows of the vector itself
+-- `four` is `rows` once the lanes of v have been written as the rows of vector k; lane j is then row j * n + k
 module _ (n k : ℕ) (rows v : List ℕ) (small : k < n) (long : 4 * n ≤ length rows) where
   abbrev pub one : List ℕ
   one = set rows k (get_or v 0 0)

@@ -18,14 +18,14 @@ use Rattle.plane_core.proofs.lemmas.windows.WordLemmas.{life_digits, one_of_four
 use lib.Lanes.{zip2}
 use Rattle.plane_core.proofs.lemmas.Between.{AnswersNeighbours, AnswersTotal}
 
--- three sums of two digits are at most nine
+-- the sums of three rows, which have two binary digits each, add up to nine at most
 pub sums_small : (up here down : Sum) (j i : ℕ) → sum_of up j i + sum_of here j i + sum_of down j i ≤ 9
 sums_small up here down j i = omega (arith, small up, small here, small down)
   where
     small : (s : Sum) → sum_of s j i ≤ 3
     small s = omega (arith, bit_at-lt (slice_index s.ones j) i, bit_at-lt (slice_index s.twos j) i)
 
--- a dead cell's next state is the answer for births, and a live cell's is the same, negated if the two answers differ
+-- a cell's next state is the answer for births, negated if the cell is alive and the answer for survival differs
 by_change : (b s : Bool) (t : ℕ) → t < 2 → (one_if b + min ((one_if b + one_if s) % 2) t) % 2 ≡ one_if (cond (t == 1) s b)
 by_change true true zero low = refl
 by_change true true (suc zero) low = refl
@@ -41,7 +41,8 @@ lives_by-cond : (rule : Numbers) (n : ℕ) (alive : Bool) → cond alive (is_sur
 lives_by-cond rule n true = refl
 lives_by-cond rule n false = refl
 
--- the rule's answer for one total, in each lane
+-- `dead` xor (`change` and `now`) is the rule's answer for the total n, in each lane, if the bits of `dead` are the
+-- answer for births and the bits of `change` are 1 exactly if the answer for survival differs
 pub lane_answer : (rule : Numbers) (n dead change : ℕ) (now : List ℕ) (j i : ℕ) → length now ≡ 4 → j < 4 → bit_at dead i ≡ one_if (is_birth rule n)
     → bit_at change i ≡ (one_if (is_birth rule n) + one_if (is_survival rule (n - 1))) % 2
     → bit_of (zip2 bit_xor (replicate 4 dead) (zip2 bit_and (replicate 4 change) now)) j i ≡ one_if (lives_by rule n (bit_of now j i == 1))
@@ -59,7 +60,7 @@ lane_answer rule n dead change now j i long low d e =
         ∙ (λ t. bit_xor (get_or-replicate 4 j dead 0 low t)
         ((lane_of bit_and (replicate 4 change) now j refl long low ∙ ap (λ (w : ℕ). bit_and w (slice_index now j)) (get_or-replicate 4 j change 0 low)) t))
 
--- the test for exactly one of four bits, in each lane
+-- in each lane, the formula is 1 at the bits where exactly one of a, b, c and d is 1
 pub lane_only_one : (a b c d : List ℕ) (j i : ℕ) → length a ≡ 4 → length b ≡ 4 → length c ≡ 4 → length d ≡ 4 → j < 4
     → bit_of (zip2 bit_xor (zip2 bit_xor (zip2 bit_xor a b) (zip2 bit_xor c d))
     (zip2 bit_and (zip2 bit_xor (zip2 bit_xor a b) (zip2 bit_xor c d)) (zip2 bit_or (zip2 bit_and a b) (zip2 bit_and c d)))) j i
@@ -106,7 +107,8 @@ lane_only_one a b c d j i la lb lc ld low =
         (max (min (bit_of a j i) (bit_of b j i)) (min (bit_of c j i) (bit_of d j i)))
     both = together odds twos odds_long twos_long ∙ (λ t. min (odd t) (two t))
 
--- the answers of Life in each lane
+-- `one` and (`low.ones` or `now`) is Life's answer, in each lane, if `low` is the sum of the ones digits, and the bits
+-- of `one` are 1 exactly if one of the four twos digits is 1
 pub lane_life : (up beside down low : Sum) (one now : List ℕ) (j i : ℕ) → length one ≡ 4 → length low.ones ≡ 4 → length now ≡ 4 → j < 4
     → sum_of low j i ≡ bit_of up.ones j i + bit_of down.ones j i + bit_of beside.ones j i
     → bit_of one j i ≡ one_if (bit_of up.twos j i + bit_of down.twos j i + bit_of beside.twos j i + bit_of low.twos j i == 1)
@@ -138,14 +140,14 @@ lane_life up beside down low one now j i lo ll ln lane sum is =
     total : bit_of low.ones j i + 2 * twice + bit_of now j i ≡ sum_of up j i + (sum_of beside j i + bit_of now j i) + sum_of down j i
     total = omega (arith, sum)
 
--- an answer that uses the sums of the neighbours is an answer that uses the sums of the rows
+-- if `next` is Life's answer for sums that leave out the cell itself, it is Life's answer for the sums of three rows
 pub answers_neighbours : (up : Sum) (here : RowSums) (down : Sum) (now next : List ℕ) → AreBeside here now
     → AnswersNeighbours life up here.beside down now next → AnswersRows life up here.all down now next
 answers_neighbours up here down now next beside is j i low inside =
     is j i low inside
     ∙ ap (λ (n : ℕ). one_if (lives_by life (sum_of up j i + n + sum_of down j i) (bit_of now j i == 1))) (sym (beside j i low))
 
--- an answer that uses the total is an answer that uses the sums of the three rows
+-- if each total is the sum of three rows, the rule's answer for the totals is its answer for the sums of these rows
 pub answers_rows : (rule : Numbers) (total : Total) (up here down : Sum) (now next : List ℕ)
     → ((j i : ℕ) → j < 4 → total_of total j i ≡ sum_of up j i + sum_of here j i + sum_of down j i) → AnswersTotal rule total now next
     → AnswersRows rule up here down now next
@@ -155,7 +157,8 @@ answers_rows rule total up here down now next sum is j i low inside =
 
 -- ---- the words for each total
 
--- one more word
+-- if each bit of word m is f m for m < n, and each bit of `word` is f n, then setting word n to `word` extends this to
+-- m < n + 1
 pub words_more : (f : ℕ → ℕ) (words : List ℕ) (n word : ℕ) → n < length words
     → ((m i : ℕ) → m < n → i < 64 → bit_at (get_or words m 0) i ≡ f m) → ((i : ℕ) → i < 64 → bit_at word i ≡ f n)
     → (m i : ℕ) → m < n + 1 → i < 64 → bit_at (get_or (set words n word) m 0) i ≡ f m

@@ -15,7 +15,7 @@ bit_right w s i =
     let sum : 2 ^ s * 2 ^ i ≡ 2 ^ (i + s) = sym (pow-add 2 s i) ∙ ap (λ (n : ℕ). 2 ^ n) turned in
     ap (λ (n : ℕ). n % 2) (div-div-eq-div-mul w (2 ^ s) (2 ^ i) ∙ ap (λ (n : ℕ). w / n) sum)
 
--- taking the low 64 bits keeps these bits
+-- the 64 low bits of a number stay the same if it is taken modulo 2 ^ 64
 bit_kept : (n i : ℕ) → i < 64 → bit_at (n % 2 ^ 64) i ≡ bit_at n i
 bit_kept n i low =
     let whole : n / 2 ^ 64 * 2 ^ 64 + n % 2 ^ 64 ≡ n = omega arith in
@@ -31,13 +31,13 @@ bit_left_high w s i least low =
     let more : w * 2 ^ s ≡ w * 2 ^ s + 0 = omega arith in
     bit_kept (w * 2 ^ s) i low ∙ ap (λ (n : ℕ). bit_at n i) more ∙ bit_at_cat_high w s 0 i (pow_pos s) least
 
--- the bits of a word that are shifted into the next word
+-- a right shift by 64 - s, in two steps since s can be 0, moves bit i + 64 - s to bit i
 pub bit_second : (w s i : ℕ) → s < 64 → bit_at (w / 2 / 2 ^ (63 - s)) i ≡ bit_at w (i + 64 - s)
 bit_second w s i low =
     let at : i + (63 - s) + 1 ≡ i + 64 - s = omega arith in
     bit_right (w / 2) (63 - s) i ∙ bit_right w 1 (i + (63 - s)) ∙ ap (bit_at w) at
 
--- a word shifted left by 64 - s is 0 in its low 64 - s bits
+-- a left shift by 64 - s, in two steps since s can be 0, makes the low 64 - s bits 0
 bit_end_low : (w s i : ℕ) → s < 64 → i + s < 64 → bit_at (w * 2 % 2 ^ 64 * 2 ^ (63 - s) % 2 ^ 64) i ≡ 0
 bit_end_low w s i small low = split (cases_lt i (63 - s))
   where
@@ -56,7 +56,7 @@ bit_end_high w s i small low high =
     ∙ bit_left_high w 1 (i - (63 - s)) (omega arith) (omega arith)
     ∙ ap (bit_at w) at
 
--- ---- two words joined
+-- ---- joining two words
 
 no_second : (a b i : ℕ) → bit_at b i ≡ 0 → bit_at (bit_or a b) i ≡ bit_at a i
 no_second a b i none = omega (arith, bit_at_or a b i, none)
@@ -64,7 +64,7 @@ no_second a b i none = omega (arith, bit_at_or a b i, none)
 no_first : (a b i : ℕ) → bit_at a i ≡ 0 → bit_at (bit_or a b) i ≡ bit_at b i
 no_first a b i none = omega (arith, bit_at_or a b i, none)
 
--- the word from column s of two words on
+-- the 64 bits from column s on of two words side by side: the bits of `first` from s on, then low bits of `second`
 pub joined_left : (first second s i : ℕ) → s < 64 → i + s < 64
     → bit_at (bit_or (first / 2 ^ s) (second * 2 % 2 ^ 64 * 2 ^ (63 - s) % 2 ^ 64)) i ≡ bit_at first (i + s)
 joined_left first second s i small inside =

@@ -23,7 +23,7 @@ use Rattle.plane_core.proofs.lemmas.plane.RunLemmas.{in_order-after}
 
 -- ---- rows and lanes
 
--- row j n + k is lane j of vector k
+-- row j * n + k is lane j of vector k
 row_is_lane : (n : ℕ) (x : List (List ℕ)) (j k : ℕ) → k < n → row_at n x (j * n + k) ≡ lane_at x k j
 row_is_lane n x j k low = λ t. lane_at x (mod-mul-add j n k low t) (div-mul-add j n k low t)
 
@@ -60,11 +60,12 @@ below_last n x some =
 
 -- ---- sums of rows, lane by lane
 
--- the sums are those of vector k
+-- `s` has the row sums of the words of vector k
 abbrev pub AreOfVector : List (List ℕ) → Sum → ℕ → Type 0
 AreOfVector x s k = (j i : ℕ) → j < 4 → i < 64 → sum_of s j i ≡ row_sum (lane_at x k j) i
 
--- the sums are those of the rows above, at or below the rows of vector k
+-- `AreAbove`: `s` has the row sums of the rows just above the rows of vector k; `AreHere`: of the rows of vector k;
+-- `AreBelow`: of the rows just below the rows of vector k
 abbrev pub AreAbove : ℕ → List (List ℕ) → Sum → ℕ → Type 0
 AreAbove n x s k = (j i : ℕ) → j < 4 → i < 64 → sum_of s j i ≡ row_sum (row_above n x (j * n + k)) i
 
@@ -82,7 +83,7 @@ row_sum-empty (suc i) = omega (arith, bit_at-zero i, bit_at-zero (suc i), east (
     east true = refl
     east false = bit_at-zero (suc i + 1)
 
--- the row above a row of the first vector is in the previous lane of the last vector
+-- the sums above the first vector: lane j + 1 has the sums of lane j of the last vector, and lane 0 has zeros
 pub above_start : (n : ℕ) (x : List (List ℕ)) (last up : Sum) → 0 < n → ((i : ℕ) → sum_of up 0 i ≡ 0)
     → ((j i : ℕ) → j < 3 → sum_of up (j + 1) i ≡ sum_of last j i) → AreOfVector x last (n - 1) → AreAbove n x up 0
 above_start n x last up some first others is zero i low inside =
@@ -106,7 +107,7 @@ above_step n x s k is j i lane inside = is j i lane inside ∙ ap (λ (w : ℕ).
 pub below_step : (n : ℕ) (x : List (List ℕ)) (s : Sum) (k : ℕ) → k + 1 < n → AreOfVector x s (k + 1) → AreBelow n x s k
 below_step n x s k low is j i lane inside = is j i lane inside ∙ ap (λ (w : ℕ). row_sum w i) (sym (below_more n x j k lane low))
 
--- the row below a row of the last vector is in the next lane of the first vector
+-- the sums below the last vector: lane j has the sums of lane j + 1 of the first vector, and lane 3 has zeros
 pub below_stop : (n : ℕ) (x : List (List ℕ)) (first down : Sum) → 0 < n → ((j i : ℕ) → j < 3 → sum_of down j i ≡ sum_of first (j + 1) i)
     → ((i : ℕ) → sum_of down 3 i ≡ 0) → AreOfVector x first 0 → AreBelow n x down (n - 1)
 below_stop n x first down some others last is (suc (suc (suc zero))) i low inside =
@@ -114,14 +115,14 @@ below_stop n x first down some others last is (suc (suc (suc zero))) i low insid
 below_stop n x first down some others last is j i low inside =
     others j i (omega arith) ∙ is (j + 1) i (omega arith) inside ∙ ap (λ (w : ℕ). row_sum w i) (sym (below_end n x j some (omega arith)))
 
--- ---- vectors made one after another
+-- ---- the next generation, vector by vector
 
--- each of the first `count` vectors consists of rows of the next generation
+-- the lanes of the first `count` vectors of y are the rows of these vectors of x one generation later
 abbrev pub AreMade : Numbers → ℕ → List (List ℕ) → List (List ℕ) → ℕ → Type 0
 AreMade rule n x y count = (k : ℕ) → k < count → (j : ℕ) → j < 4
     → IsNextRow rule (row_above n x (j * n + k)) (row_at n x (j * n + k)) (row_below n x (j * n + k)) (lane_at y k j)
 
--- a vector that answers the sums of the rows consists of rows of the next generation
+-- if `next` answers the sums above, at and below vector k, its lanes are the rows of vector k one generation later
 pub made_next : (rule : Numbers) (n : ℕ) (x : List (List ℕ)) (up here down : Sum) (now next : List ℕ) (k : ℕ) → k < n → AreAbove n x up k → AreHere n x here k
     → AreBelow n x down k → now ≡ get_or x k [] → AnswersRows rule up here down now next → (j : ℕ) → j < 4
     → IsNextRow rule (row_above n x (j * n + k)) (row_at n x (j * n + k)) (row_below n x (j * n + k)) (slice_index next j)
@@ -130,7 +131,8 @@ made_next rule n x up here down now next k low p q r same is j lane i inside =
     is j i lane inside
     ∙ (λ t. one_if (lives_by rule (p j i lane inside t + q j i lane inside t + r j i lane inside t) (bit_at (word t) i == 1)))
 
--- a property of each word of the first vectors is extended to one more vector
+-- if P holds for each word of the vectors before vector k, and for each word of `next`, it holds for the first k + 1
+-- vectors once vector k is set to `next`
 pub vectors_more : (P : ℕ → ℕ → ℕ → Type 0) (y : List (List ℕ)) (next : List ℕ) (k : ℕ) → k < length y
     → ((m : ℕ) → m < k → (j : ℕ) → j < 4 → P m j (lane_at y m j)) → ((j : ℕ) → j < 4 → P k j (slice_index next j))
     → (m : ℕ) → m < k + 1 → (j : ℕ) → j < 4 → P m j (lane_at (set y k next) m j)
@@ -152,7 +154,8 @@ pub made_more : (rule : Numbers) (n : ℕ) (x y : List (List ℕ)) (next : List 
 made_more rule n x y next k =
     vectors_more (λ m j w. IsNextRow rule (row_above n x (j * n + m)) (row_at n x (j * n + m)) (row_below n x (j * n + m)) w) y next k
 
--- the vectors before vector k are computed, and the sums above it and its own sums are known
+-- The vectors of y before vector k are computed, and the others are still those of x. The sums of the rows of vector k
+-- and of the rows above them are known.
 pub record AreMadeTo (rule : Numbers) (n : ℕ) (x y : List (List ℕ)) (up : Sum) (here : RowSums) (k : ℕ) : Type 0 where
   pub low : k < n
   pub long : length y ≡ n
@@ -162,7 +165,7 @@ pub record AreMadeTo (rule : Numbers) (n : ℕ) (x y : List (List ℕ)) (up : Su
   pub made : AreMade rule n x y k
   pub rest : (m : ℕ) → k ≤ m → get_or y m [] ≡ get_or x m []
 
--- one more vector is computed
+-- if z is y with vector k computed too, then `AreMadeTo` holds for z and vector k + 1
 pub made_to_next : (rule : Numbers) (n : ℕ) (x y z : List (List ℕ)) (up : Sum) (here below : RowSums) (k later : ℕ) → later ≡ k + 1
     → k + 1 < n → AreMadeTo rule n x y up here k → IsVectorMade rule k up here below y z → AreMadeTo rule n x z here.all below later
 made_to_next rule n x y z up here below k later next low before one =
@@ -182,7 +185,7 @@ made_to_next rule n x y z up here below k later next low before one =
     sums : AreOfVector x below.all (k + 1)
     sums j i lane inside = one.sums j i lane inside ∙ ap (λ (v : List ℕ). row_sum (slice_index v j) i) (before.rest (k + 1) (omega arith))
 
--- if all vectors are computed, all rows are
+-- if all n vectors of y are computed, y is the window x one generation later
 pub all_made : (rule : Numbers) (n : ℕ) (x y : List (List ℕ)) → 0 < n → AreMade rule n x y n → IsNextWindow rule n x y
 all_made rule n x y some made r low =
     let k : r % n < n = mod_below r n some in
@@ -193,7 +196,7 @@ all_made rule n x y some made r low =
     ∙ (λ t. one_if (lives_by rule (row_sum (row_above n x (at t)) i + row_sum (row_at n x (at t)) i + row_sum (row_below n x (at t)) i)
     (bit_at (row_at n x (at t)) i == 1)))
 
--- ---- cells
+-- ---- the cells that a window shows
 
 pub one_if-is : (b : Bool) → (one_if b == 1) ≡ b
 one_if-is true = refl
@@ -215,7 +218,8 @@ bit_if S word i e c same shown =
     one (suc zero) low = refl
     one (suc (suc n)) low = absurd (omega arith)
 
--- the row sum of a window is the number of live cells among a cell and its left and right neighbours
+-- the sum at column i of row r is the number of live cells among the cell there and its left and right neighbours, if
+-- the cell is more than `depth` cells inside
 row_shown : (S : List Cell) (n : ℕ) (left top : ℤ) (depth : ℕ) (x : List (List ℕ)) → InOrder S → IsShownInside n left top depth x S → (e : Cell) (r i : ℕ)
     → depth ≤ r → r + depth < 4 * n → depth + 1 ≤ i → i + depth + 1 < 64 → e ≡ in_window left top i r
     → row_total S e ≡ row_sum (row_at n x r) i
@@ -250,7 +254,8 @@ row_shown S n left top depth x o shown e r (suc i) h1 h2 h3 h4 is =
         (ap (moved_by (pos 1) (pos 0)) is ∙ same_cell_at _ _ _ _ (omega (arith, ints)) (omega (arith, ints)))
         (shown r (suc i + 1) h1 h2 (omega arith) (omega arith))
 
--- three row sums count the live cells in the neighbourhood of a cell one further inside
+-- the sums of three rows add up to the live cells around a cell, plus one if the cell is alive, if it is more than
+-- `depth` cells inside
 block_shown : (S : List Cell) (n : ℕ) (left top : ℤ) (depth : ℕ) (x : List (List ℕ)) → InOrder S → IsShownInside n left top depth x S → (r i : ℕ)
     → depth + 1 ≤ r → r + depth + 1 < 4 * n → depth + 1 ≤ i → i + depth + 1 < 64
     → row_sum (row_above n x r) i + row_sum (row_at n x r) i + row_sum (row_below n x r) i

@@ -9,9 +9,9 @@ use Rattle.std.proofs.lemmas.Nat.Bits.{bit_at-lt, bit_at_above, bit_at_cat_low, 
 use Rattle.plane_core.specs.plane.Generations.{lives_by}
 use Rattle.plane_core.specs.windows.Words.{west_of, east_of, one_if, life}
 
--- ---- moved by a place
+-- ---- words moved by one place
 
--- a word shifted up by one, whose first bit is the last bit of the previous word
+-- in a word shifted up by one, with the last bit of the previous word put first, bit i is the cell west of cell i
 pub bit_from_west : (before here i : ℕ) → before < 2 ^ 64 → here < 2 ^ 64 → i < 64
     → bit_at (bit_or (here * 2 % 2 ^ 64) (before / 2 ^ 63)) i ≡ west_of before here i
 bit_from_west before here zero b h low =
@@ -25,7 +25,7 @@ bit_from_west before here (suc i) b h low =
     bit_at-suc (here * 2 % 2 ^ 64) i ∙ ap (λ (n : ℕ). bit_at n i) half ∙ sym kept in
     omega (arith, bit_at_or (here * 2 % 2 ^ 64) (before / 2 ^ 63) (suc i), moved, bit_at_above (before / 2 ^ 63) 1 (suc i) (omega arith) (omega arith))
 
--- a word shifted down by one, whose last bit is the first bit of the next word
+-- in a word shifted down by one, with the first bit of the next word put last, bit i is the cell east of cell i
 pub bit_from_east : (here after i : ℕ) → here < 2 ^ 64 → i < 64 → bit_at (bit_or (here / 2) (after * 2 ^ 63 % 2 ^ 64)) i ≡ east_of here after i
 bit_from_east here after i h low = split (i == 63) refl
   where
@@ -68,7 +68,7 @@ full_adder a b c i = omega (
   bit_at-lt c i,
 )
 
--- the digits of a sum of two pairs of digits, of which the second pair counts twice
+-- the four binary digits of the sum a + 2 b + 2 (c + 2 d), at bit i
 pub joined_digits : (a b c d i : ℕ)
     → bit_at a i + 2 * bit_at (bit_xor b c) i + 4 * bit_at (bit_xor d (bit_and b c)) i + 8 * bit_at (bit_and d (bit_and b c)) i
     ≡ bit_at a i + 2 * bit_at b i + 2 * (bit_at c i + 2 * bit_at d i)
@@ -96,13 +96,13 @@ choice_bit test one other i =
     (bit_at_and (bit_xor other one) test i ∙ ap (λ (m : ℕ). min m (bit_at test i)) (bit_at_xor other one i))
     ∙ chosen (bit_at test i) (bit_at one i) (bit_at other i) (bit_at-lt test i) (bit_at-lt one i) (bit_at-lt other i)
 
--- a digit of weight k chooses between two answers
+-- choosing between g (n + k) and g n by a digit d gives g (n + k * d)
 pub by_digit : (g : ℕ → ℕ) (n k d : ℕ) → d < 2 → cond (d == 1) (g (n + k)) (g n) ≡ g (n + k * d)
 by_digit g n k zero low = ap g (omega arith)
 by_digit g n k (suc zero) low = ap g (omega arith)
 by_digit g n k (suc (suc d)) low = absurd (omega arith)
 
--- a sum of 8 or 9 has digit eight, and no digit four or two
+-- for a sum of nine at most, choosing by its digit eight gives g of the sum: if d is 1, then b and c are 0
 pub by_eights : (g : ℕ → ℕ) (a b c d : ℕ) → a < 2 → b < 2 → c < 2 → d < 2 → a + 2 * b + 4 * c + 8 * d ≤ 9
     → cond (d == 1) (g (8 + a)) (g (a + 2 * b + 4 * c)) ≡ g (a + 2 * b + 4 * c + 8 * d)
 by_eights g a b c zero p q r s t = ap g (omega arith)
@@ -129,11 +129,9 @@ by_nine g a b c d high x y low r ha hb hc hd small p q s e f =
     let low_is : low ≡ g (a + 2 * b + 4 * c) = e ∙ (λ i. cond (c == 1) (x_is i) (y_is i)) ∙ by_digit g (a + 2 * b) 4 c hc in
     f ∙ (λ i. cond (d == 1) (p i) (low_is i)) ∙ by_eights g a b c d ha hb hc hd small
 
--- ---- counts
-
 -- ---- Life
 
--- the test for exactly one of four bits
+-- the formula is 1 exactly if one of the four bits a, b, c and d is 1
 pub one_of_four : (a b c d : ℕ) → a < 2 → b < 2 → c < 2 → d < 2
     → (((a + b) % 2 + (c + d) % 2) % 2 + min (((a + b) % 2 + (c + d) % 2) % 2) (max (min a b) (min c d))) % 2 ≡ one_if (a + b + c + d == 1)
 one_of_four (suc (suc a)) b c d p q r s = absurd (omega arith)

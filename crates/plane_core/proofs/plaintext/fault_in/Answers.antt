@@ -9,7 +9,7 @@ use Rattle.plane_core.specs.Plaintext.{first_fault}
 use Rattle.plane_core.proofs.plaintext.fault_in.Goals as goal
 use Rattle.plane_core.proofs.plaintext.fault_in.Goals.{In-Some, In-None}
 
--- the loop is at this part of the text, or past the last
+-- the line that an iteration gets is the next part of the text
 next_line : (c : In-Some) → IsNext (parts_of c.args.text.now) c.loop-line.number c.in-Some.line.now
 next_line c = rw c.loop-line.invariant.0 (
     YieldsList-turn (YieldsList-from_slice_split _ (λ b. b == line_feed) c.args.text.now (cc) (cc) (cc) (λ x b q k. search (rules, tests)))

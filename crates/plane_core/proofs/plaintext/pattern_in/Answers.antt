@@ -13,7 +13,7 @@ use Rattle.plane_core.proofs.lemmas.plaintext.PlaintextLines.{cells_of_row, no_c
 use Rattle.plane_core.proofs.plaintext.pattern_in.Goals as goal
 use Rattle.plane_core.proofs.plaintext.pattern_in.Goals.{In-Some, In-None}
 
--- the loop is at this part of the text, or past the last
+-- the line that an iteration gets is the next part of the text
 next_line : (c : In-Some) → IsNext (parts_of c.args.text.now) (length c.loop-line.yielded) c.in-Some.line.now
 next_line c =
     YieldsList-turn (YieldsList-from_slice_split _ (λ b. b == line_feed) c.args.text.now (cc) (cc) (cc) (λ x b q k. search (rules, tests)))

@@ -5,7 +5,7 @@ use Rattle.plane_core.proofs.lemmas.plaintext.PlaintextWriting.{Writes_as, repli
 use Rattle.plane_core.specs.PlaintextPlaces.{dot}
 use Rattle.plane_core.proofs.plaintext.put_after_gap.Goals as goal
 
--- how many dead cells are written at once
+-- `some` dead cells are written at once: all that are left, up to 64
 module _ (some left : ℕ) (is : some ≡ min left 64) where
   in_table : some ≤ 64
   in_table = omega (arith, is)

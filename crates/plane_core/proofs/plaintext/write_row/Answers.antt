@@ -11,7 +11,7 @@ use Rattle.plane_core.specs.PlaintextWalk.{IsBox}
 use Rattle.plane_core.specs.PlaintextPlaces.{dot, letter_o, line_feed}
 use Rattle.plane_core.proofs.plaintext.write_row.Goals as goal
 
--- columns of a row, and those past a cell and past the row
+-- the columns of a box, the column just past a cell and the column just past the box fit in 32 bits
 left_fits : (b : Bounds) → IsBox b → FitsSigned w32 b.left
 left_fits b box = let left = box.left in let right = box.right in let wide = box.wide in omega (arith, ints)
 

@@ -8,7 +8,7 @@ use Rattle.ranges.specs.declared.range.Range.{Range}
 use Rattle.ranges.proofs.range.with_numbers.Goals as goal
 use Rattle.ranges.proofs.range.with_numbers.Goals.{then-range-gt0+in_ok-push, else-range-gt0}
 
--- the next range has numbers and is kept
+-- if the next range has numbers, it is kept
 kept : (rs : List Range) (i : ℕ) (d : Range) (some new : List Range) → i < length rs → 0 < (get_or rs i d).count → some ≡ filter has_numbers (take i rs)
     → new ≡ some ++ get_or rs i d ∷ [] → new ≡ filter has_numbers (take (i + 1) rs)
 kept rs i d some new low some_count so_far is =
@@ -16,7 +16,7 @@ kept rs i d some new low some_count so_far is =
     ∙ sym (filter_more has_numbers rs i d low
     ∙ ap (λ (b : Bool). filter has_numbers (take i rs) ++ cond b (get_or rs i d ∷ []) []) (lt-ltb 0 (get_or rs i d).count some_count))
 
--- the next range is empty and left out
+-- if the next range is empty, it is left out
 left_out : (rs : List Range) (i : ℕ) (d : Range) (some : List Range) → i < length rs → (get_or rs i d).count ≤ 0 → some ≡ filter has_numbers (take i rs)
     → some ≡ filter has_numbers (take (i + 1) rs)
 left_out rs i d some low no_count so_far =

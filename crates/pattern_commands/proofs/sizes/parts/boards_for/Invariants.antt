@@ -2,7 +2,7 @@ use Rattle.std.proofs.Common.{◌-◌, ◌*◌, ◌≤◌, length, take}
 use Rattle.pattern_commands.specs.SizeSteps.{IsGap, RunApart}
 use Rattle.pattern_commands.proofs.sizes.parts.boards_for.Given as goal
 
--- the boards are those of the parts before this place, which is after a gap
+-- the boards hold the parts of the pattern before place `from`, and there is a gap before `from`
 abbrev pub invariant-loop-from : goal.invariant-loop-from
 invariant-loop-from l = record {
   within : l.from ≤ length l.pattern;

@@ -11,13 +11,13 @@ use Rattle.plane_core.proofs.lemmas.engine.ActiveBoxLemmas.{cell_box_sides, cell
 use Rattle.plane_core.proofs.lemmas.plane.SetLemmas.{has-all}
 use Rattle.plane_core.proofs.engine.active_boxes.put_in_boxes.Goals as goal
 
--- the box of a cell is within the same bound as the cells
+-- if the cells are within `n` columns and rows of the origin, the sides of a cell's box are too
 sides_at : (cells : List Cell) (i : ℕ) (d : Cell) (part : Bounds) (n : ℕ) → i < length cells → part ≡ box_at (get_or cells i d)
     → lies_within n cells ≡ true → AreSidesWithin n part
 sides_at cells i d part n low is e =
     subst (λ (b : Bounds). AreSidesWithin n b) (sym is) (cell_box_sides n (get_or cells i d) (passes_at (is_within n) cells i d low e))
 
--- a cell is in the boxes if its box is
+-- if all cells of a cell's box are in the boxes, so is the cell
 held_at : (cells : List Cell) (i : ℕ) (d : Cell) (part : Bounds) (boxes : List Bounds) → part ≡ box_at (get_or cells i d)
     → ((c : Cell) → IsWithin part c → IsInOne boxes c) → IsInOne boxes (get_or cells i d)
 held_at cells i d part boxes is held =

@@ -14,11 +14,11 @@ within_64 n low = omega (arith, low)
 lit : (w i : ℕ) → bit_and (w / 2 ^ i) 1 ≢ 0 → bit_at w i ≡ 1
 lit w i some = omega (arith, bit_at-lt w i, shr_and_one w i, some)
 
--- the flood of one cell
+-- a flood of one cell, at this row and column
 abbrev begun : ℕ → ℕ → List ℕ
 begun row column = slice_set (replicate 64 0) row (1 * 2 ^ column % 2 ^ 64)
 
--- a pass down and a pass up
+-- after one more pass down and one more pass up, the flood has still grown from `start`
 both : (rows start flood down up : List ℕ) → HasGrown rows start flood → HasGrown rows flood down → HasGrown rows down up → HasGrown rows start up
 both rows start flood down up p q r = grown_more rows start down up (grown_more rows start flood down p q) r
 

@@ -2,7 +2,7 @@ use Rattle.std.proofs.Common.{◌≡◌, ◌+◌, ◌≤◌, ◌∷◌, ◌++◌
 use Rattle.plane_core.specs.plane.Rules.{digits}
 use Rattle.plane_core.proofs.plane.rule.put_numbers.Given as goal
 
--- the text consists of the bytes that were put and the digits of the remaining answers
+-- the final text is the bytes written so far, followed by the digits of the remaining answers
 abbrev pub invariant-loop-i : goal.invariant-loop-i
 invariant-loop-i l = record {
   end : l.end ≤ l.place + 1 + l.i;

@@ -30,7 +30,7 @@ bounds-logic-i g c = c.loop-i-test.true
 pub slice_bounds-remainder-count : goal.slice_bounds-remainder-count
 slice_bounds-remainder-count g c = c.if-starts_with.ensures.bound refl
 
--- a digit's byte
+-- i, and the bytes of the digits `least` and `least` + i, fit in 8 bits
 digit_fits : (least i count : ℕ) → least + count ≤ 10 → i < count → (Fits w8 i) × (Fits w8 (48 + least)) × (Fits w8 (48 + least + i))
 digit_fits least i count few low = (omega arith, omega arith, omega arith)
 

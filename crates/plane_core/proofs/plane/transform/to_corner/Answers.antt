@@ -22,7 +22,7 @@ loop-cell-preserved c =
     ap Some (c.grown.ensures ∙ (λ i. grown (c.image_of.ensures i) (c.loop-cell.invariant i)))
     ∙ sym (image_box_more (turned_cell c.args.orientation) c.args.cells.now c.loop-cell.cell-index _ c.loop-cell-test.true)
 
--- the box is the box of the image of all cells
+-- after the loop, `bounds` is the box of the images of all cells
 all : (c : After-loop-cell) → c.loop-cell.bounds ≡ box_of (map (turned_cell c.args.orientation) c.args.cells.now)
 all c =
     c.loop-cell.invariant

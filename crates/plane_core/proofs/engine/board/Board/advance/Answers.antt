@@ -8,7 +8,7 @@ use Rattle.plane_core.proofs.lemmas.plane.RunLemmas.{after-plus}
 use Rattle.plane_core.proofs.engine.board.Board.advance.Goals as goal
 use Rattle.plane_core.proofs.engine.board.Board.advance.Goals.{then-most-eq1+in_ok-made, else-most-eq1}
 
--- the largest even number up to the number of generations left is even
+-- the number of generations left, rounded down to a multiple of 2, is even
 left_even : (most made : ℕ) → ((most - made) / 2 * 2) % 2 ≡ 0
 left_even most made = omega arith
 
@@ -24,7 +24,8 @@ fewer_left most made count leapt some few all = omega arith
 less : (most made : ℕ) → most - made ≤ most
 less most made = omega arith
 
--- the largest even number up to the smaller of `left` and 4 is from 1 to 4
+-- the smaller of `left` and 4, rounded down to a multiple of 2, is at least 1 if `left` is at least 2, and it is at
+-- most 4 and at most `left`
 some_even : (left few : ℕ) → 2 ≤ left → few ≡ min left 4 → 1 ≤ few / 2 * 2
 some_even left few some is = omega arith
 
@@ -91,7 +92,7 @@ returns-then-still-clause-after c =
     sym (c.is_still-still.ensures c.if-still.true left (left_even c.args.most made))
     ∙ (λ i. after (before.rule i) (before.after i) left) ∙ after-plus rule cells made left
 
--- one more leap doesn't exceed the most generations
+-- after one more leap, at most `most` generations were made
 more_made : (most made count leapt : ℕ) → made ≤ most → count ≤ most - made → leapt ≤ count → made + leapt ≤ most
 more_made most made count leapt low few all = omega arith
 

@@ -29,7 +29,7 @@ centred-requires-clause-frame c = c.self.invariant.board.frame
 pub centred-requires-clause-plane : goal.centred-requires-clause-plane
 centred-requires-clause-plane c = c.self.invariant.plane
 
--- the same lists under other names
+-- `IsSpannedBoard` holds for equal words and spans
 same_board : (at : Frame) (rule : Numbers) (ws vs : List ℕ) (bs : List Bounds) (ss ts : List RowSpan) → vs ≡ ws → ts ≡ ss
     → IsSpannedBoard at rule ws bs true ss → IsSpannedBoard at rule vs bs true ts
 same_board at rule ws vs bs ss ts words spans board =

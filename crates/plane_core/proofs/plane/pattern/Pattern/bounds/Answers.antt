@@ -10,7 +10,7 @@ loop-cell-preserved c =
     ap Some (c.grown.ensures ∙ ap (grown _) c.loop-cell.invariant)
     ∙ sym (box_more c.cells-cell-items.result.now c.loop-cell.cell-index _ c.loop-cell-test.true)
 
--- after the loop, the box is the box of all cells
+-- after the loop, `bounds` is the box of all cells
 all : (c : After-loop-cell) → c.loop-cell.bounds ≡ box_of c.args.self.now
 all c = c.loop-cell.invariant ∙ ap box_of (take_all c.loop-cell.cell-index c.cells-cell-items.result.now c.loop-cell-test.false ∙ c.cells-cell-items.ensures.cells)
 

@@ -24,7 +24,7 @@ loop-place-init c =
 pub overflow_add-count : goal.overflow_add-count
 overflow_add-count c = fits_one_more _ (count_low _ _ _ _ _ _ _ c.loop-place-test.true c.loop-place.invariant)
 
--- the run continues
+-- if the next cell in `near` equals this cell, the run of equal cells continues, and its count grows by one
 pub loop-place-preserved-then-eq : goal.loop-place-preserved-then-eq
 loop-place-preserved-then-eq c =
     let near = c.loop-place.near.items in
@@ -34,7 +34,7 @@ loop-place-preserved-then-eq c =
     (next_tells near c.loop-place.place cell next _ true (inside _ _ _ c.if-place-end.true c.loop-place.invariant.whole) c.index-then-place-end.ensures
     (sym (same_cell-eq next cell) ∙ sym c.eq.ensures ∙ c.if-eq.true))
 
--- at the end of a run, the cell is tested by the rule
+-- at the end of a run of equal cells, the rule decides by the run's length whether the cell is kept
 pub loop-place-preserved : goal.loop-place-preserved
 loop-place-preserved c =
     let near = c.loop-place.near.items in

@@ -20,7 +20,7 @@ returns-then-not-is_on_plane-clause-refused c =
     sym c.loop-index.invariant
     ∙ position-here off_plane c.args.cells.now c.loop-index.index _ c.loop-index-test.true (ap not (sym c.if-not-is_on_plane.ensures))
 
--- after the loop, all cells are known to be on the plane
+-- after the loop, no cell is off the plane
 none_off : (c : After-loop-index) → position off_plane c.args.cells.now ≡ None
 none_off c = sym c.loop-index.invariant ∙ position-past off_plane c.args.cells.now c.loop-index.index c.loop-index-test.false
 

@@ -5,7 +5,7 @@ use Rattle.plane_core.specs.plane.Cells.{InOrder, cell_at, has}
 use Rattle.plane_core.proofs.lemmas.plane.SearchLemmas.{searched-has}
 use Rattle.plane_core.proofs.plane.pattern.Pattern.has.Goals as goal
 
--- the cells that are searched are in order
+-- the list of cells is in order, so the binary search finds a cell exactly if the list has it
 pub returns : goal.returns
 returns c =
     let fits_x : FitsSigned w32 c.args.x = c.ranges.x in

@@ -13,7 +13,6 @@ use Rattle.plane_core.proofs.lemmas.plane.RunLemmas.{after-plus, inside-more}
 use Rattle.plane_core.proofs.lemmas.plane.SpeedLemmas.{run_inside}
 use Rattle.plane_core.proofs.plane.pattern.Pattern.run.Goals as goal
 
--- some generations are left
 some_left : (made generations : ℕ) → made < generations → 0 < generations - made
 some_left made generations low = omega arith
 
@@ -24,7 +23,7 @@ loop-made-init c = record {
   inside = λ g low. absurd (omega arith);
 }
 
--- the loop's step, on boards
+-- an iteration that advances by several generations on a board
 pub loop-made-preserved-in-Some : goal.loop-made-preserved-in-Some
 loop-made-preserved-in-Some c =
     let rule = c.args.rule.now in
@@ -42,7 +41,7 @@ loop-made-preserved-in-Some c =
           (λ g low. ap (λ (S : List Cell). touches_edge (after rule S g)) (sym before.later) ∙ stretch.inside g low);
     }
 
--- the loop's step, by one generation
+-- an iteration that advances by one generation
 pub loop-made-preserved : goal.loop-made-preserved
 loop-made-preserved c =
     let rule = c.args.rule.now in
@@ -67,7 +66,8 @@ refused_at_edge : (cells : List Cell) (error : StepError) → RefusesStep cells 
 refused_at_edge cells Edge refused e = refused
 refused_at_edge cells (Memory error) refused e = cc
 
--- the step's error isn't `Edge` if the pattern starts far enough from the edge: it can't get there in so few generations
+-- if the pattern begins far enough from the edge, the error of the step isn't `Edge`: in `generations` generations the
+-- pattern can't reach the edge
 pub returns-in_err-pattern-in-None-clause-never_edge : goal.returns-in_err-pattern-in-None-clause-never_edge
 returns-in_err-pattern-in-None-clause-never_edge c reach h far e =
     let told = err_from_is_err_and c.from_residual-in_err-pattern-in-None.result c.from_residual-in_err-pattern-in-None.ensures.1 in
@@ -79,7 +79,7 @@ returns-in_err-pattern-in-None-clause-never_edge c reach h far e =
     ∙ run_inside c.args.rule.now c.args.self.now reach c.loop-made.made c.args.generations h far c.loop-made-test.true in
     false≢true (sym off ∙ on)
 
--- the pattern itself touches the edge
+-- if the pattern begins far enough from the edge, the branch for a pattern that touches the edge isn't taken
 pub returns-then-touches_edge-clause-never_edge : goal.returns-then-touches_edge-clause-never_edge
 returns-then-touches_edge-clause-never_edge c = λ reach h far e.
     let on = sym c.touches_edge.ensures ∙ c.if-touches_edge.true in

@@ -13,7 +13,7 @@ use Rattle.plane_core.proofs.plane.pattern.Pattern.shift.Goals as goal
 cells_on : (c : After-cells-cells) → list_all on_plane c.cells-cells.result.now ≡ true
 cells_on c = subst (λ (cells : List Cell). list_all on_plane cells ≡ true) (sym c.cells-cells.ensures.cells) c.cells-cells.ensures.pattern.on_plane
 
--- after the loop, the moved cells are known to be on the plane
+-- after the loop, all moved cells are on the plane
 on : (c : After-loop-cell) → list_all on_plane (shifted c.args.dx c.args.dy c.args.self.now) ≡ true
 on c =
     let fits_x : FitsSigned w32 c.args.dx = c.ranges.dx in
@@ -26,7 +26,7 @@ pub landing-requires : goal.landing-requires
 landing-requires c =
     all_at on_plane c.cells-cells.result.now c.loop-cell.cell-index _ c.loop-cell-test.true (cells_on (goal.at.landing-requires c).After-cells-cells)
 
--- the next cell is on the plane after the move exactly if its landing is
+-- the next cell, once moved, is on the plane exactly if the result of `landing` is
 lands : (c : After-landing) → on_plane (moved_by c.args.dx c.args.dy (get_or c.cells-cells.result.now c.loop-cell.cell-index (record { y = pos 0; x = pos 0 })))
     ≡ on_plane c.landing.result
 lands c =

@@ -16,7 +16,7 @@ at_corner c = rw (c.in-Some.is, c.cells-cells.ensures.cells) at c.to_corner.ensu
 on : (c : In-Some) → list_all on_plane (turned c.args.orientation c.args.self.now) ≡ true
 on c = let told = rw (c.in-Some.is, c.cells-cells.ensures.cells) at c.to_corner.ensures.plane in sym told
 
--- the cells after the transform are the image
+-- the transformed cells, put in order, are the turned pattern
 placed : (c : After-in_order) → c.in_order.result.items ≡ turned c.args.orientation c.args.self.now
 placed c =
     c.in_order.ensures

@@ -10,7 +10,7 @@ use Rattle.plane_core.proofs.lemmas.plaintext.PlaintextWriting.{Writes_as, box_t
 use Rattle.plane_core.proofs.plane.pattern.Pattern.write_plaintext.Goals as goal
 use Rattle.plane_core.proofs.plane.pattern.Pattern.write_plaintext.Goals.{After-cells-remainder}
 
--- the numbers of a box's rows, and one row more, fit their type
+-- the row numbers of a box, and the number of the row just below it, fit in 32 bits
 top_fits : (b : Bounds) → IsBox b → FitsSigned w32 b.top
 top_fits b box = let top = box.top in let bottom = box.bottom in let high = box.high in omega (arith, ints)
 
@@ -42,7 +42,7 @@ module _ (b : Bounds) (y : ℤ) (box : IsBox b) (from : b.top ≤ℤ y) (inside 
   next_inside : (b.top ≤ℤ (y +ℤ pos 1)) × ((y +ℤ pos 1) ≤ℤ (b.bottom +ℤ pos 1))
   next_inside = (omega (arith, ints), omega (arith, ints))
 
--- the box of the pattern, and its cells
+-- the bounds of the pattern satisfy `IsBox`
 is_box : (g : _) (c : After-cells-remainder g) → IsBox c.in-Some.bounds
 is_box g c = IsBox-box_of c.args.self.now c.in-Some.bounds c.cells-remainder.ensures.pattern (sym c.in-Some.ensures.bounds)
 

@@ -6,7 +6,7 @@ use Rattle.plane_core.specs.PlaintextWalk.{IsAhead}
 use Rattle.plane_core.proofs.lemmas.plaintext.PlaintextWriting.{rows_remainder, SameFrom}
 use Rattle.plane_core.proofs.plane.pattern.Pattern.write_plaintext.Given as goal
 
--- the rows above row y have been written, and the remaining cells are those of the other rows
+-- the rows above row y have been written, and the remaining cells are those from row y on
 abbrev pub invariant-loop-y : goal.invariant-loop-y
 invariant-loop-y g l =
     (l.bounds.top ≤ℤ l.y) × (l.y ≤ℤ (l.bounds.bottom +ℤ pos 1)) × IsAhead l.y l.bounds l.remainder × SameFrom l.y l.self l.remainder
