@@ -54,7 +54,7 @@ module _ {V : Type 0} {contents : V → Option (List ℕ)} where
   Writes_stops {r = Ok _} b h p = cc
   Writes_stops {r = Err _} {a} b h p = record { remembers = p.remembers; whole = tt; prefix = AppendsPrefix-longer _ _ a b p.prefix }
 
-  -- a call that fails to write a text may return another error
+  -- the error of a call that fails to write a text can be replaced by another error
   pub Writes_fails : {E F : Type 0} {x y : Output V} {e : E} {r : Result (Unit {0}) F} {a : List ℕ} → IsErr r → Writes contents x y (Err e) a
       → Writes contents x y r a
   Writes_fails {r = Ok _} h p = cc

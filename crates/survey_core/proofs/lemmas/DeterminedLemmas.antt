@@ -27,7 +27,7 @@ use Rattle.survey_core.proofs.lemmas.rest.RestLemmas.{cluster_some}
 
 -- ---- objects
 
--- the codes of some clusters are unique
+-- a list of clusters has only one list of codes
 one_list_of_codes : (rule : Numbers) (limit : ℕ) (clusters : List (List Cell)) (one other : List (List ℕ)) → All (λ cluster. cluster ≢ []) clusters
     → AllZip (λ cluster code. IsCode rule cluster limit code) clusters one → AllZip (λ cluster code. IsCode rule cluster limit code) clusters other
     → one ≡ other
@@ -77,7 +77,8 @@ pub count-head : (object : List ℕ × ℕ) (objects : List (List ℕ × ℕ)) �
 count-head object objects =
     ap (λ (b : Bool). unwrap_or (cond b (Some object.1) (lookup (is_code object.0) objects)) 0) (ap is_eq (tied_itself nat_list_cmp_total object.0))
 
--- the first code of a list doesn't come before the first code of a sorted list that counts it equally often
+-- if a sorted list counts the first code of another list as often as that list does, this code doesn't come before the
+-- first code of the sorted list
 not_before : (x y : List ℕ × ℕ) (xs ys : List (List ℕ × ℕ)) → 1 ≤ x.1 → IsStrictlySortedBy (slice_cmp nat_cmp) (keys_of (y ∷ ys))
     → count_of (x ∷ xs) x.0 ≡ count_of (y ∷ ys) x.0 → code_cmp x.0 y.0 ≢ Less
 not_before x y xs ys some order same less =
@@ -142,7 +143,7 @@ same_objects rule profile cells one other good fine h k =
     one_list_of_objects one other h.counted.lawful counted.lawful
     (λ code. h.counted.counts code ∙ ap (λ (list : List (List ℕ)). count_by (is_code code) list) codes ∙ sym (counted.counts code))
 
--- the mark that says whether they stay for good is unique, too
+-- the mark of whether the objects stay for good is unique, too
 same_mark : (rule : Numbers) (profile : Settling) (cells : List Cell) (objects : List (List ℕ × ℕ)) (good fine : Bool)
     → IsSettled rule profile cells objects good → IsSettled rule profile cells objects fine → good ≡ fine
 same_mark rule profile cells objects good fine h k =

@@ -12,7 +12,7 @@ use Rattle.survey_core.specs.Findings.{IsFinding, IsSettled, NoRestBefore, Settl
 use Rattle.survey_core.specs.Profiles.{IsCheckpoint, Settling}
 use Rattle.survey_core.specs.rest.Rest.{IsAtRest}
 
--- g generations and then n more
+-- n generations after generation g is generation g + n
 pub after-then : (rule : Numbers) (cells : List Cell) (g n : ℕ) → after rule (after rule cells g) n ≡ after rule cells (g + n)
 after-then rule cells g zero = after-none rule (after rule cells g) ∙ ap (after rule cells) (sym (add-zero g))
 after-then rule cells g (suc n) =
@@ -38,14 +38,14 @@ next_checkpoint profile t here within = record {
   within = within;
 }
 
--- the program's test of whether the next checkpoint is within the limit
+-- if the program's test passes, that the stride is at most the limit less t, the next checkpoint is within the limit
 pub room_for_more : (limit stride l s t : ℕ) → l ≡ limit → s ≡ stride → t ≤ limit → s ≤ l - t → t + stride ≤ limit
 room_for_more limit stride l s t l_is s_is here room = omega arith
 
 pub no_room : (limit stride l s t : ℕ) → l ≡ limit → s ≡ stride → l - t < s → limit < t + stride
 no_room limit stride l s t l_is s_is room = omega arith
 
--- a multiple of the stride that comes before the next one is this one or comes before it
+-- a multiple of the stride that is less than the next multiple after `place` * `stride` is at most `place` * `stride`
 by_place : (stride place other : ℕ) → 1 ≤ stride → other * stride < place * stride + stride
     → (other * stride ≡ place * stride) ⊎ (other * stride < place * stride)
 by_place stride place other some low = elim (eq-or-lt_of_le below) [
@@ -59,7 +59,7 @@ by_place stride place other some low = elim (eq-or-lt_of_le below) [
     below : other ≤ place
     below = omega (arith, earlier)
 
--- a checkpoint before the next one is this checkpoint or an earlier one
+-- a checkpoint that comes before t + stride is the checkpoint t or an earlier one
 this_or_before : (profile : Settling) (t u : ℕ) → 1 ≤ profile.stride → IsCheckpoint profile t → IsCheckpoint profile u
     → u < t + profile.stride → (u ≡ t) ⊎ (u < t)
 this_or_before profile t u some here is low =

@@ -1,4 +1,4 @@
--- Jobs are the same if and only if they are equal.
+-- `same_job` is true for equal jobs and for no others.
 use Rattle.std.proofs.Common.{◌≡◌, ◌∙◌, ◌-◌, ℕ, Bool, List, ◌&&◌, ◌++◌, nat_eq, ap, sym, length, take, replicate, refl}
 use Rattle.std.proofs.lemmas.List.{take_at}
 use Rattle.std.specs.Bool.{Decides}
@@ -33,7 +33,7 @@ jobs_decide a b =
     (λ e. (ap (λ (j : Job). j.seed) e, (ap (λ (j : Job). j.profile) e, ap (λ (j : Job). j.rule) e)))
     (Decides-and _ _ (pointwise_decides Decides-eqb a.seed b.seed) (Decides-and _ _ (profiles_decide a.profile b.profile) (rules_decide a.rule b.rule)))
 
--- a seed padded with zeros, as it is compared
+-- a seed padded with zeros to `most_bytes`: the form in which seeds are compared
 abbrev pub padded : List ℕ → List ℕ
 padded bytes = bytes ++ replicate (most_bytes - length bytes) 0
 

@@ -150,7 +150,7 @@ disjoint_parts (part ∷ parts) same =
     let split = prefix_apart part (joined parts) same in
     AllPairs-cons Disjoint part parts (apart_from_each part parts split.0) (disjoint_parts parts split.1)
 
--- ---- the two together
+-- ---- partitions and unions
 
 -- the union of the parts of a partition is the whole
 pub set_of-joined : (whole : List Cell) (parts : List (List Cell)) → InOrder whole → Partition whole parts → set_of (joined parts) ≡ whole

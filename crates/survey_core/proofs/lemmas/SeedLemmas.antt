@@ -10,7 +10,7 @@ use Rattle.std.proofs.lemmas.Str.Ascii.{IsAscii-cons, IsAscii-nil}
 use Rattle.survey_core.specs.Seeds.{IsSeed, is_invisible, is_visible, most_bytes, seed_read, seed_with_fault}
 use Rattle.survey_core.specs.declared.seed.SeedFault.TheVariants.{TooLong}
 
--- no byte is invisible, so all are visible
+-- if no byte is invisible, all are visible
 pub all_visible : (bytes : List ℕ) → position is_invisible bytes ≡ None → list_all is_visible bytes ≡ true
 all_visible bytes e = reached bytes (whole (nat_lt (prefix_len (λ b. not (is_invisible b)) bytes) (length bytes)) refl e)
   where
@@ -38,7 +38,7 @@ read_as text found short is = go (nat_lt most_bytes (length text)) refl
     go true e = let long : 64 < length text = ltb-true 64 (length text) e in absurd (omega (arith, long, short))
     go false e = ap (seed_with_fault text) (sym is)
 
--- the next byte is written over a zero
+-- writing byte `place` over a zero gives the first `place` + 1 bytes, padded with zeros to 64 bytes
 pub padded_more : (bytes : List ℕ) (place : ℕ) → place < length bytes → length bytes ≤ 64
     → set (take place bytes ++ replicate (64 - place) 0) place (get_or bytes place 0)
     ≡ take (place + 1) bytes ++ replicate (64 - (place + 1)) 0
@@ -50,7 +50,7 @@ padded_more bytes place low short =
     ∙ sym (append_assoc (take place bytes) (get_or bytes place 0 ∷ []) zeros)
     ∙ ap (λ (prefix : List ℕ). prefix ++ zeros) (sym (take_more bytes place 0 low))
 
--- all bytes are written
+-- once all bytes are written, the text is padded with zeros to 64 bytes
 pub padded_all : (bytes : List ℕ) (place : ℕ) → place ≤ length bytes → length bytes ≤ place
     → take place bytes ++ replicate (64 - place) 0 ≡ bytes ++ replicate (64 - length bytes) 0
 padded_all bytes place low high =

@@ -27,7 +27,7 @@ pub live_cells_none : (digest : List ℕ) → live_in_square digest 0 ≡ []
 unfolding live_in_square
 live_cells_none digest = refl
 
--- the live cells with one more place
+-- the live cells at the first n + 1 places are those at the first n places and, if it is alive, the cell at place n
 one_more : (digest : List ℕ) (n : ℕ) → live_in_square digest (n + 1) ≡ live_in_square digest n ++ map square_cell (cond (is_alive_at digest n) (n ∷ []) [])
 unfolding live_in_square
 one_more digest n =
@@ -139,7 +139,7 @@ soups_by_cells seed number x y in_row in_column =
     ∙ present (is_alive_at digest) 0 256 (16 * y + x) (omega arith) (omega arith)
     ∙ (λ i. is_set digest (column i) (row i))
 
--- ---- where they lie
+-- ---- where the live cells lie
 
 in_square : (p : ℕ → Bool) (a n : ℕ) → a + n ≤ 256 → (c : Cell) → has (map square_cell (filter p (range_with_len a n))) c ≡ true → IsWithin square c
 in_square p a zero low c h = absurd (false≢true h)

@@ -41,6 +41,6 @@ leads_back cells c d (p ∷ ps) h a =
 pub linked-sym : (cells : List Cell) (c d : Cell) → Linked cells c d → Linked cells d c
 linked-sym cells c d a = leads_back cells c d a.path a.start a.leads
 
--- a cell to which another cell is linked is in the pattern
+-- if c is linked to d, d is a cell of the pattern
 pub linked-has : (cells : List Cell) (c d : Cell) → Linked cells c d → has cells d ≡ true
 linked-has cells c d a = (linked-sym cells c d a).start

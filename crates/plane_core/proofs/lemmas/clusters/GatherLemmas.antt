@@ -19,7 +19,7 @@ use Rattle.plane_core.proofs.lemmas.clusters.UnionFindLemmas.{has-cell_of, in_pl
 
 -- ---- the cells that have a number
 
--- appending the number n adds the cell at its place; appending another number adds nothing
+-- appending the number n adds the cell at the new place; appending another number adds nothing
 numbered-push : (n m : ℕ) (ms : List ℕ) (cs : List Cell) → length ms < length cs
     → numbered n (ms ++ m ∷ []) cs ≡ numbered n ms cs ++ cond (m == n) (cell_of cs (length ms) ∷ []) []
 numbered-push n m ms [] low = absurd (omega arith)

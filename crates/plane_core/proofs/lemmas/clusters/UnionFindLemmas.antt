@@ -41,7 +41,7 @@ climbs-more parents place at back c = record {
 
 -- ---- joining two trees
 
--- the trees of two places have been joined
+-- the trees of the places `one` and `other` have been joined
 pub record AreJoined (old new : List ℕ) (one other : ℕ) : Type 0 where
   pub forest : JoinsLinked old new one other
   pub keeps : Keeps old new
@@ -366,8 +366,8 @@ past_scan cells row place at from to is end least right less = elim (cases_lt at
   | inr outside ↦ let under = is.later at outside less in before_up to (cell_of cells at) (omega (arith, ints, under, end))
 ]
 
--- if the cell just before `place` is near it and in the same row, it bridges each cell that is near `place`, in a
--- higher row, and less than three columns to its right
+-- if the cell b just before `place` is near it and in the same row, b bridges each cell near `place` that is in a
+-- higher row and less than three columns right of b
 pub bridged : (cells : List Cell) (place : ℕ) → 1 ≤ place → InOrder cells → place < length cells
     → (cell_of cells (place - 1)).y ≡ (cell_of cells place).y → king_distance (cell_of cells (place - 1)) (cell_of cells place) ≤ 2
     → IsFresh cells ((cell_of cells (place - 1)).x +ℤ pos 3) place

@@ -142,7 +142,7 @@ take_whole xs n low high =
     let all : n ≡ length xs = omega arith in
     ap (λ (m : ℕ). take m xs) all ∙ take-length xs
 
--- if an element has the property, then element i has it, or an element that is left after element i is removed
+-- an element with the property is element i, or is still in the list after element i is removed
 pub any_swap_remove : {X : Type 0} (P : X → Type 0) (xs : List X) (i : ℕ) (d : X) → i < length xs → Any P xs
     → P (get_or xs i d) ⊎ Any P (swap_remove xs i d)
 any_swap_remove {X} P xs i d less some = either (same_or_not k i)
@@ -190,7 +190,7 @@ any_swap_remove {X} P xs i d less some = either (same_or_not k i)
     either (inl at) = inl (subst P (sym some.3 ∙ ap (λ (m : ℕ). get_or xs m x) at ∙ get_or_default xs i x d less) some.4)
     either (inr other) = inr (elim (less_or_not k (length xs - 1)) [ inl low ↦ stays other low | inr high ↦ moves other high ])
 
--- if the new element has the property whenever the overwritten one does, an element with the property is left
+-- if the new element has the property whenever the overwritten one does, some element still has the property
 pub any_set_kept : {X : Type 0} (P : X → Type 0) (xs : List X) (i : ℕ) (y d : X) → i < length xs → (P (get_or xs i d) → P y) → Any P xs
     → Any P (set xs i y)
 any_set_kept {X} P xs i y d less over some = either (same_or_not some.0 i)

@@ -280,7 +280,7 @@ row_deeper at way cells word_column row word column found deep later is low one 
 
 -- ---- a word column
 
--- a row whose word is 0 has no live cell, so no live cell in it is deeper than what was found
+-- a row whose word is 0 has no live cell, so it counts as seen
 dead_row_seen : (at : Frame) (way : Direction) (words : List ℕ) (gone : List Cell) (word_column row : ℕ) (found : Option ℤ) → word_column < at.word_columns → row < at.rows
     → slice_index words (word_of at word_column row) ≡ 0 → IsSeen at way (without (cells_on at words) gone) word_column row found
 dead_row_seen at way words gone word_column row found hs hr none i low alive =

@@ -57,7 +57,7 @@ empty_window n left top r i a b d e =
     ap (λ (v : List ℕ). slice_index v (r / n)) vector ∙ get_or-replicate 4 (r / n) 0 0 (div_below r n 4 some low) in
     ap (λ (n : ℕ). n == 1) (sym (ap (λ (w : ℕ). bit_at w i) row ∙ bit_at-zero i))
 
--- an odd number of generations is a run of the window, if the change marks the differences from an empty window
+-- a window was run for an odd number of generations, if the change marks where it then differs from an empty window
 pub run_odd : (n : ℕ) (rule : Numbers) (count : ℕ) (x y : List (List ℕ)) (change : DifferenceMask) → count ≤ 4 → count % 2 ≡ 1 → IsLaterWindow rule n x y count
     → DiffersOnlyIn n change y (replicate n (replicate 4 0)) → IsRun n rule count x y change
 run_odd n rule count x y change few odd made differs p cells height o shown = (
@@ -72,7 +72,7 @@ run_odd n rule count x y change few odd made differs p cells height o shown = (
     none : compared_with rule cells count ≡ []
     none = ap (λ (n : ℕ). cond (n == 0) (after rule cells (count - 2)) []) odd
 
--- an even number of generations is a run of the window, if the change marks the differences from the window two
+-- a window was run for an even number of generations, if the change marks where it then differs from the window two
 -- generations earlier
 pub run_even : (n : ℕ) (rule : Numbers) (count : ℕ) (x y z : List (List ℕ)) (change : DifferenceMask) → 2 ≤ count → count ≤ 4 → count % 2 ≡ 0
     → IsLaterWindow rule n x y (count - 2) → IsLaterWindow rule n y z 2 → DiffersOnlyIn n change z y → IsRun n rule count x z change

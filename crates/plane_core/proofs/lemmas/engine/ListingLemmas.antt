@@ -211,7 +211,7 @@ band-more at words band n before here s low near = elim (same_or_not s n) [
   | inr apart ↦ before s low (omega (arith, near, apart))
 ]
 
--- if a range of word columns of a band and the word column before it are empty, so are both together
+-- if a range of word columns of a band and the word column before it are empty, so is the range of both
 pub band-less : (at : Frame) (words : List ℕ) (band n m : ℕ) → 1 ≤ n → IsBandEmpty at words band n m → IsWordColumnEmpty at words band (n - 1)
     → IsBandEmpty at words band (n - 1) m
 band-less at words band n m some before here s low near = elim (same_or_not s (n - 1)) [
@@ -233,7 +233,7 @@ eight-more words from k columns before b m none near = go (same_or_not m k)
         let e = bit_at_or columns (slice_index words (from + k)) b in
         before b m (omega (arith, e, none)) (omega arith)
 
--- a span that ends before eight rows, or begins past them, has none of them
+-- a span that ends before eight rows, or begins past them, has none of the eight
 pub missed_eight : (span : RowSpan) (first : ℕ) → (nat_le span.end first || nat_le (first + 8) span.from) ≡ true → (k : ℕ) → k < 8 → HasRow span (first + k) → ⊥
 missed_eight span first e k low inside = let a = inside.low in let b = inside.high in grind (arith, nat_tests)
 
@@ -251,7 +251,7 @@ band_missed at words spans word_columns band from to hb most live held out s pas
     word_column_missed at words spans s band (omega (arith, near, most)) hb live
     (λ k low inside. out s past near (held s (8 * band + k) (omega (arith, near, most)) inside))
 
--- if two adjacent ranges of word columns of a band are empty, so are both together
+-- if two adjacent ranges of word columns of a band are empty, so is the range of both
 pub band_joined : (at : Frame) (words : List ℕ) (band from mid to : ℕ) → IsBandEmpty at words band from mid → IsBandEmpty at words band mid to
     → IsBandEmpty at words band from to
 band_joined at words band from mid to first second s past near = elim (less_or_not s mid) [
@@ -259,7 +259,7 @@ band_joined at words band from mid to first second s past near = elim (less_or_n
   | inr more ↦ second s more near
 ]
 
--- the first band that a span reaches begins at most at the end of the board
+-- the first band that a span reaches doesn't begin past the end of the board
 pub bands_begin : (first all from : ℕ) → from ≡ min first all → 8 * (from / 8) ≤ all
 bands_begin first all from is = omega (arith, is)
 

@@ -158,7 +158,7 @@ boxed-next rule S boxes new places n all covered le odd differ c h =
 
 -- ---- when cells are taken out or put in
 
--- if S is quiet outside its boxes and T differs from it only in the boxes `more`, T is quiet outside boxes around both
+-- if S is quiet outside `boxes` and T differs from S only in `more`, T is quiet outside boxes around both lists
 pub quiet-changed : (rule : Numbers) (S T : List Cell) (boxes more new : List Bounds) → InOrder S → InOrder T → IsQuiet rule S boxes
     → ((c : Cell) → has T c ≢ has S c → IsInOne more c) → ((c : Cell) → IsNearOne 2 boxes c → IsNearOne 2 new c)
     → ((c : Cell) → IsNearOne 2 more c → IsNearOne 2 new c) → IsQuiet rule T new

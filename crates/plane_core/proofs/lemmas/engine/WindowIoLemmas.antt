@@ -204,7 +204,7 @@ row_put at old mid new x y word m1 v1 m2 v2 inside m1low m1high v1high m2is v2is
         ∙ ap (λ (w : ℕ). cond (bit_at m2 (u % 64) == 1) (bit_at v2 (u % 64)) (bit_at w (u % 64))) (first_others b (λ f. later (sym f)))
         ∙ ap (λ (m : ℕ). cond (bit_at m2 (u % 64) == 1) (bit_at v2 (u % 64)) (bit_at (slice_index old m) (u % 64))) (sym e)
 
--- a number that is none of a to a + 3 is below or above them
+-- a number that is none of `a` to `a + 3` is below or above them
 out_of_four : (n a : ℕ) → ((j : ℕ) → j < 4 → n ≡ a + j → ⊥) → (n < a) ⊎ (a + 4 ≤ n)
 out_of_four n a none = split (cases_lt n a) (cases_lt n (a + 4))
   where

@@ -17,7 +17,7 @@ use Rattle.plane_core.proofs.lemmas.engine.WindowRoundLemmas.{zeros}
 use Rattle.plane_core.proofs.lemmas.one_sided.NeverRecursLemmas.{below, natural, not_lit, outside}
 use Rattle.plane_core.proofs.lemmas.windows.WindowLemmas.{in_window, same_cell_at}
 
--- the first `count` rows of a part are put from row `from` on, and all other rows are empty
+-- the first `count` rows of the part have been put into 64 rows, from row `from` on; all other rows are empty
 pub record ArePut (from count : ℕ) (part rows : List ℕ) : Type 0 where
   pub long : length rows ≡ 64
   pub made : (q : ℕ) → q < count → slice_index rows (from + q) ≡ slice_index part q
@@ -48,7 +48,7 @@ put_more from r part rows fits before = record {
     earlier q (inl above) = inl above
     earlier q (inr below) = inr (omega (arith, below))
 
--- when all rows are put, the window is a crop of the rows
+-- once all rows of a window are put, the window is a crop of the 64 rows
 pub put_crop : (n many from count : ℕ) (part rows : List ℕ) (window : List (List ℕ)) → many ≡ 4 * n → count ≡ many → ArePut from count part rows
     → ((r : ℕ) → r < many → slice_index part r ≡ row_at n window r) → IsCrop n from rows window
 put_crop n many from count part rows window four all put unpacked r low =
@@ -87,7 +87,7 @@ lit_in left top rows S c h e =
       },
     )
 
--- a crop shows what the rows show, from the same depth on
+-- a crop shows, at least `depth` inside its border, the pattern that the rows show at least `depth` inside theirs
 pub crop_shown : (n from depth : ℕ) (left top : ℤ) (rows : List ℕ) (part : List (List ℕ)) (cells : List Cell) → from + 4 * n ≤ 64 → IsCrop n from rows part
     → ShowsInside left top depth rows cells → IsShownInside n left (top +ℤ pos from) depth part cells
 crop_shown n from depth left top rows part cells low is shown r i a b d e =
@@ -95,7 +95,7 @@ crop_shown n from depth left top rows part cells low is shown r i a b d e =
     ∙ shown (from + r) i (omega arith) (omega arith) d e
     ∙ ap (λ (w : ℕ). bit_at w i == 1) (sym (is r (omega arith)))
 
--- if the rows hold a pattern that is in the crop, the crop holds it
+-- if all live cells of the rows are in the crop, the crop holds the pattern that the rows hold
 pub crop_held : (n from : ℕ) (left top : ℤ) (rows : List ℕ) (part : List (List ℕ)) (S : List Cell) → LiesInCrop (4 * n) from rows → IsCrop n from rows part
     → FillsRows left top rows S → Holds n left (top +ℤ pos from) part S
 crop_held n from left top rows part S lies is h = record {
@@ -133,7 +133,7 @@ crop_held n from left top rows part S lies is h = record {
           | inr far ↦ absurd (dark (slice_index rows r) (lies.below r far l.row) l.bit)
         ]
 
--- conversely, if the crop holds a pattern, the rows hold it
+-- if all live cells of the rows are in the crop, the rows hold the pattern that the crop holds
 pub uncrop_held : (n from : ℕ) (left top : ℤ) (rows : List ℕ) (part : List (List ℕ)) (S : List Cell) → LiesInCrop (4 * n) from rows
     → IsCrop n from rows part → Holds n left (top +ℤ pos from) part S → FillsRows left top rows S
 uncrop_held n from left top rows part S lies is h = record {

@@ -12,7 +12,7 @@ use Rattle.plane_core.specs.windows.Windows.{IsLaterWindow, IsNextWindow}
 use Rattle.plane_core.proofs.lemmas.windows.ShiftLemmas.{bit_left_high, bit_left_low}
 use Rattle.plane_core.proofs.lemmas.windows.WindowLemmas.{none_made, one_made}
 
--- both windows, `made` generations later
+-- the windows of the whole pattern and of the cluster alone, `made` generations later
 pub record AreMade (rule : Numbers) (n : ℕ) (whole alone later later_alone : List (List ℕ)) (made : ℕ) : Type 0 where
   pub one : IsLaterWindow rule n whole later made
   pub other : IsLaterWindow rule n alone later_alone made

@@ -42,7 +42,7 @@ one_and a b i e f = let m = bit_at_and a b i in omega arith
 pub or_none : (a b i : ℕ) → bit_at (bit_or a b) i ≡ 0 → (bit_at a i ≡ 0) × (bit_at b i ≡ 0)
 or_none a b i e = let m = bit_at_or a b i in (omega arith, omega arith)
 
--- a bit of one word that isn't missing in the other is in both
+-- a bit of `a` is also in `b`, unless it is one of the bits of `a` that `b` lacks
 pub not_missing : (a b i : ℕ) → bit_at (bit_and a (bit_xor a b)) i ≡ 0 → bit_at a i ≡ 1 → bit_at b i ≡ 1
 not_missing a b i none one =
     let m = bit_at_and a (bit_xor a b) i in
@@ -77,7 +77,7 @@ not_outside word mask i fits small none one =
     let p = bit_at-lt mask i in
     omega arith
 
--- ---- beside
+-- ---- bits and the bits beside them
 
 abbrev IsBeside : ℕ → ℕ → Type 0
 IsBeside word i = (i < 64) × (j : ℕ) × (AreNear 1 i j) × (bit_at word j ≡ 1)
@@ -139,7 +139,7 @@ between i j low near high = go (less_or_not j i) (less_or_not i j)
     )
     go (inr least) (inr most) = (i, low, record { low = omega arith; high = omega arith }, record { low = omega arith; high = omega arith })
 
--- ---- five rows
+-- ---- the union of five rows
 
 abbrev pub five : List ℕ → ℕ → ℕ
 five flood r = bit_or (bit_or (bit_or (bit_or (slice_index flood (r - 2)) (slice_index flood (r - 1))) (slice_index flood r)) (slice_index flood (r + 1)))
@@ -180,7 +180,7 @@ all_five flood r q i least near one = go (less_or_not q (r - 1)) (less_or_not q 
     go (inr a) (inr b) (inr c) (inl d) = one_or _ _ i (or_other _ _ i (at (r + 1) (omega arith)))
     go (inr a) (inr b) (inr c) (inr d) = or_other _ _ i (at (r + 2) (omega (arith, near.high)))
 
--- ---- the first cell
+-- ---- a flood of one cell
 
 power : (k : ℕ) → k < 64 → 1 * 2 ^ k % 2 ^ 64 ≡ 2 ^ k
 power k low = let p : 2 ^ k < 2 ^ 64 = pow-lt low in omega arith
@@ -283,7 +283,7 @@ row_grown rows flood r here near new in_it low high is from kept come = record {
         go (inl e) = subst (λ (m : ℕ). Linked cells start (cell_at (left +ℤ pos i) (top +ℤ pos m))) (sym e) (here_or_new (come i (sym (there q i e) ∙ one)))
         go (inr apart) = linked q i (sym (elsewhere q i apart) ∙ one)
 
--- ---- the end
+-- ---- a flood that has stopped growing
 
 pub rows_inside : (flood : List ℕ) → length flood ≡ 64 → ((r : ℕ) → r < 64 → (i : ℕ) → bit_in flood r i ≡ 1 → IsWellInside r i) → LiesInside flood
 rows_inside flood long inside r i one = go (less_or_not r 64)

@@ -23,7 +23,7 @@ use Rattle.plane_core.proofs.lemmas.plane.SetLemmas.{has-filter, in_order-filter
 use Rattle.plane_core.proofs.lemmas.windows.WindowLemmas.{in_window}
 use Rattle.plane_core.proofs.lemmas.Between.{FloodsCluster}
 
--- ---- the cluster
+-- ---- the flood as a cluster
 
 -- the column and the row that a cell has in the window
 column_in : ℤ → Cell → ℕ
@@ -142,7 +142,7 @@ flooded_cluster rows flood left top row column cells is shows o = record {
         has-filter (is_flooded flood left top) cells d
         ∙ (λ t. linked-has cells (in_window left top column row) d a t && spot-flooded flood left top d s t)
 
--- the window with the flood's rows holds the cluster
+-- the rows of the flood hold the cluster
 pub flooded_held : (rows flood : List ℕ) (left top : ℤ) (row column : ℕ) (cells : List Cell) → IsFlooded rows flood row column
     → ShowsInRows left top rows cells → InOrder cells → FillsRows left top flood (cluster_in flood left top cells)
 unfolding cluster_in
@@ -179,7 +179,8 @@ flooded_held rows flood left top row column cells is shows o = record {
         dead true b d e f = e
         dead false b d e f = sym f
 
--- rows show a pattern except in the outer two columns and rows, if the window shows it from a depth of at most 2
+-- if a window shows a pattern from a depth of at most 2 on, its rows show the pattern except in the two outer columns
+-- and rows of each side
 pub shown_rows : (window : List (List ℕ)) (rows : List ℕ) (left top : ℤ) (depth : ℕ) (cells : List Cell) → depth ≤ 2
     → ((r : ℕ) → r < 64 → slice_index rows r ≡ row_at 16 window r) → IsShownInside 16 left top depth window cells → ShowsInRows left top rows cells
 shown_rows window rows left top depth cells few unpacked shown r i a b d e =
@@ -196,9 +197,9 @@ cluster_flooded window rows flood row column unpacked is depth few cells left to
       },
     )
 
--- ---- the pattern
+-- ---- the flood as a board
 
--- A window of 64 rows is a board of one word column. The cells that it shows of the flood are the cluster.
+-- on a board of one word column and 64 rows, the rows of the flood show the cluster
 pub flooded_pattern : (at : Frame) (rows flood : List ℕ) (row column : ℕ) (cells : List Cell) → at.word_columns ≡ 1 → at.rows ≡ 64
     → IsFlooded rows flood row column → ShowsInRows at.left at.top rows cells → InOrder cells → IsCluster cells (cells_on at flood)
 unfolding cluster_in
@@ -209,7 +210,7 @@ flooded_pattern at rows flood row column cells word_columns high is shows o =
     (λ c. both_true (has (cluster_in flood at.left at.top cells) c) (has (cells_on at flood) c) (there c) (back c)))
     (flooded_cluster rows flood at.left at.top row column cells is shows o)
   where
-    -- the cell and the word of a row and a column
+    -- the cell at bit i of row r is the same on the board and in the window
     cell : (s r i : ℕ) → s ≡ 0 → board_cell at s r i ≡ in_window at.left at.top i r
     cell s r i first = same_cells _ _ _ _ (let e = first in omega (arith, ints)) refl
 

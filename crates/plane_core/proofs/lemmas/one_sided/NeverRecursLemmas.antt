@@ -81,7 +81,7 @@ outside n left top x S c h out = false_unless (has S c) (λ e. out (h.inside c e
 pub not_lit : (m : ℕ) → m ≡ 0 → false ≡ (m == 1)
 not_lit m none = ap (λ (k : ℕ). k == 1) (sym none)
 
--- a bit of the window shows its cell, even past the window's border, where no cell is alive
+-- a bit says whether its cell is alive, even past the window's border, where no cell is alive
 pub held_anywhere : (n : ℕ) (left top : ℤ) (x : List (List ℕ)) (S : List Cell) (i r : ℕ) → 0 < n → Holds n left top x S → AreVectors n x
     → has S (in_window left top i r) ≡ (bit_at (row_at n x r) i == 1)
 held_anywhere n left top x S i r some h whole = go (less_or_not i 64) (less_or_not r (4 * n))
@@ -195,7 +195,7 @@ bit_if S m e c same small shown = ap (λ (d : Cell). cond {A = ℕ} (has S d) 1 
     one (suc zero) low = refl
     one (suc (suc n)) low = absurd (omega arith)
 
--- the row sum of a window is the number of live cells among a cell and its left and right neighbours
+-- the row sum at a bit of the window is the number of live cells among its cell and the left and right neighbours
 row_seen : (S : List Cell) (n : ℕ) (left top : ℤ) (x : List (List ℕ)) → 0 < n → Holds n left top x S → AreVectors n x → (e : Cell) (r i : ℕ) → i < 64
     → e ≡ in_window left top i r → row_total S e ≡ row_sum (row_at n x r) i
 row_seen S n left top x some h whole e r i low is =
@@ -352,7 +352,7 @@ each_lane v (suc (suc zero)) i low e = omega arith
 each_lane v (suc (suc (suc zero))) i low e = omega arith
 each_lane v (suc (suc (suc (suc j)))) i low e = absurd (omega arith)
 
--- row j n + k is lane j of vector k
+-- row j * n + k is lane j of vector k
 row_is_lane : (n : ℕ) (x : List (List ℕ)) (j k : ℕ) → k < n → row_at n x (j * n + k) ≡ lane_at x k j
 row_is_lane n x j k low = λ t. lane_at x (mod-mul-add j n k low t) (div-mul-add j n k low t)
 
@@ -418,7 +418,7 @@ columns_joined n x all w k joined is bits = record {
 pub whole_joined : (n : ℕ) (x : List (List ℕ)) (all : List ℕ) (k : ℕ) → HasJoined x all k → k ≡ n → AreVectors n x
 whole_joined n x all k joined is m low = joined.whole m (omega arith)
 
--- the vectors before vector k have been compared, and differ only where a bit of `marks` is 1
+-- in the vectors before vector k, the two windows differ only where a bit of `marks` is 1
 abbrev pub AreAlikeBelow : List (List ℕ) → List (List ℕ) → List ℕ → ℕ → Type 0
 AreAlikeBelow x y marks k = (m j i : ℕ) → m < k → j < 4 → bit_of marks j i ≡ 0 → bit_at (lane_at x m j) i ≡ bit_at (lane_at y m j) i
 

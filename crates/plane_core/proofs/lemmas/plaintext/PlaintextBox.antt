@@ -36,7 +36,7 @@ widened-within c d b h = record {
   bottom = omega (arith, ints, clamps, h.bottom);
 }
 
--- each cell is in the smallest box
+-- each cell of the list is in its smallest box
 pub all_within : (c : Cell) (cs : List Cell) → AllByRecursion (IsWithin (least c cs)) (c ∷ cs)
 all_within c [] = (record { left = omega (arith, ints); top = omega (arith, ints); right = omega (arith, ints); bottom = omega (arith, ints) }, tt)
 all_within c (d ∷ ds) = (
@@ -78,7 +78,7 @@ least_box c (d ∷ ds) h =
 same_box : (a b : Bounds) → Some a ≡ Some b → a ≡ b
 same_box a b e = cc
 
--- the box of a pattern
+-- the smallest box of a pattern has at least one cell and lies on the plane
 pub IsBox-box_of : (cells : List Cell) (b : Bounds) → IsPattern cells → box_of cells ≡ Some b → IsBox b
 IsBox-box_of [] b p e = absurd (cc)
 IsBox-box_of (c ∷ cs) b p e = subst IsBox (same_box (least c cs) b (sym (box_of-cons c cs) ∙ e)) (least_box c cs p.on_plane)

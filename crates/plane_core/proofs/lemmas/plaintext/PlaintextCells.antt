@@ -13,7 +13,7 @@ use Rattle.plane_core.proofs.lemmas.plaintext.PlaintextOrder.{cell_of, IsInRow, 
 use Rattle.plane_core.proofs.lemmas.plaintext.PlaintextRows.{places_from, live_cells-cons_live, live_cells-cons_dead}
 use Rattle.plane_core.proofs.lemmas.plaintext.PlaintextWalks.{apart_rows, apart_rows_down, apart_columns, apart_columns_left}
 
--- a cell that is at none of the places isn't a live cell of them
+-- a cell that is at none of the places isn't among their live cells
 none_there : (d : Cell) (ps : List Place) → AllByRecursion (λ p. same_cell d (cell_of p) ≡ false) ps → has (live_cells ps) d ≡ false
 unfolding live_cells
 none_there d [] h = refl
@@ -24,7 +24,7 @@ none_there d (p ∷ ps) h =
     (λ e. ap (λ cs. has cs d) (live_cells-cons_dead p ps e) ∙ more)
     (cases_Bool (is_live p.byte))
 
--- the cell k columns after column x of row y, in a row that is read from column x on
+-- row y, read from column x on, has the cell in column x + k exactly if byte k of the row is live
 row_has : (n y x k : ℕ) (row : List ℕ) → has (live_cells (places_from n y x row)) (cell_at (pos (x + k)) (pos y)) ≡ is_live (get_or row k 0)
 unfolding live_cells
 row_has n y x k [] = refl
@@ -52,7 +52,7 @@ row_has n y x (suc k) (b ∷ row) =
     (λ e. ap (λ cs. has cs d) (live_cells-cons_dead p ps e) ∙ more)
     (cases_Bool (is_live b))
 
--- the places of rows from row y on are in those rows
+-- if the first row is row y, all places of the rows are in row y or below it
 rows_below : (y : ℕ) (rows : List (ℕ × List ℕ)) → AllByRecursion (λ q. y ≤ q.y) (flat_map places_of_row (enumerate_from y rows))
 rows_below y [] = tt
 rows_below y (r ∷ rows) =
@@ -92,7 +92,7 @@ rows_have y (suc k) x (r ∷ rows) =
     ap (λ cs. has cs d) (live_cells-append here later) ∙ has-append (live_cells here) (live_cells later) d
     ∙ ap (λ v. v || has (live_cells later) d) none ∙ ap (λ w. has (live_cells later) (cell_at (pos x) (pos w))) next ∙ rows_have (y + 1) k x rows
 
--- a text has the cells whose bytes are live
+-- a text has the cell in column x of row y exactly if the byte there is live
 pub has-live_cells : (text : List ℕ) (x y : ℕ) → has (live_cells (places text)) (cell_at (pos x) (pos y)) ≡ is_live (byte_at text x y)
 unfolding places
 has-live_cells text x y = let e : y ≡ 0 + y = omega arith in ap (λ w. has (live_cells (places text)) (cell_at (pos x) (pos w))) e

@@ -15,7 +15,7 @@ use Rattle.plane_core.specs.Plaintext.{is_live, fault_at, first_fault, live_cell
 use Rattle.plane_core.specs.PlaintextPlaces.{line_feed, side_limit, Place, is_comment, lines_of, rows_of, places_of_row, places}
 use Rattle.plane_core.proofs.lemmas.plaintext.PlaintextRows.{row_in_limits, live_cells-line}
 
--- the text between line feeds
+-- the parts of a text between its line feeds
 abbrev pub parts_of : List ℕ → List (List ℕ)
 parts_of text = slice_split (λ b. b == line_feed) text
 
@@ -71,7 +71,7 @@ pub no_place_past : (n y : ℕ) (parts : List (List ℕ)) → n ≡ length parts
 unfolding places_after
 no_place_past n y parts h = rw (drop_all n parts (omega arith)) refl
 
--- a comment has no fault: the first fault is in the lines after it
+-- if the next line is a comment, the first fault is that of the lines after it
 pub no_fault_in_comment : (n y : ℕ) (parts : List (List ℕ)) (line : List ℕ) → IsNext parts n line → is_comment (strip_carriage_return line) ≡ true
     → first_fault (places_after (n + 1) y (drop n parts)) ≡ first_fault (places_after (n + 1 + 1) y (drop (n + 1) parts))
 no_fault_in_comment n y parts line t e = ap first_fault (comment_here n y parts line t e)
@@ -101,7 +101,7 @@ neither : {X : Type 0} (a b : Option X) → option_or a b ≡ None → (a ≡ No
 neither None b h = (refl, h)
 neither (Some x) b h = absurd (cc)
 
--- if the lines from line n + 1 on have no fault, neither the next row nor the lines after it have one
+-- if the lines from line n + 1 on have no fault and the first of them is a row, neither it nor the later lines have one
 no_fault_both : (n y : ℕ) (parts : List (List ℕ)) (line : List ℕ) → IsNext parts n line → is_comment (strip_carriage_return line) ≡ false
     → first_fault (places_after (n + 1) y (drop n parts)) ≡ None → (first_fault (places_of_row (y, (n + 1, strip_carriage_return line))) ≡ None)
     × (first_fault (places_after (n + 1 + 1) (y + 1) (drop (n + 1) parts)) ≡ None)
@@ -117,7 +117,7 @@ row_is_small n y parts line t e h k l =
     let s = row_in_limits (n + 1) y 0 (strip_carriage_return line) (no_fault_both n y parts line t e h).0 k l in
     (omega arith, s.1)
 
--- the cells of the lines from line n + 1 on
+-- if line n + 1 is a row, the live cells from there on are those of the row, followed by those of the later lines
 pub cells_of_row : (n y : ℕ) (parts : List (List ℕ)) (line : List ℕ) → IsNext parts n line → is_comment (strip_carriage_return line) ≡ false
     → live_cells (places_after (n + 1) y (drop n parts)) ≡ live_cells (places_of_row (y, (0, strip_carriage_return line))) ++ live_cells
     (places_after (n + 1 + 1) (y + 1) (drop (n + 1) parts))
@@ -135,18 +135,18 @@ pub no_cell_past_lines : (n y : ℕ) (parts : List (List ℕ)) (cells : List Cel
 unfolding live_cells
 no_cell_past_lines n y parts cells h = rw (no_place_past n y parts h) (append-nil cells)
 
--- a loop's step: the cells that are added are those that the remainder loses
+-- if the cells that are added to the list are those that the remainder loses, list and remainder are still `all`
 pub moved_over : (done more new remainder later all : List Cell) → new ≡ done ++ more → remainder ≡ more ++ later → done ++ remainder ≡ all → new ++ later ≡ all
 moved_over done more new remainder later all g e h = ap (λ cs. cs ++ later) g ∙ append_assoc done more later ∙ ap (λ cs. done ++ cs) (sym e) ∙ h
 
--- there are at most as many rows as lines
+-- after one more row, there are still at most as many rows as lines
 pub one_row_more : (y n : ℕ) → y ≤ n → y + 1 ≤ n + 1
 one_row_more y n h = omega arith
 
 pub one_line_more : (y n : ℕ) → y ≤ n → y ≤ n + 1
 one_line_more y n h = omega arith
 
--- one more than a number of lines or rows fits a word, since a text has at most one line more than bytes
+-- the number of the next line or row fits in 64 bits, since a text has at most one line more than bytes
 pub fits_one_more : (text : List ℕ) (n k : ℕ) → length text * 1 < 9223372036854775808 → n < length (parts_of text) → k ≤ n → Fits w64 (k + 1)
 fits_one_more text n k small low few =
     omega (arith, length-slice_split (λ b. b == line_feed) text, count_by-le-length (λ b. b == line_feed) text, small, low, few)

@@ -36,7 +36,7 @@ pub AllByRecursion-append : {X : Type 0} (P : X → Type 0) (xs ys : List X) →
 AllByRecursion-append P [] ys h k = k
 AllByRecursion-append P (x ∷ xs) ys h k = (h.0, AllByRecursion-append P xs ys h.1 k)
 
--- the concatenation of two ordered lists is ordered if each element of the first is before each of the second
+-- two ordered lists together are ordered if each element of the first list is before each element of the second list
 pub IsStrictlySortedBy-append : {X : Type 0} (c : X → X → Ordering) (xs ys : List X) → IsStrictlySortedBy c xs → IsStrictlySortedBy c ys
     → AllByRecursion (λ x. AllByRecursion (λ y. c x y ≡ Less) ys) xs → IsStrictlySortedBy c (xs ++ ys)
 unfolding IsStrictlySortedBy

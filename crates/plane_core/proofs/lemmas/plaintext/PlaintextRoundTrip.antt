@@ -25,7 +25,7 @@ use Rattle.plane_core.proofs.lemmas.plaintext.PlaintextOrder.{AllByRecursion-wea
 use Rattle.plane_core.proofs.lemmas.plaintext.PlaintextRows.{places_from, first_fault-cons_none, live_cells-cons_live, live_cells-cons_dead}
 use Rattle.plane_core.proofs.lemmas.plaintext.PlaintextWalks.{left_of, above, lt_z-true, lt_z-false}
 
--- the bytes that are written for cells
+-- the bytes that are written for the columns `xs` of a row, where f says which cells are live
 abbrev bytes : (ℤ → Bool) → List ℤ → List ℕ
 bytes f xs = map (λ x. byte_of (f x)) xs
 
@@ -60,7 +60,7 @@ split_rows cells b (z ∷ zs) =
     ∙ slice_split_at (λ b. b == line_feed) row line_feed remainder (no_feed (λ x. has cells (cell_at x z)) (span b.left b.right)) refl
     ∙ ap (λ ps. row ∷ ps) (split_rows cells b zs)
 
--- the places of those rows
+-- the places in the text of the rows `zs` of a box; the first line is line n, and the first row is row y of the text
 abbrev grid_places : List Cell → Bounds → ℕ → ℕ → List ℤ → List Place
 grid_places cells b n y [] = []
 grid_places cells b n y (z ∷ zs) = places_from n y 0 (row_bytes cells b z) ++ grid_places cells b (n + 1) (y + 1) zs
@@ -105,7 +105,7 @@ length-run : (a : ℤ) (n : ℕ) → length (run a n) ≡ n
 length-run a zero = refl
 length-run a (suc n) = ap suc (length-run (a +ℤ pos 1) n)
 
--- the cells of a box: of one row, and of all
+-- the cells of row z in the columns `xs`
 abbrev row_cells : ℤ → List ℤ → List Cell
 row_cells z xs = map (λ u. cell_at u z) xs
 
@@ -219,7 +219,7 @@ absorb g true h = rw (h refl) refl
 absorb true false h = refl
 absorb false false h = refl
 
--- a pattern consists of those cells of its box that it contains
+-- those cells of a pattern's smallest box that are in the pattern are the whole pattern
 kept : (cells : List Cell) (b : Bounds) → IsPattern cells → box_of cells ≡ Some b → filter (has cells) (grid b (span b.top b.bottom)) ≡ cells
 kept cells b p e =
     let box = IsBox-box_of cells b p e in
@@ -232,7 +232,7 @@ kept cells b p e =
     let high = box.high in
     has_grid d b b.top (suc (distance b.top b.bottom)) w box.wide top (omega (arith, ints))))
 
--- the text of the rows of a small box is read as the pattern, moved to the corner
+-- the text of a pattern whose box is at most 1,000 by 1,000 is read as the pattern, moved to the corner
 box_text_read : (cells : List Cell) (b : Bounds) → IsPattern cells → box_of cells ≡ Some b → FitsThousandSquare b
     → pattern (box_text (Some b) cells) ≡ Ok (map (moved_by (neg_ℤ b.left) (neg_ℤ b.top)) cells)
 unfolding box_text

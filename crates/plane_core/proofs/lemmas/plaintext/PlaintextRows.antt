@@ -48,7 +48,7 @@ pub no_fault_here : (line y x : ℕ) (row : List ℕ) → x < length row → fau
     → first_fault (places_from line y x (drop x row)) ≡ first_fault (places_from line y (x + 1) (drop (x + 1) row))
 no_fault_here line y x row h e = ap first_fault (places_from_more line y x row h) ∙ first_fault-cons_none _ _ e
 
--- the first fault if the next byte isn't a cell, is past the limits, or is within them
+-- if the byte in column x isn't a cell, it is the first fault of the row from column x on
 pub bad_byte : (line y x : ℕ) (row : List ℕ) → x < length row → is_cell (get_or row x 0) ≡ false
     → first_fault (places_from line y x (drop x row)) ≡ Some (BadByte line (x + 1))
 unfolding fault_at

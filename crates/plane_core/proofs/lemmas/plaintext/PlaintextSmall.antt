@@ -26,7 +26,7 @@ live_cells-small (p ∷ ps) h =
     elim (is_live p.byte) as (λ b. LiesWithin999
     (map cell_of (cond b (p ∷ filter (λ q. is_live q.byte) ps) (filter (λ q. is_live q.byte) ps)))) [ true ↦ and_from _ _ here remainder | false ↦ remainder ]
 
--- the cells of places without a fault are near the origin
+-- the cells of places without a fault are within 999 of the origin
 without_fault : (ps : List Place) (fault : Option PlaintextFault) (cells : List Cell) → first_fault ps ≡ fault
     → cells_unless fault (live_cells ps) ≡ Ok cells → LiesWithin999 cells
 without_fault ps None cells none is = let same : live_cells ps ≡ cells = cc in subst LiesWithin999 same (live_cells-small ps none)

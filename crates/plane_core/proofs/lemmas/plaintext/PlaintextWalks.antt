@@ -15,7 +15,7 @@ use Rattle.plane_core.specs.PlaintextWalk.{IsAhead}
 use Rattle.plane_core.proofs.lemmas.plane.SetLemmas.{in_order-head, in_order-tail, in_order-cons, in_order-nil, before-trans, has-before, has-append}
 use Rattle.plane_core.proofs.lemmas.plaintext.PlaintextOrder.{AllByRecursion-weaker}
 
--- the remaining cells of a row when a walk is at column x of a box that ends before column e
+-- the remaining cells of row y when a walk is at column x, in a box that ends before column e
 pub record IsRowAhead (y x e : ℤ) (cells : List Cell) : Type 0 where
   pub in_order : InOrder cells
   pub here : AllByRecursion (λ c. (c.y ≡ y) × (x ≤ℤ c.x) × (c.x <ℤ e)) cells
@@ -38,13 +38,13 @@ apart_rows_down a b h = grind (arith, ints)
 pub apart_columns : (a b : Cell) → a.y ≡ b.y → b.x <ℤ a.x → same_cell a b ≡ false
 apart_columns a b e h = grind (arith, ints)
 
--- a column before the first remaining cell of a row has no cell
+-- the remaining cells of a row have no cell in a column before the first of them
 pub has-gap : (y x e z : ℤ) (c : Cell) (cs : List Cell) → IsRowAhead y x e (c ∷ cs) → z <ℤ c.x → has (c ∷ cs) (cell_at z y) ≡ false
 has-gap y x e z c cs h l =
     let less = left_of (cell_at z y) c (sym h.here.0.0) l in
     has-before (cell_at z y) (c ∷ cs) (less, before-trans (cell_at z y) c cs less (in_order-head c cs h.in_order))
 
--- a column after the first cell has a cell only if another of the cells is there
+-- right of the first cell, in its row, the list has a cell exactly if the rest of the list has it
 pub has-past : (y z : ℤ) (c : Cell) (cs : List Cell) → c.y ≡ y → c.x <ℤ z → has (c ∷ cs) (cell_at z y) ≡ has cs (cell_at z y)
 has-past y z c cs e l = ap (λ b. b || has cs (cell_at z y)) (apart_columns (cell_at z y) c (sym e) l)
 
@@ -121,7 +121,7 @@ left_below_row y (c ∷ cs) o h =
     )))
     (cases_Bool (int_eq c.y y))
 
--- the remaining cells are split into the cells of row y and the cells of lower rows
+-- when a walk begins row y, the remaining cells at the front that are in row y are the remaining cells of that row
 pub IsRowAhead-taken : (y : ℤ) (b : Bounds) (cs : List Cell) → IsAhead y b cs → IsRowAhead y b.left (b.right +ℤ pos 1) (take (len_in_row y cs) cs)
 IsRowAhead-taken y b cs h = record {
   in_order = in_order-take (len_in_row y cs) cs h.in_order;
@@ -146,7 +146,7 @@ or-false : (b : Bool) → (b || false) ≡ b
 or-false true = refl
 or-false false = refl
 
--- a cell of row y is remaining exactly if it is among the cells at the front
+-- a cell of row y is among the remaining cells exactly if it is among those at the front that are in row y
 pub has-taken : (y : ℤ) (b : Bounds) (cs : List Cell) → IsAhead y b cs → (x : ℤ) → has cs (cell_at x y) ≡ has (take (len_in_row y cs) cs) (cell_at x y)
 has-taken y b cs h x =
     let n = len_in_row y cs in
@@ -157,7 +157,7 @@ has-taken y b cs h x =
     ap (λ ds. has ds (cell_at x y)) (sym (take-append-drop n cs)) ∙ has-append (take n cs) (drop n cs) (cell_at x y)
     ∙ ap (λ v. has (take n cs) (cell_at x y) || v) none ∙ or-false (has (take n cs) (cell_at x y))
 
--- a cell of a lower row is remaining exactly if it is among the other cells
+-- a cell of a lower row is among the remaining cells exactly if it is among those after the cells of row y
 pub has-left : (y : ℤ) (cs : List Cell) (x z : ℤ) → y <ℤ z → has cs (cell_at x z) ≡ has (drop (len_in_row y cs) cs) (cell_at x z)
 has-left y cs x z l =
     let n = len_in_row y cs in
@@ -173,7 +173,7 @@ pub IsRowAhead-at : (y x e : ℤ) (row : List Cell) (i : ℕ) (d : Cell) → i <
     → IsRowAhead y x e (get_or row i d ∷ drop (i + 1) row)
 IsRowAhead-at y x e row i d l h = subst (IsRowAhead y x e) (drop_more row i d l) h
 
--- a loop's test implies the order of the numbers
+-- if the test says that `a` is less than `b`, it is
 pub lt_z-true : (a b : ℤ) → lt_z a b ≡ true → a <ℤ b
 lt_z-true a b h = grind (arith, ints)
 
@@ -186,7 +186,7 @@ above a b h = grind (arith, ints)
 pub apart_columns_left : (a b : Cell) → a.y ≡ b.y → a.x <ℤ b.x → same_cell a b ≡ false
 apart_columns_left a b e h = grind (arith, ints)
 
--- a walk along the row that has passed i cells has passed one more
+-- if a walk along row y has passed i cells and cell i is in row y, the walk has passed i + 1 cells of the row
 pub walked-on : (y : ℤ) (cells : List Cell) (i : ℕ) (d : Cell) → i < length cells → int_eq (get_or cells i d).y y ≡ true
     → len_in_row y cells ≡ i + len_in_row y (drop i cells) → len_in_row y cells ≡ (i + 1) + len_in_row y (drop (i + 1) cells)
 walked-on y cells i d l e h =
@@ -204,7 +204,7 @@ walked-off y cells i d l e h =
 pub walked-all : (y : ℤ) (cells : List Cell) (i : ℕ) → length cells ≤ i → len_in_row y cells ≡ i + len_in_row y (drop i cells) → i ≡ len_in_row y cells
 walked-all y cells i l h = let none = ap (len_in_row y) (drop_all i cells l) in omega (arith, h, none)
 
--- the test of a cell's row, which compares bits, implies that the rows are equal
+-- if the 32 bits of two rows are equal, the rows are equal
 pub same_bits : (a y : ℤ) → FitsSigned w32 a → of_z w32 a ≡ of_z w32 y → int_eq a (to_z w32 (of_z w32 y)) ≡ true
 same_bits a y fits e =
     let same : a ≡ to_z w32 (of_z w32 y) = sym (to_z-of_z w32 a fits) ∙ ap (to_z w32) e in

@@ -51,7 +51,7 @@ map-run-same : (b : ℕ) (a : ℤ) (n : ℕ) → map (λ _. b) (run a n) ≡ rep
 map-run-same b a zero = refl
 map-run-same b a (suc n) = ap (λ bs. b ∷ bs) (map-run-same b (a +ℤ pos 1) n)
 
--- the bytes of row y at these columns
+-- the bytes of row y in the columns `xs`
 abbrev pub bytes_at : List Cell → ℤ → List ℤ → List ℕ
 bytes_at cells y xs = map (λ x. byte_of (has cells (cell_at x y))) xs
 
@@ -93,7 +93,7 @@ row_remainder-cons y x e c cs h =
     ap (λ bs. bs ++ line_feed ∷ []) columns ∙ append_assoc (replicate gap dot) (letter_o ∷ bytes_at cs y (run (c.x +ℤ pos 1) remainder)) (line_feed ∷ [])
     ∙ sym (append_assoc (replicate gap dot) (letter_o ∷ []) (bytes_at cs y (run (c.x +ℤ pos 1) remainder) ++ line_feed ∷ []))
 
--- the remaining text of a row, in a loop over the cells of the row
+-- the text of a row is the text so far, the dead cells before cell i, cell i itself, and the remaining text after it
 pub row_remainder-at : (y x e : ℤ) (row : List Cell) (i : ℕ) (d : Cell) (prefix whole : List ℕ) → i < length row → IsRowAhead y x e (drop i row)
     → whole ≡ prefix ++ row_remainder (drop i row) y x e
     → whole ≡ (prefix ++ (replicate (distance x (get_or row i d).x) dot ++ letter_o ∷ [])) ++ row_remainder (drop (i + 1) row) y ((get_or row i d).x +ℤ pos 1) e
@@ -107,7 +107,7 @@ pub row_remainder-end : (y x e : ℤ) (row : List Cell) (i : ℕ) (prefix whole 
     → whole ≡ prefix ++ (replicate (distance x e) dot ++ line_feed ∷ [])
 row_remainder-end y x e row i prefix whole l w = w ∙ ap (λ ds. prefix ++ row_remainder ds y x e) (drop_all i row l) ∙ ap (λ t. prefix ++ t) (row_remainder-nil y x e)
 
--- lists with the same cells in row y have the same text for it
+-- lists with the same cells in row y have the same text for that row
 pub row_text-same : (cs ds : List Cell) (b : Bounds) (y : ℤ) → ((x : ℤ) → has cs (cell_at x y) ≡ has ds (cell_at x y)) → row_text cs b y ≡ row_text ds b y
 unfolding row_text
 row_text-same cs ds b y h = ap (λ bs. bs ++ line_feed ∷ [])
@@ -126,7 +126,7 @@ box_text_is cells b l =
     let n : suc (distance b.top b.bottom) ≡ distance b.top (b.bottom +ℤ pos 1) = omega (arith, ints) in
     ap (λ k. flat_map (row_text cells b) (run b.top k)) n
 
--- the remaining cells contain the cells of row y and of lower rows
+-- in row y and in lower rows, the remaining cells are all cells of the pattern
 abbrev pub SameFrom : ℤ → List Cell → List Cell → Type 0
 SameFrom y cells remainder = (x z : ℤ) → y ≤ℤ z → has cells (cell_at x z) ≡ has remainder (cell_at x z)
 

@@ -34,7 +34,7 @@ min_again a b = omega (arith, ints, clamps)
 pub max_again : (a b : ℤ) → int_max a (int_max a b) ≡ int_max a b
 max_again a b = omega (arith, ints, clamps)
 
--- a box is widened by two cells in either order
+-- widening a box by two cells gives the same box in either order
 pub widened-swap : (c d : Cell) (b : Bounds) → widened c (widened d b) ≡ widened d (widened c b)
 widened-swap c d b i = record {
   left = min_swap c.x d.x b.left i;
@@ -46,7 +46,7 @@ widened-swap c d b i = record {
 pub widened-pair : (c d : Cell) → widened c (box_at d) ≡ widened d (box_at c)
 widened-pair c d i = record { left = min_comm c.x d.x i; top = min_comm c.y d.y i; right = max_comm c.x d.x i; bottom = max_comm c.y d.y i }
 
--- the box of a list with one cell more at its end
+-- appending a cell to a list widens the box of the list by the cell
 pub box_of-push : (cs : List Cell) (c : Cell) → box_of (cs ++ c ∷ []) ≡ Some (grown c (box_of cs))
 box_of-push [] c = refl
 box_of-push (d ∷ ds) c = ap (λ (b : Option Bounds). Some (grown d b)) (box_of-push ds c) ∙ ap (λ (b : Bounds). Some b) (swapped (box_of ds))
@@ -55,11 +55,11 @@ box_of-push (d ∷ ds) c = ap (λ (b : Option Bounds). Some (grown d b)) (box_of
     swapped None = widened-pair d c
     swapped (Some b) = widened-swap d c b
 
--- a loop's step: the box of one more cell
+-- the box of the first i + 1 cells is the box of the first i cells, widened by cell i
 pub box_more : (cs : List Cell) (i : ℕ) (d : Cell) → i < length cs → box_of (take (i + 1) cs) ≡ Some (grown (get_or cs i d) (box_of (take i cs)))
 box_more cs i d low = ap box_of (take_more cs i d low) ∙ box_of-push (take i cs) (get_or cs i d)
 
--- ---- the least box
+-- ---- the smallest box
 
 min_cases : (a b : ℤ) → (int_min a b ≡ a) ⊎ (int_min a b ≡ b)
 min_cases a b = elim (int_lt b a) as (λ t. (cond t b a ≡ a) ⊎ (cond t b a ≡ b)) [ true ↦ inr refl | false ↦ inl refl ]
@@ -116,7 +116,7 @@ least-alone c = record {
   bottom = any-head (λ d. d.y ≡ c.y) c [] refl;
 }
 
--- the box of the cells is the least one
+-- the box of a list is the smallest box around its cells
 pub box_of-least : (cs : List Cell) → IfSome (box_of cs) (IsLeastBox cs)
 box_of-least [] = tt
 box_of-least (c ∷ []) = least-alone c
@@ -127,7 +127,7 @@ pub box_of-none : (cs : List Cell) → IsNone (box_of cs) ↔ (cs ≡ [])
 box_of-none [] = (λ _. refl, λ _. refl)
 box_of-none (c ∷ cs) = (λ e. absurd (false≢true (sym e)), λ e. absurd cc)
 
--- a loop's step over the images of cells
+-- the box of the first i + 1 images is the box of the first i images, widened by image i
 pub image_box_more : (f : Cell → Cell) (cs : List Cell) (i : ℕ) (d : Cell) → i < length cs
     → box_of (map f (take (i + 1) cs)) ≡ Some (grown (f (get_or cs i d)) (box_of (map f (take i cs))))
 image_box_more f cs i d low =

@@ -23,7 +23,7 @@ fewer_sides m n b low h = record {
 pub in_box : (S : List Cell) (b : Bounds) (c : Cell) → IsLeastBox S b → has S c ≡ true → IsWithin b c
 in_box S b c least e = has-all (IsWithin b) S c (recursion_from_All (IsWithin b) S least.within) e
 
--- a cell of a box is no further from the origin than its sides
+-- if the sides of a box are within n of the origin, so is each cell of the box
 pub lies_near : (b : Bounds) (n : ℕ) (c : Cell) → AreSidesWithin n b → IsWithin b c → is_within n c ≡ true
 lies_near b n c sides within =
     let l = within.left in

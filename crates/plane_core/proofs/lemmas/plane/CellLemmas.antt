@@ -35,14 +35,14 @@ same_cell-itself c = ap is_eq (tied_itself cell_cmp_total c)
 int_cmp-moved : (a b v : ℤ) → int_cmp (a +ℤ v) (b +ℤ v) ≡ int_cmp a b
 int_cmp-moved a b v = grind (arith, ints)
 
--- moving two cells keeps their order
+-- moving two cells by the same amount keeps their order
 pub cell_cmp-moved : (dx dy : ℤ) (a b : Cell) → cell_cmp (moved_by dx dy a) (moved_by dx dy b) ≡ cell_cmp a b
 cell_cmp-moved dx dy a b = rw (int_cmp-moved a.y b.y dy, int_cmp-moved a.x b.x dx) refl
 
 distance-moved : (a b v : ℤ) → distance (a +ℤ v) (b +ℤ v) ≡ distance a b
 distance-moved a b v = omega (arith, ints)
 
--- moving two cells keeps their distance
+-- moving two cells by the same amount keeps their distance
 pub king_distance-moved : (dx dy : ℤ) (a b : Cell) → king_distance (moved_by dx dy a) (moved_by dx dy b) ≡ king_distance a b
 king_distance-moved dx dy a b = rw (distance-moved a.x b.x dx, distance-moved a.y b.y dy) refl
 
@@ -59,11 +59,11 @@ both_equal Less q = refl
 both_equal Equal q = refl
 both_equal Greater q = refl
 
--- the derived `==` of cells
+-- the derived `==` of cells says whether two cells are the same
 pub same_cell-eq : (a b : Cell) → (int_eq a.y b.y && int_eq a.x b.x) ≡ same_cell a b
 same_cell-eq a b = both_equal (int_cmp a.y b.y) (int_cmp a.x b.x)
 
--- a coordinate that is passed on as 32 bits is still within the bound
+-- a coordinate within the bound of the plane is still within it after a conversion to 32 bits and back
 pub passed_within : (x : ℤ) → FitsSigned w32 x → unsigned_abs x ≤ plane_bound → unsigned_abs (to_z w32 (of_z w32 x)) ≤ plane_bound
 passed_within x fits low = rw (to_z-of_z w32 x fits) low
 
@@ -79,7 +79,7 @@ y_passed c fits on = passed_within c.y fits (leb-true _ _ ((and_parts (nat_le (u
 pub same_cells : (x y v w : ℤ) → x ≡ v → y ≡ w → cell_at x y ≡ cell_at v w
 same_cells x y v w p q i = cell_at (p i) (q i)
 
--- the same for a cell that may be one step off the plane
+-- the x of a cell near the plane is still within `plane_bound + 1` after a conversion to 32 bits and back
 pub near_x_passed : (c : Cell) → FitsSigned w32 c.x → near_plane c ≡ true → unsigned_abs (to_z w32 (of_z w32 c.x)) ≤ plane_bound + 1
 unfolding near_plane
 near_x_passed c fits on = rw (to_z-of_z w32 c.x fits) (leb-true _ _ ((and_parts (nat_le (unsigned_abs c.x) (plane_bound + 1)) _ on).0))
@@ -88,7 +88,7 @@ pub near_y_passed : (c : Cell) → FitsSigned w32 c.y → near_plane c ≡ true 
 unfolding near_plane
 near_y_passed c fits on = rw (to_z-of_z w32 c.y fits) (leb-true _ _ ((and_parts (nat_le (unsigned_abs c.x) (plane_bound + 1)) _ on).1))
 
--- a cell of the plane is at most a step off it
+-- a cell on the plane is also near the plane
 pub on_then_near : (c : Cell) → on_plane c ≡ true → near_plane c ≡ true
 unfolding on_plane near_plane
 on_then_near c h =

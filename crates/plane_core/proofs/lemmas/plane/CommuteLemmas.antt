@@ -23,7 +23,7 @@ use Rattle.plane_core.proofs.lemmas.plane.SetLemmas.{same_lists, in_order-set_of
 
 -- ---- a one-to-one map of cells that keeps distances
 
--- The map has an inverse and keeps king distances, so it keeps neighbours.
+-- the map has an inverse and keeps king distances, so it keeps neighbours
 pub record IsRigid (f g : Cell → Cell) : Type 0 where
   pub there : (c : Cell) → f (g c) ≡ c
   pub back : (c : Cell) → g (f c) ≡ c
@@ -43,7 +43,7 @@ module _ (f g : Cell → Cell) (rigid : IsRigid f g) where
       ∙ (λ i. cond ((ap (λ (x : Cell). king_distance x (f d)) (sym (rigid.there c)) ∙ rigid.keeps (g c) d) i == 1) 1 0 + around-image ds c i)
       ∙ sym (around-cons d ds (g c))
 
-  -- inserting a new cell counts like prepending it
+  -- a cell has as many live neighbours if a new cell is inserted in order as if it is prepended
   around-put : (x : Cell) (ds : List Cell) (c : Cell) → has ds x ≡ false → around (put x ds) c ≡ around (x ∷ ds) c
   around-put x [] c h = refl
   around-put x (d ∷ ds) c h = go (cell_cmp x d) refl h (around-put x ds c)
@@ -54,7 +54,7 @@ module _ (f g : Cell → Cell) (rigid : IsRigid f g) where
       go Equal is h ih = absurd (false≢true (sym h))
       go Greater is h ih = omega (arith, around-cons d (put x ds) c, ih h, around-cons x ds c, around-cons x (d ∷ ds) c, around-cons d ds c)
 
-  -- counting in the set of an image is counting in the image
+  -- a cell has as many live neighbours in the set of an image as in the image
   around-set_of : (S : List Cell) (c : Cell) → InOrder S → around (set_of (map f S)) c ≡ around (map f S) c
   around-set_of [] c o = refl
   around-set_of (d ∷ ds) c o =

@@ -1,4 +1,4 @@
--- Coordinates as they are passed on: numbers of 32 bits, whose bits are read back.
+-- Coordinates as the code passes them on: converted to 32 bits and read back from them.
 use Rattle.std.proofs.Common.{◌≡◌, ◌+◌, ◌/◌, ◌<◌, ◌≤◌, ℕ, ℤ, pos, negsuc, ◌+ℤ◌, ◌-ℤ◌, ◌≤ℤ◌, ◌<ℤ◌, true, false}
 use Rattle.std.proofs.Common.{arith, ap, ◌∙◌, sym, subst, Fits, FitsSigned, of_z, to_z, unsigned_abs, nat_le, w32, w64}
 use Rattle.std.proofs.lemmas.Int.{ints, to_z-of_z, to_z_pos}
@@ -38,7 +38,7 @@ y_within c on = leb-true _ _ ((and_parts (nat_le (unsigned_abs c.x) plane_bound)
 pub same_passed : (a b : ℤ) → FitsSigned w32 a → FitsSigned w32 b → of_z w32 a ≡ of_z w32 b → a ≡ b
 same_passed a b fa fb same = sym (to_z-of_z w32 a fa) ∙ ap (to_z w32) same ∙ to_z-of_z w32 b fb
 
--- if a isn't less than b, a is b plus their difference
+-- if `a` isn't less than `b`, then `a` is `b` plus their difference
 pub more_by : (a b : ℤ) (n : ℕ) → FitsSigned w32 a → FitsSigned w32 b → lt_z (passed a) (passed b) ≡ false → n ≡ unsigned_abs (passed a -ℤ passed b)
     → a ≡ b +ℤ pos n
 more_by a b n fa fb low is = more (rw (to_z-of_z w32 a fa, to_z-of_z w32 b fb) at low) (rw (to_z-of_z w32 a fa, to_z-of_z w32 b fb) at is)
@@ -51,7 +51,7 @@ too_far a b n i is far low at = omega (arith, ints, is, far, low, at)
 
 -- ---- differences
 
--- how far a lies to the right of b, or below it, as a count
+-- the difference `a - b`, computed in 32 bits
 abbrev pub taken : ℤ → ℤ → ℤ
 taken a b = passed (passed a -ℤ passed b)
 
@@ -91,7 +91,7 @@ row_apart at p frame on =
     let is = on.top in
     apart_by p.top at.top on.y (small_fits p.top (omega (arith, ints))) (small_fits at.top (omega (arith, near))) is (omega (arith, row, few))
 
--- a coordinate within a window that begins at b
+-- if `a` is one of the 64 coordinates from `b` on, the difference `a - b`, computed in 32 bits, is right
 pub within_apart : (a b : ℤ) → FitsSigned w32 a → FitsSigned w32 b → b ≤ℤ a → a <ℤ (b +ℤ pos 64) → AreApart a b (unsigned_abs (a -ℤ b))
 within_apart a b fa fb from to = apart_by a b (unsigned_abs (a -ℤ b)) fa fb (omega (arith, ints, from)) (omega (arith, ints, from, to))
 
@@ -122,7 +122,7 @@ sum_of a b la lb = sum_of_small a b (omega (arith, la)) (omega (arith, lb))
 pub step_of : (a b : ℤ) → unsigned_abs a ≤ plane_bound + 1 → unsigned_abs b ≤ 2 → IsSum a b
 step_of a b la lb = sum_of_small a b (omega (arith, la)) (omega (arith, lb))
 
--- a coordinate n cells to the right of a, or below it
+-- adding n to the coordinate `a` in 32 bits doesn't overflow, and gives `a + n`
 pub record IsMoved (a : ℤ) (n : ℕ) : Type 0 where
   pub step : FitsSigned w32 (pos n)
   pub fits : FitsSigned w32 (passed a +ℤ to_z w32 n)
@@ -165,7 +165,7 @@ difference_of a b la lb = record {
     low : unsigned_abs (a -ℤ b) ≤ 16777216
     low = omega (arith, ints, la, lb)
 
--- a coordinate n cells to the left of a, or above it
+-- subtracting n from the coordinate `a` in 32 bits doesn't overflow, and gives `a - n`
 pub record IsMovedBack (a : ℤ) (n : ℕ) : Type 0 where
   pub step : FitsSigned w32 (pos n)
   pub fits : FitsSigned w32 (passed a -ℤ to_z w32 n)
@@ -215,7 +215,7 @@ module _ (at : Frame) (x y : ℕ) (view : Frame) (plane : AreSidesWithin plane_b
       let rows = is.rows in
       record { left = omega arith; top = omega arith; word_columns = omega arith; rows = omega arith; bands = omega arith }
 
--- ---- what tests say
+-- ---- a comparison of numbers
 
 pub not_below : (a b : ℕ) → b ≤ a → IsTrue (ltb a b) → ⊥
 not_below a b high e = let low : a < b = ltb-true a b e in omega (arith, high, low)

@@ -32,7 +32,7 @@ live_low S x y = elim (has S (cell_at x y)) as (λ b. cond {A = ℕ} b 1 0 ≤ 1
 one_live : (S : List Cell) (c : Cell) (x y : ℤ) → InOrder S → c.x ≡ x → c.y ≡ y → times S c ≡ live S x y
 one_live S c x y o p q = times_once S c o ∙ (λ i. cond (has S (cell_at (p i) (q i))) 1 0)
 
--- the neighbours and the cell itself, by their columns a, x, b and rows d, y, e
+-- the live cells of a neighbourhood are counted cell by cell, in the columns a, x, b and the rows d, y, e
 pub block : (S : List Cell) (x y a b d e : ℤ) → InOrder S → a ≡ x -ℤ pos 1 → b ≡ x +ℤ pos 1 → d ≡ y -ℤ pos 1 → e ≡ y +ℤ pos 1
     → around S (cell_at x y) + live S x y
     ≡ (live S b e + (live S x e + live S a e)) + ((live S b y + (live S x y + live S a y)) + (live S b d + (live S x d + live S a d)))
@@ -104,7 +104,7 @@ past m S x y ends far = go (has S (cell_at x y)) refl
 dark : (m : ℤ) (S : List Cell) (x y : ℤ) → EndsAt m S → m <ℤ (x +ℤ y) → live S x y ≡ 0
 dark m S x y ends far = none-live S x y (past m S x y ends far)
 
--- the live neighbours of a cell that is born past the frontier: the three cells behind it
+-- the three neighbours behind the cell are alive, and the cell is at most 1 deeper than the frontier m
 pub record SawThree (m : ℤ) (S : List Cell) (x y : ℤ) : Type 0 where
   pub corner : live S (x -ℤ pos 1) (y -ℤ pos 1) ≡ 1
   pub left : live S (x -ℤ pos 1) y ≡ 1
@@ -141,7 +141,7 @@ saw_three rule m S x y o slow ends far e = record {
 compare : (a b : ℤ) → (b ≤ℤ a) ⊎ (a <ℤ b)
 compare a b = grind (arith, ints)
 
--- one generation goes at most 1 past the frontier
+-- in one generation, the frontier advances by at most 1
 pub ends-next : (rule : Numbers) (m : ℤ) (S : List Cell) → InOrder S → AnswersSlowly rule → EndsAt m S → EndsAt (m +ℤ pos 1) (next rule S)
 ends-next rule m S o slow ends x y e = go (compare m (x +ℤ y))
   where
@@ -151,7 +151,7 @@ ends-next rule m S o slow ends x y e = go (compare m (x +ℤ y))
 
 -- ---- two generations
 
--- the cell behind a cell two past the frontier had four or five neighbours
+-- a cell has 4 or 5 live neighbours if four of its neighbours are alive, three are dead, and the other is either
 crowded : (n a b c d e f g h i : ℕ) → n + i ≡ (a + (b + c)) + ((d + (i + e)) + (f + (g + h))) → a ≡ 0 → b ≡ 0 → d ≡ 0 → c ≡ 1 → e ≡ 1 → f ≡ 1
     → g ≡ 1 → h ≤ 1 → (n ≡ 4) ⊎ (n ≡ 5)
 crowded n a b c d e f g h i s p q r t u v w low = elim (less_or_not n 5) [ inl four ↦ inl (omega arith) | inr five ↦ inr (omega arith) ]
@@ -161,7 +161,7 @@ survived : (rule : Numbers) (S : List Cell) (x y : ℤ) → has S (cell_at x y) 
 survived rule S x y alive e = sym (ap (λ b. cond b (is_survival rule (around S (cell_at x y))) (is_birth rule (around S (cell_at x y)))) alive)
     ∙ sym (has-next rule S (cell_at x y)) ∙ e
 
--- no cell is alive two past the frontier after two generations
+-- after two generations, no cell 2 deeper than the frontier is alive
 none_two_past : (rule : Numbers) (m : ℤ) (S : List Cell) (x y : ℤ) → InOrder S → AnswersSlowly rule → EndsAt m S → x +ℤ y ≡ m +ℤ pos 2
     → has (next rule (next rule S)) (cell_at x y) ≡ true → ⊥
 none_two_past rule m S x y o slow ends deep e = refused (crowded (around S (cell_at u v)) _ _ _ _ _ _ _ _ _
@@ -175,7 +175,7 @@ none_two_past rule m S x y o slow ends deep e = refused (crowded (around S (cell
     v : ℤ
     v = y -ℤ pos 1
 
-    -- the live neighbours of the cell one generation earlier, and of its left and upper neighbours before that
+    -- the live cells behind the cell one generation earlier, and behind its left and upper neighbours before that
     between : SawThree (m +ℤ pos 1) (next rule S) x y
     between = saw_three rule (m +ℤ pos 1) (next rule S) x y (in_order-next rule S) slow (ends-next rule m S o slow ends) (omega (arith, ints)) e
 

@@ -21,7 +21,7 @@ or_left : (a b : Bool) → a ≡ true → (a || b) ≡ true
 or_left true b e = refl
 or_left false b e = absurd (false≢true e)
 
--- a number at most 1 from another is one of three
+-- a number at most 1 from `a` is `a - 1`, `a` or `a + 1`
 one_step : (a b : ℤ) → distance a b ≤ 1 → ((a +ℤ negsuc 0) ≡ b) ⊎ ((a ≡ b) ⊎ ((a +ℤ pos 1) ≡ b))
 one_step a b h = elim (near a b) [
   | inl (p, q, r, s) ↦ inl (int_eq-true (a +ℤ negsuc 0) b p)
@@ -50,7 +50,7 @@ in_triple e c q h =
 beside_still : (a b : ℤ) → distance a b ≤ 1 → distance (a +ℤ pos 0) b ≤ 1
 beside_still a b h = rw (still a) h
 
--- the cells at king distance at most 1 are those of the neighbourhood
+-- each cell at king distance at most 1 from d is in the neighbourhood of d
 pub in_neighbourhood : (d c : Cell) → king_distance c d ≤ 1 → has (neighbourhood d) c ≡ true
 in_neighbourhood d c h =
     let x : distance d.x c.x ≤ 1 = turned c.x d.x (omega arith) in
@@ -143,7 +143,7 @@ times_once (d ∷ ds) c o = go (same_cell c d) refl (times_once ds c (in_order-t
         omega arith
     go false is ih = omega arith
 
--- the rule by the number of live cells of the neighbourhood, the cell itself among them
+-- `lives_by`, which counts the cell itself, gives the same answer as the rule's numbers do for the live neighbours
 pub lives_by-around : (rule : Numbers) (S : List Cell) (c : Cell) (b : Bool)
     → lives_by rule (around S c + cond b 1 0) b ≡ cond b (is_survival rule (around S c)) (is_birth rule (around S c))
 lives_by-around rule S c true = ap (λ (n : ℕ). is_survival rule n) (omega arith)

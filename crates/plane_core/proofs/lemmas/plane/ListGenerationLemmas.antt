@@ -103,7 +103,7 @@ pub record IsTallied (p : Cell → ℕ → Bool) (n : ℕ) (rest made all : List
   pub short : AreShort n rest
   pub told : made ++ picked p n rest ≡ all
 
--- a place before the end of a list is less than the list's length, and a place past the end isn't
+-- a place before the end of a list is less than the length of the list
 pub inside : (i end len : ℕ) → i < end → len ≡ end → i < len
 inside i end len low whole = omega (arith, low, whole)
 
@@ -149,7 +149,7 @@ tested p n c cs left made all is off t =
     joined true = append_assoc made (c ∷ []) (picked p 0 cs)
     joined false = ap (λ (xs : List Cell). xs ++ picked p 0 cs) (append-nil made)
 
--- The `kept` cells that passed so far are at the front of the list. The list from `place` on is unchanged.
+-- the `kept` cells at the front of the list, followed by the cells that are picked from `place` on, are `all`
 pub record IsKept (p : Cell → ℕ → Bool) (n kept place end : ℕ) (near all : List Cell) : Type 0 where
   pub whole : length near ≡ end
   pub prefix : kept ≤ place
@@ -159,7 +159,7 @@ pub count_low : (p : Cell → ℕ → Bool) (n kept place end : ℕ) (near all :
 count_low p n kept place end near all low k =
     (subst (AreShort n) (drop_more near place (cell_at (pos 0) (pos 0)) (omega (arith, low, k.whole))) k.tallied.short).0
 
--- the run of the cell at the place continues
+-- if the run of the cell at `place` continues, one more of its cells has been counted
 pub kept_further : (p : Cell → ℕ → Bool) (n kept place end : ℕ) (near all : List Cell) (c d : Cell) → place < end → IsKept p n kept place end near all
     → c ≡ get_or near place d → goes_on c (drop (place + 1) near) ≡ true → IsKept p (n + 1) kept (place + 1) end near all
 kept_further p n kept place end near all c d low k is on = record {
@@ -329,7 +329,7 @@ short_runs S near o moved = go near (λ c. omega (arith, times-moved (flat_map n
     go [] few = tt
     go (c ∷ cs) few = are_short 0 c cs (λ e. omega (arith, few e, none_on (same_cell e c) (times (c ∷ cs) e)))
 
--- before the first cell of the list is read, none is kept
+-- before the first cell is read, no cell is kept, and the cells that are picked from the list are the next generation
 pub none_kept : (rule : Numbers) (S near : List Cell) (end : ℕ) → InOrder S → IsPermutation (flat_map neighbourhood S) near → IsSorted cell_cmp near
     → length near ≡ end → IsKept (lives_in rule S) 0 0 0 end near (next rule S)
 none_kept rule S near end o moved sorted whole = record {

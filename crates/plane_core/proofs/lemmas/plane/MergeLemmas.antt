@@ -6,7 +6,8 @@ use Rattle.plane_core.specs.declared.plane.cell.Cell.{Cell}
 use Rattle.plane_core.specs.plane.Cells.{has, same_cell, set_of}
 use Rattle.plane_core.proofs.lemmas.plane.SetLemmas.{has-append, has-set_of, in_order-set_of, is_set_of}
 
--- the first i cells, the cells from place i + j on and the first j of the others are together the cells of both lists
+-- the first i cells, the cells from place i + j on and the first j of `others` together are the cells of `before` and
+-- `others`
 abbrev pub AreTogether : List Cell → List Cell → List Cell → ℕ → ℕ → Type 0
 AreTogether before others cells i j =
     (c : Cell) → (has (take i cells) c || (has (drop (i + j) cells) c || has (take j others) c)) ≡ (has before c || has others c)
@@ -37,7 +38,7 @@ none_merged cells others count long c =
     let all : take (length others) others ≡ others = take_all (length others) others (omega arith) in
     λ t. has (take count cells) c || (has (none t) c || has (all t) c)
 
--- the last of the first i cells moves j places on
+-- after cell i is moved to place i + j, the first i cells and the first j others are left to merge
 pub merged_first : (before others cells : List Cell) (i j : ℕ) (d : Cell) → i + j < length cells → d ≡ get_or cells i d
     → AreTogether before others cells (i + 1) j → AreTogether before others (set cells (i + j) d) i j
 merged_first before others cells i j d low is all c =
@@ -52,7 +53,7 @@ merged_first before others cells i j d low is all c =
     ∙ (λ t. sym taken t || (has (drop (next t) cells) c || has (take j others) c))
     ∙ all c
 
--- the last of the first j others is put at its place
+-- after cell j of the others is put at place i + j, the first i cells and the first j others are left to merge
 pub merged_second : (before others cells : List Cell) (i j : ℕ) (d : Cell) → i + j < length cells → j < length others → d ≡ get_or others j d
     → AreTogether before others cells i (j + 1) → AreTogether before others (set cells (i + j) d) i j
 merged_second before others cells i j d low there is all c =

@@ -17,7 +17,7 @@ use Rattle.plane_core.proofs.lemmas.plane.CellLemmas.{cell_cmp_total, same_cell-
 
 -- ---- one coordinate
 
--- Where one number is relative to another: one to the left, equal, one to the right, or further off, as the tests say.
+-- where one number is relative to another, as three tests say: one to the left, equal, one to the right, or further off
 abbrev pub IsNear : Bool → Bool → Bool → ℕ → Type 0
 IsNear left middle right far =
     ((left ≡ true) × (middle ≡ false) × (right ≡ false) × (far ≡ 1))
@@ -39,7 +39,7 @@ int_eq-false a b e = go (int_cmp a b) refl e
     go Equal is e = absurd (false≢true (sym e))
     go Greater is e = inr (int_ranked a b Greater is)
 
--- if b is none of the three numbers around a, it is at least 2 from a
+-- if `b` is none of `a - 1`, `a` and `a + 1`, it is at least 2 from `a`
 far_away : (a b : ℤ) → ((a +ℤ negsuc 0) <ℤ b) ⊎ (b <ℤ (a +ℤ negsuc 0)) → (a <ℤ b) ⊎ (b <ℤ a) → ((a +ℤ pos 1) <ℤ b) ⊎ (b <ℤ (a +ℤ pos 1)) → 2 ≤ distance a b
 far_away a b (inl u) (inl v) (inl w) = omega (arith, ints)
 far_away a b (inl u) (inl v) (inr w) = omega (arith, ints)
@@ -66,7 +66,7 @@ near a b = go (int_eq (a +ℤ negsuc 0) b) (int_eq a b) (int_eq (a +ℤ pos 1) b
 
 -- ---- one cell
 
--- how many of three cells of a row are the one
+-- how many of the three cells of a row are the given cell
 abbrev hits : Bool → Bool → Bool → Bool → ℕ
 hits row left middle right = cond (row && right) 1 0 + (cond (row && middle) 1 0 + cond (row && left) 1 0)
 
@@ -102,7 +102,7 @@ abbrev pub times : List Cell → Cell → ℕ
 times [] c = 0
 times (d ∷ ds) c = cond (same_cell c d) 1 0 + times ds c
 
--- the live cells in the row of three cells round c, and in the three rows round c
+-- the number of live cells in the row of three cells around c
 abbrev pub row_total : List Cell → Cell → ℕ
 row_total cells c = times cells (moved_by (pos 1) (pos 0) c) + (times cells c + times cells (moved_by (negsuc 0) (pos 0) c))
 
@@ -112,7 +112,7 @@ neighbourhood_total cells c = row_total cells (moved_by (pos 0) (pos 1) c) + (ro
 pub still : (a : ℤ) → a +ℤ pos 0 ≡ a
 still a = omega (arith, ints)
 
--- whether one live cell is counted at the cell in column x of row y
+-- in a list of only d, the cell in column x of row y occurs once if it is d, and otherwise not at all
 hit : (c d : Cell) (x y : ℤ) → c.x ≡ x → c.y ≡ y → times (d ∷ []) c ≡ cond (int_eq y d.y && int_eq x d.x) 1 0
 hit c d x y p q = ap (λ b. cond b 1 0 + 0) (sym (same_cell-eq c d)) ∙ add-zero _ ∙ (λ i. cond (int_eq (q i) d.y && int_eq (p i) d.x) 1 0)
 
@@ -122,7 +122,7 @@ still_moved a b = still (a +ℤ b)
 moved_still : (a b : ℤ) → (a +ℤ pos 0) +ℤ b ≡ a +ℤ b
 moved_still a b = ap (λ (v : ℤ). v +ℤ b) (still a)
 
--- the nine tests of one live cell
+-- in a list of only d, the neighbourhood of c has one live cell if d is a neighbour of c or c itself
 hits_of : (c d : Cell) → neighbourhood_total (d ∷ []) c ≡ cond (king_distance c d == 1) 1 0 + cond (same_cell c d) 1 0
 hits_of c d = sum_of_hits ∙ sym (one_cell _ _ _ _ _ _ _ _ (near c.x d.x) (near c.y d.y))
     ∙ ap (λ b. cond (king_distance c d == 1) 1 0 + cond b 1 0) (same_cell-eq c d)
@@ -162,7 +162,7 @@ neighbourhood_total-cons d ds c = regroup _ _ _ _ _ _ _ _ _ _ _ _ _ _ _ _ _ _
 pub around-cons : (d : Cell) (ds : List Cell) (c : Cell) → around (d ∷ ds) c ≡ cond (king_distance c d == 1) 1 0 + around ds c
 around-cons d ds c = sum_by-cons (λ d. cond (king_distance c d == 1) 1 0) d ds
 
--- the live cells of the block are the live neighbours and, if it is alive, the cell itself
+-- the live cells of a neighbourhood are the live neighbours and, if it is alive, the cell itself
 pub neighbourhood_total-around : (S : List Cell) (c : Cell) → neighbourhood_total S c ≡ around S c + times S c
 neighbourhood_total-around [] c = refl
 neighbourhood_total-around (d ∷ ds) c =

@@ -34,7 +34,7 @@ last_next n some = omega (arith, some)
 pub below_same : (k n m : ℕ) → k < n → m ≡ n → k < m
 below_same k n m low same = omega (arith, low, same)
 
--- ---- windows of few vectors
+-- ---- windows of 10 to 16 vectors
 
 pub few_vectors : (n : ℕ) → n ≤ 16 → n * 32 < 9223372036854775808
 few_vectors n few = omega (arith, few)

@@ -51,7 +51,7 @@ has-map_alike f cs ds same c = both_true (has (map f cs) c) (has (map f ds) c) (
 pub set_of-alike : (cs ds : List Cell) → ((c : Cell) → has cs c ≡ has ds c) → set_of cs ≡ set_of ds
 set_of-alike cs ds same = same_lists (set_of cs) (set_of ds) (in_order-set_of cs) (in_order-set_of ds) (λ c. has-set_of cs c ∙ same c ∙ sym (has-set_of ds c))
 
--- the set of a set's image is the set of the list's image
+-- the image of a list and the image of its set have the same set
 pub set_of-map : (f : Cell → Cell) (cs : List Cell) → set_of (map f (set_of cs)) ≡ set_of (map f cs)
 set_of-map f cs = set_of-alike (map f (set_of cs)) (map f cs) (has-map_alike f (set_of cs) cs (has-set_of cs))
 
@@ -84,7 +84,7 @@ mirror-cell Flip c = refl
 mirror-cell Diagonal c = refl
 mirror-cell AntiDiagonal c = λ i. cell_at (back c.y i) (neg_ℤ c.x)
 
--- two or three more quarter turns
+-- two more quarter turns
 twice : (a : Orientation) (c : Cell) → turned_cell Quarter (turned_cell Quarter (turned_cell a c)) ≡ turned_cell (quarter_after (quarter_after a)) c
 twice a c = ap (turned_cell Quarter) (quarter-cell a c) ∙ quarter-cell (quarter_after a) c
 
@@ -92,7 +92,7 @@ thrice : (a : Orientation) (c : Cell)
     → turned_cell Quarter (turned_cell Quarter (turned_cell Quarter (turned_cell a c))) ≡ turned_cell (quarter_after (quarter_after (quarter_after a))) c
 thrice a c = ap (turned_cell Quarter) (twice a c) ∙ quarter-cell (quarter_after (quarter_after a)) c
 
--- turning a cell by a and then by b is turning it by their product
+-- turning a cell by `a` and then by `b` is turning it by their product
 pub product-cell : (a b : Orientation) (c : Cell) → turned_cell b (turned_cell a c) ≡ turned_cell (product a b) c
 product-cell a Same c = refl
 product-cell a Quarter c = quarter-cell a c
@@ -105,7 +105,7 @@ product-cell a Flip c = (λ i. cell_at (sym (back (turned_cell a c).x) i) (neg_�
 product-cell a Diagonal c = (λ i. cell_at (sym (back (turned_cell a c).y) i) (sym (back (turned_cell a c).x) i))
     ∙ ap (λ (d : Cell). turned_cell Quarter (turned_cell Quarter (turned_cell Quarter d))) (mirror-cell a c) ∙ thrice (mirror_after a) c
 
--- a cell whose eight images differ, and the orientation that takes it to a place
+-- a cell whose eight images all differ
 probe : Cell
 probe = cell_at (pos 1) (pos 2)
 
@@ -151,7 +151,7 @@ same_is_identity Flip = (refl, refl)
 same_is_identity Diagonal = (refl, refl)
 same_is_identity AntiDiagonal = (refl, refl)
 
--- an image of an image is the image in the product
+-- the image under `b` of the image under `a` is the image under the product of `a` and `b`
 pub image-image : (a b : Orientation) (cs : List Cell) → image b (image a cs) ≡ image (product a b) cs
 unfolding image
 image-image a b cs = set_of-map (turned_cell b) (map (turned_cell a) cs)

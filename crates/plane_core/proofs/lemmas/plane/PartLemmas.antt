@@ -18,9 +18,9 @@ use Rattle.plane_core.proofs.lemmas.plane.SetLemmas.{has-append, has-cases, has-
 use Rattle.plane_core.proofs.lemmas.plane.SpeedLemmas.{after-suc, run_inside}
 use Rattle.plane_core.proofs.lemmas.Between.{AreApart}
 
--- ---- what a cell sees
+-- ---- the cells on which the next state of a cell depends
 
--- the cells at king distance 1 from c
+-- d is at king distance 1 from c
 abbrev pub beside : Cell → Cell → Bool
 beside c d = king_distance c d == 1
 
@@ -96,7 +96,7 @@ far-lives rule c S far = false_unless (lives rule S c) (λ h. elim (lives_cases 
   | inr some ↦ let d = a_neighbour S c some in let out = far d.0 d.1 in absurd (omega (arith, out, d.2))
 ])
 
--- ---- where the cells come from
+-- ---- where live cells come from
 
 pub triangle : (c d e : Cell) (m n : ℕ) → king_distance c d ≤ m → king_distance d e ≤ n → king_distance c e ≤ m + n
 triangle c d e m n h k =
@@ -131,7 +131,7 @@ near-after rule S (suc g) c e =
 
 -- ---- two parts
 
--- the cells that don't pass the test
+-- the cell doesn't pass the test
 abbrev pub others : (Cell → Bool) → Cell → Bool
 others test c = not (test c)
 
@@ -144,7 +144,7 @@ has-parts test S c = both (has S c) (test c) ∙ sym (λ i. has-filter test S c 
     both true false = refl
     both false b = refl
 
--- Two parts that are further than 2n apart don't affect each other up to generation n.
+-- two parts that are further than 2n apart don't affect each other up to generation n
 pub parts-after : (rule : Numbers) (S : List Cell) (test : Cell → Bool) (n g : ℕ) → InOrder S → AreApart (2 * n) test S → g ≤ n → (c : Cell)
     → has (after rule S g) c ≡ (has (after rule (filter test S) g) c || has (after rule (filter (others test) S) g) c)
 parts-after rule S test n zero o apart low c =

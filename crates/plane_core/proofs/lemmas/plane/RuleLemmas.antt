@@ -4,7 +4,7 @@ use Rattle.std.proofs.Common.{◌-◌, ◌⊎◌, inl, inr, zero, refl, slice_ge
 use Rattle.std.proofs.lemmas.List.{take_more_set, drop_all}
 use Rattle.plane_core.specs.plane.Rules.{Numbers, digits, is_birth, is_survival}
 
--- the digits from place i on begin with the digit of place i, if its answer is true
+-- if the answer at place i is true, the digits from place i on begin with the digit of place i
 pub digits-drop-true : (n i : ℕ) (logic : List Bool) → i < length logic → get_or logic i false ≡ true
     → digits (n + i) (drop i logic) ≡ (48 + n + i) ∷ digits (n + (i + 1)) (drop (i + 1) logic)
 unfolding digits
@@ -19,7 +19,7 @@ unfolding digits
 digits-drop-false n i logic h e =
     rw (add-one i, drop-cons logic i false, e) (ap (λ (k : ℕ). digits k (drop (suc i) logic)) (omega arith))
 
--- one more digit is moved to the prefix
+-- if the answer at place i is true, its digit can be moved to the end of the prefix
 pub digits-prefix-true : (n i : ℕ) (logic : List Bool) (prefix text : List ℕ) → i < length logic → get_or logic i false ≡ true
     → text ≡ prefix ++ digits (n + i) (drop i logic)
     → text ≡ (prefix ++ (48 + n + i) ∷ []) ++ digits (n + (i + 1)) (drop (i + 1) logic)
@@ -41,7 +41,8 @@ pub digits-prefix-end : (n i : ℕ) (logic : List Bool) (prefix text : List ℕ)
 unfolding digits
 digits-prefix-end n i logic prefix text h p = p ∙ ap (λ (xs : List Bool). prefix ++ digits (n + i) xs) (drop_all i logic h) ∙ append-nil prefix
 
--- one more digit is put at the end of the text
+-- if the answer at place i is true and its digit is put at place `end`, the text up to there and the later digits are
+-- still `whole`
 pub digits-put : (n i end : ℕ) (logic : List Bool) (text whole : List ℕ) → i < length logic → get_or logic i false ≡ true
     → end < length text → whole ≡ take end text ++ digits (n + i) (drop i logic)
     → whole ≡ take (end + 1) (set text end (48 + n + i)) ++ digits (n + (i + 1)) (drop (i + 1) logic)
@@ -49,7 +50,7 @@ digits-put n i end logic text whole h e low p =
     digits-prefix-true n i logic (take end text) whole h e p
     ∙ ap (λ (prefix : List ℕ). prefix ++ digits (n + (i + 1)) (drop (i + 1) logic)) (sym (take_more_set text end (48 + n + i) low))
 
--- before the first digit, the letter is put
+-- putting the letter at `place` is like prepending it to the digits
 pub digits-begun : (n place letter : ℕ) (logic : List Bool) (text : List ℕ) → place < length text
     → take place text ++ letter ∷ digits n logic ≡ take (place + 1) (set text place letter) ++ digits (n + 0) (drop 0 logic)
 digits-begun n place letter logic text low =

@@ -1,4 +1,4 @@
--- Reading a rule: each text that is read is its rule's text, each rule's text is read, and a fault is the leftmost.
+-- Reading a rule: each text that is read is its rule's text, each rule's text is read, and a fault is the leftmost one.
 use Rattle.std.proofs.Common.{◌≡◌, ◌≢◌, ◌<◌, ◌≤◌, ◌+◌, ◌-◌, ◌==◌, ℕ, zero, suc, Bool, true, false, List, [], ◌∷◌, ◌++◌, length, take, drop, refl}
 use Rattle.std.proofs.Common.{sym, ◌∙◌, ap, subst, arith, append_assoc, append-nil, length-append, length-drop, codes, Result, Ok, Err, IfOk, IsTrue, ◌↔◌}
 use Rattle.std.proofs.lemmas.List.{take_at}
@@ -22,12 +22,12 @@ begins-same d more = (starts_is Decides-eqb (d ∷ more) (d ∷ []) (begins (d �
 pub begins-other : (c d : ℕ) (more : List ℕ) → c ≢ d → begins (c ∷ more) (d ∷ []) ≡ false
 begins-other c d more ne = grind (arith, nat_tests)
 
--- only the first byte matters
+-- whether a text begins with the byte d depends only on its first byte
 pub begins-same_prefix : (prefix : List ℕ) (c d : ℕ) (x y : List ℕ) → begins (prefix ++ c ∷ x) (d ∷ []) ≡ begins (prefix ++ c ∷ y) (d ∷ [])
 begins-same_prefix [] c d x y = refl
 begins-same_prefix (b ∷ prefix) c d x y = refl
 
--- the next digit is at the front of the text, or it isn't
+-- a property of readings holds if it holds in both cases: the text begins with the digit n, or it doesn't
 pub numbers_at-cases : (P : Reading → Type 0) (k n : ℕ) (text : List ℕ)
     → (begins text ((48 + n) ∷ []) ≡ true → P (with_answer true (numbers_at k (n + 1) (drop 1 text))))
     → (begins text ((48 + n) ∷ []) ≡ false → P (with_answer false (numbers_at k (n + 1) text)))
@@ -53,7 +53,7 @@ length-numbers_at (suc k) n text =
     numbers_at-cases (λ read. length read.logic ≡ suc k) k n text
     (λ h. ap (λ (m : ℕ). suc m) (length-numbers_at k (n + 1) (drop 1 text))) (λ h. ap (λ (m : ℕ). suc m) (length-numbers_at k (n + 1) text))
 
--- How far numbers are read doesn't depend on the text after the first byte of the remainder.
+-- how far numbers are read doesn't depend on the text after the first byte of the remainder
 pub numbers_at-other_remainder : (k n : ℕ) (text : List ℕ) (c : ℕ) (cs more : List ℕ) → (numbers_at k n text).remainder ≡ c ∷ cs
     → numbers_at k n (digits n (numbers_at k n text).logic ++ c ∷ more) ≡ record { logic = (numbers_at k n text).logic; remainder = c ∷ more }
 unfolding digits numbers_at
@@ -83,7 +83,7 @@ IsPastDigits-nil = record { past = λ n h. refl }
 pub IsPastDigits-s : (more : List ℕ) → IsPastDigits (115 ∷ more)
 IsPastDigits-s more = record { past = λ n h. let ne : 115 ≢ 48 + n = omega arith in begins-other 115 (48 + n) more ne }
 
--- if only digits of greater numbers follow, the number's own digit doesn't come next
+-- a text of digits of numbers greater than n, followed by no digit, doesn't begin with the digit n
 pub begins-digits : (n m : ℕ) (logic : List Bool) (remainder : List ℕ) → n < m → n < 10 → IsPastDigits remainder
     → begins (digits m logic ++ remainder) ((48 + n) ∷ []) ≡ false
 unfolding digits
@@ -111,14 +111,14 @@ length-remainder k n text =
     let e : length (digits n (numbers_at k n text).logic ++ (numbers_at k n text).remainder) ≡ length text = ap length (digits-numbers_at k n text) in
     omega (arith, e, length-append (digits n (numbers_at k n text).logic) (numbers_at k n text).remainder)
 
--- the numbers after the letters
+-- the birth numbers of a text, which come after its first byte, the `b`
 abbrev pub births_in : List ℕ → Reading
 births_in text = numbers_at 8 1 (drop 1 text)
 
 abbrev pub survivals_in : List ℕ → Reading
 survivals_in text = numbers_at 9 0 (drop 1 (births_in text).remainder)
 
--- the outcomes of a reading, from the left
+-- a text that doesn't begin with b has its fault at place 0
 pub rule_read-no_b : (text : List ℕ) → begins text (codes "b") ≡ false → rule_read text ≡ Err (BadRule 0)
 unfolding rule_read
 rule_read-no_b text b = rw b refl
@@ -147,7 +147,7 @@ rule_read-all text b no_zero s end = rw (b, no_zero, s, end) refl
 pub sliced : (k n : ℕ) (text : List ℕ) → numbers_at k n (take (length text - 1) (drop 1 text)) ≡ numbers_at k n (drop 1 text)
 sliced k n text = ap (numbers_at k n) (take-drop-remainder 1 text)
 
--- the births and survivals, read from slices as the code reads them
+-- the text that remains after the births is the same if they are read from a slice, as the code does
 pub births_sliced : (text remainder : List ℕ) → remainder ≡ (numbers_at 8 1 (take (length text - 1) (drop 1 text))).remainder → remainder ≡ (births_in text).remainder
 births_sliced text remainder e = e ∙ ap (λ (r : Reading). r.remainder) (sliced 8 1 text)
 
@@ -166,7 +166,7 @@ Says text (Ok rule) = IsRule rule × (rule_text rule ≡ text)
 Says text (Err (BadRule place)) = IsFirstFault text place × (begins text (codes "b0") ≡ false)
 Says text (Err BirthZero) = begins text (codes "b0") ≡ true
 
--- no rule has a birth at 0
+-- no rule's text begins with b0
 zero-rule_text : (rule : Numbers) → begins (rule_text rule) (codes "b0") ≡ false
 unfolding rule_text
 zero-rule_text rule =
@@ -189,7 +189,7 @@ rule_read-rule_text rule whole =
     let end : (length (survivals_in text).remainder == 0) ≡ true = ap (λ (r : Reading). length r.remainder == 0) survivals in
     rule_read-all text (begins-same 98 (digits 1 rule.births ++ 115 ∷ after_s)) no_zero s end ∙ rw (survivals, births) refl
 
--- If a prefix begins a rule's text and the prefix with one more byte doesn't, the first fault is after the prefix.
+-- if a prefix begins a rule's text and the prefix with one more byte doesn't, the first fault is after the prefix
 pub IsFirstFault-after : (prefix remainder : List ℕ) → BeginsRule prefix → ((c : ℕ) (cs : List ℕ) → remainder ≡ c ∷ cs → BeginsRule (prefix ++ c ∷ []) → ⊥)
     → IsFirstFault (prefix ++ remainder) (length (prefix ++ remainder) - length remainder)
 IsFirstFault-after prefix [] begun stops =
@@ -235,7 +235,8 @@ BeginsRule-births births len =
 pub BeginsRule-rule_text : (rule : Numbers) → IsRule rule → BeginsRule (rule_text rule)
 BeginsRule-rule_text rule whole = record { rule = rule; remainder = []; is_rule = whole; spelled = sym (append-nil (rule_text rule)) }
 
--- what follows the births' digits in a rule's text that shares a prefix with the text
+-- if a rule's text begins with `b`, the births' digits of the text and the byte c after them, then c and what follows
+-- it in the rule's text are `s` and the survivals' digits
 pub births-shared : (text : List ℕ) (c : ℕ) (cs more : List ℕ) (rule : Numbers) → IsRule rule → (births_in text).remainder ≡ c ∷ cs
     → rule_text rule ≡ 98 ∷ (digits 1 (births_in text).logic ++ c ∷ more) → 115 ∷ digits 0 rule.survivals ≡ c ∷ more
 unfolding rule_text
@@ -358,7 +359,7 @@ Says_all text b s end =
     empty [] h = refl
     empty (x ∷ xs) h = grind (arith, nat_tests)
 
--- every outcome implies what it should
+-- the outcome of reading a text implies what `Says` states for it
 pub Says_rule_read : (text : List ℕ) → Says text (rule_read text)
 Says_rule_read text =
     go (begins text (codes "b")) (begins text (codes "b0")) (begins (births_in text).remainder (codes "s")) (length (survivals_in text).remainder == 0) refl
@@ -381,7 +382,7 @@ rule_text-rule_read text = spelled (rule_read text) (Says_rule_read text) where
 pub IsFirstFault-rule_read : (text : List ℕ) (place : ℕ) → rule_read text ≡ Err (BadRule place) → IsFirstFault text place
 IsFirstFault-rule_read text place e = let says = subst (Says text) e (Says_rule_read text) in says.0
 
--- ---- what is read keeps these laws
+-- ---- laws of a result that equals `rule_read` of the text
 
 pub reads_complete : (text : List ℕ) (read : Result Numbers RuleFault) → read ≡ rule_read text → (rule : Numbers) → IsRule rule → rule_text rule ≡ text
     → read ≡ Ok rule

@@ -19,7 +19,7 @@ after-plus rule S a (suc b) =
     after-suc rule (after rule S a) b ∙ ap (λ (T : List Cell). next rule T) (after-plus rule S a b) ∙ sym (after-suc rule S (a + b))
     ∙ ap (λ (n : ℕ). after rule S n) (omega arith)
 
--- if the first a generations stay off the edge, and the next b do, then all a + b do
+-- if the first `a` generations stay off the edge, and so do the next `b`, then all `a + b` generations do
 pub inside-more : (rule : Numbers) (S : List Cell) (a b : ℕ) → ((g : ℕ) → g < a → touches_edge (after rule S g) ≡ false)
     → ((g : ℕ) → g < b → touches_edge (after rule (after rule S a) g) ≡ false) → (g : ℕ) → g < a + b → touches_edge (after rule S g) ≡ false
 inside-more rule S a b before later g low = go (less_or_not g a)

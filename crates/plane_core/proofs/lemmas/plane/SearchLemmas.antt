@@ -91,7 +91,7 @@ is_pattern-set_of cs none = record {
   on_plane = has-list_all on_plane (set_of cs) (λ c e. list_all-has on_plane cs (position-none on_plane cs none) c (sym (has-set_of cs c) ∙ e));
 }
 
--- a list that is sorted and without duplicates is the set of its cells
+-- sorting a list of cells and removing duplicates gives the set of its cells
 pub deduped-set_of : (same : Cell → Cell → Bool) (cs ds : List Cell) → ((a b : Cell) → same a b ≡ same_cell a b) → IsPermutation cs ds
     → IsSorted cell_cmp ds → dedup same ds ≡ set_of cs
 deduped-set_of same cs ds is moved sorted =
@@ -107,7 +107,7 @@ deduped-set_of same cs ds is moved sorted =
     equal_cells : IsEquivalence same_cell
     equal_cells = eq_by_cmp_equiv cell_cmp_total
 
--- the search from place i ends at i if the cell there passes the test, and otherwise goes on
+-- a search from place i ends at place i if the cell there passes the test
 pub position-here : (p : Cell → Bool) (cs : List Cell) (i : ℕ) (d : Cell) → i < length cs → p (get_or cs i d) ≡ true
     → position_from p i (drop i cs) ≡ Some i
 position-here p cs i d low passes =

@@ -96,7 +96,7 @@ off_edge c n low h =
     let y : unsigned_abs c.y ≤ n = leb-true (unsigned_abs c.y) n parts.1 in
     rw (ne_eqb (unsigned_abs c.x) plane_bound (λ e. absurd (omega arith)), ne_eqb (unsigned_abs c.y) plane_bound (λ e. absurd (omega arith))) refl
 
--- a pattern that is inside the edge doesn't touch it
+-- a pattern within n of the origin doesn't touch the edge, if n is less than the bound of the plane
 pub inside_edge : (S : List Cell) (n : ℕ) → n < plane_bound → lies_within n S ≡ true → touches_edge S ≡ false
 inside_edge [] n low h = refl
 inside_edge (c ∷ cs) n low h =

@@ -54,14 +54,14 @@ is_pattern-shifted dx dy cs o on = record { in_order = in_order-shifted dx dy cs
 
 -- ---- the shift from one list to another
 
--- the step that leads from one coordinate to another
+-- adding the difference of two coordinates to the first coordinate gives the second
 step_on : (a b d : ℤ) → (b -ℤ a) ≡ d → a +ℤ d ≡ b
 step_on a b d e = omega (arith, ints)
 
 step_of : (a b d : ℤ) → a +ℤ d ≡ b → (b -ℤ a) ≡ d
 step_of a b d e = omega (arith, ints)
 
--- a loop's step: the next two cells are also (dx, dy) apart
+-- if the first i cells are shifted by (dx, dy) and the next two cells are (dx, dy) apart, the first i + 1 are shifted
 pub stepped_more : (dx dy : ℤ) (cs ds : List Cell) (i : ℕ) (z : Cell) (s : ℤ × ℤ) → i < length cs → length cs ≡ length ds
     → shifted dx dy (take i cs) ≡ take i ds
     → s ≡ ((get_or ds i z).x -ℤ (get_or cs i z).x, (get_or ds i z).y -ℤ (get_or cs i z).y) → not (int_eq s.0 dx && int_eq s.1 dy) ≡ false
@@ -118,14 +118,14 @@ finds_shift (c ∷ cs) (d ∷ ds) z s false some same is iff = record {
         let whole : shifted s.0 s.1 (c ∷ cs) ≡ d ∷ ds = subst (λ (t : ℤ × ℤ). shifted t.0 t.1 (c ∷ cs) ≡ d ∷ ds) (sym step) e in
         false≢true (iff.1 whole)
 
--- one more image passes a test
+-- if the first i images and image i pass a test, the first i + 1 images pass it
 pub one_image_passes : (p : Cell → Bool) (f : Cell → Cell) (cs : List Cell) (i : ℕ) (d : Cell) → i < length cs
     → list_all p (map f (take i cs)) ≡ true → p (f (get_or cs i d)) ≡ true → list_all p (map f (take (i + 1) cs)) ≡ true
 one_image_passes p f cs i d low so_far passes =
     ap (list_all p) (map_more f cs i d low) ∙ list_all-append p (map f (take i cs)) (f (get_or cs i d) ∷ [])
     ∙ (λ k. so_far k && (passes k && true))
 
--- ---- sums that stop at the ends of 32 bits
+-- ---- sums that are clamped to 32 bits
 
 clamped_size : (z : ℤ) → leb (unsigned_abs (saturate_to_bits 31 z)) plane_bound ≡ leb (unsigned_abs z) plane_bound
 clamped_size (pos n) = both_true (leb (min n 2147483647) plane_bound) (leb n plane_bound)
@@ -139,7 +139,7 @@ clamped_same : (z : ℤ) → leb (unsigned_abs (saturate_to_bits 31 z)) plane_bo
 clamped_same (pos n) h = let low = leb-true (min n 2147483647) plane_bound h in ap pos (omega arith)
 clamped_same (negsuc n) h = let low = leb-true (suc (min n 2147483647)) plane_bound h in ap negsuc (omega arith)
 
--- if the sums are clamped to 32 bits, a moved cell is still on the plane exactly if the exact one is
+-- a cell moved by sums that are clamped to 32 bits is on the plane exactly if the cell moved by exact sums is
 pub lands_plane : (dx dy : ℤ) (c d : Cell) → d.x ≡ saturate_to_bits 31 (c.x +ℤ dx) → d.y ≡ saturate_to_bits 31 (c.y +ℤ dy)
     → on_plane d ≡ on_plane (moved_by dx dy c)
 unfolding on_plane
@@ -158,14 +158,14 @@ lands_there dx dy c d across down on =
 
 -- ---- a list whose cells are changed one after another
 
--- the next cell is still unchanged
+-- after the first i cells are changed, cell i is still unchanged
 pub as_it_was : (f : Cell → Cell) (cs now : List Cell) (i : ℕ) (d : Cell) → i < length cs → now ≡ map f (take i cs) ++ drop i cs
     → get_or now i d ≡ get_or cs i d
 as_it_was f cs now i d low is =
     ap (λ (all : List Cell). get_or all i d) (is ∙ ap (λ (more : List Cell). map f (take i cs) ++ more) (drop_more cs i d low))
     ∙ get_or_at (map f (take i cs)) (get_or cs i d) (drop (i + 1) cs) d i (length-map _ _ ∙ length-take-le i cs (omega arith))
 
--- the next cell is changed
+-- once cell i is changed too, the first i + 1 cells are changed
 pub change_more : (f : Cell → Cell) (cs now : List Cell) (i : ℕ) (d new : Cell) → i < length cs → now ≡ map f (take i cs) ++ drop i cs
     → new ≡ f (get_or cs i d) → set now i new ≡ map f (take (i + 1) cs) ++ drop (i + 1) cs
 change_more f cs now i d new low is one =

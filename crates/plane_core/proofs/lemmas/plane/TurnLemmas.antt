@@ -74,7 +74,7 @@ pub set_of-moved : (dx dy : ℤ) (cs : List Cell) → set_of (shifted dx dy cs) 
 set_of-moved dx dy [] = refl
 set_of-moved dx dy (c ∷ cs) = ap (put (moved_by dx dy c)) (set_of-moved dx dy cs) ∙ put-moved dx dy c (set_of cs)
 
--- all cells of a list's set pass a test exactly if all cells of the list do
+-- all cells of the set of a list pass a test exactly if all cells of the list do
 pub list_all-set_of : (p : Cell → Bool) (cs : List Cell) → list_all p (set_of cs) ≡ list_all p cs
 list_all-set_of p cs = both_true (list_all p (set_of cs)) (list_all p cs)
     (λ h. has-list_all p cs (λ c e. list_all-has p (set_of cs) h c (has-set_of cs c ∙ e)))
@@ -85,7 +85,7 @@ landed-map : (o : Orientation) (b : Bounds) (cs : List Cell)
 landed-map o b [] = refl
 landed-map o b (c ∷ cs) = ap (λ (ds : List Cell). landed (corner_transform o (Some b)) c ∷ ds) (landed-map o b cs)
 
--- the set of the landed cells is the image at the corner
+-- if the images of the cells have a box, the set of the cells placed by its corner transform is the image at the corner
 pub landed-turned : (o : Orientation) (cs : List Cell) (b : Bounds) → box_of (map (turned_cell o) cs) ≡ Some b
     → set_of (map (landed (corner_transform o (Some b))) cs) ≡ turned o cs
 unfolding turned image
@@ -141,7 +141,7 @@ images_on_plane o (c ∷ cs) h =
     let parts = and_parts (on_plane c) (list_all on_plane cs) h in
     and_from (on_plane (turned_cell o c)) (list_all on_plane (map (turned_cell o) cs)) (on_plane-turned o c parts.0) (images_on_plane o cs parts.1)
 
--- the corner of the box of cells of the plane is no further out than the bound
+-- the corner of the box around cells of the plane is within the bound of the plane
 pub corner_small : (cs : List Cell) (b : Bounds) → box_of cs ≡ Some b → list_all on_plane cs ≡ true
     → (unsigned_abs b.left ≤ plane_bound) × (unsigned_abs b.top ≤ plane_bound)
 unfolding on_plane
@@ -161,7 +161,7 @@ pub image_corner_small : (o : Orientation) (cs : List Cell) (b : Bounds) → box
     → (unsigned_abs b.left ≤ plane_bound) × (unsigned_abs b.top ≤ plane_bound)
 image_corner_small o cs b e on = corner_small (map (turned_cell o) cs) b e (images_on_plane o cs on)
 
--- ---- what the placement to the corner does
+-- ---- placing a pattern at the corner
 
 no_cells : (o : Orientation) (cs : List Cell) → box_of (map (turned_cell o) cs) ≡ None → cs ≡ []
 no_cells o [] e = refl

@@ -56,7 +56,7 @@ lane_adder a b c j i la lb lc low = (λ t. bit_at (ones t) i + 2 * bit_at (twos 
         (four_lanes bit_and (zip2 bit_xor a b) c (four_lanes bit_xor a b la lb) lc) low
         ∙ (λ t. bit_or (lane_of bit_and a b j la lb low t) (carry t))
 
--- the digits of a sum of two pairs of digits, of which the second pair counts twice, in each lane
+-- in each lane, four words have the binary digits of the sum of a pair of digits and twice another pair
 pub lane_joined : (a b c d : List ℕ) (j i : ℕ) → length b ≡ 4 → length c ≡ 4 → length d ≡ 4 → j < 4
     → bit_of a j i + 2 * bit_of (zip2 bit_xor b c) j i + 4 * bit_of (zip2 bit_xor d (zip2 bit_and b c)) j i
     + 8 * bit_of (zip2 bit_and d (zip2 bit_and b c)) j i
@@ -92,9 +92,9 @@ lane_choice test one other j i lt lo ln low =
         (lane_of bit_and (zip2 bit_xor other one) test j apart lt low
         ∙ ap (λ (n : ℕ). bit_and n (slice_index test j)) (lane_of bit_xor other one j ln lo low))
 
--- ---- two words joined
+-- ---- two words joined into one
 
--- lane j of two vectors of words, of which the first is shifted down by s, and the second up by 64 - s
+-- lane j of the union of two vectors, where `first` is shifted down by s and `second` is shifted up by 64 - s
 pub joined_lane : (first second : List ℕ) (j s : ℕ) → length first ≡ 4 → length second ≡ 4 → j < 4
     → slice_index
     (zip2 bit_or (zip2 (λ (a b : ℕ). a / 2 ^ b) first (replicate 4 s))
@@ -125,7 +125,7 @@ joined_lane first second j s lf ls low =
         lane_of up doubled (replicate 4 (63 - s)) j (four_lanes up second (replicate 4 1) ls refl) refl low
         ∙ (λ t. up (double t) (get_or-replicate 4 j (63 - s) 0 low t))
 
--- ---- a row that is one word
+-- ---- the row sum of a word
 
 alone_or : (n i : ℕ) → bit_at n i ≡ bit_at (bit_or n 0) i
 alone_or n i = omega (arith, bit_at_or n 0 i, bit_at-zero i, bit_at-lt n i)
@@ -152,7 +152,7 @@ shifted_right words j i long small low inside =
     ∙ ap (λ (b : ℕ). slice_index words j / 2 ^ b) (get_or-replicate 4 j 1 0 low))
     ∙ bit_east (slice_index words j) i small inside
 
--- the sum of a bit and the bits to its left and right
+-- in each lane, the sum of a bit and the bits to its left and right is the row sum of the lane's word
 pub lane_across : (words : List ℕ) (j i : ℕ) → length words ≡ 4 → Each1 (Fits w64) words → j < 4 → i < 64
     → bit_of (zip2 (λ (a b : ℕ). a * 2 ^ b % 2 ^ 64) words (replicate 4 1)) j i + bit_of words j i
     + bit_of (zip2 (λ (a b : ℕ). a / 2 ^ b) words (replicate 4 1)) j i

@@ -27,7 +27,7 @@ rest_few n made few = omega arith
 at_most_one : (n : ℕ) → n % 2 ≤ 1
 at_most_one n = omega arith
 
--- the board was advanced by the whole even part
+-- the case of a board that was advanced by the whole even part of the generations
 pub returns-then-time-le-LATEST_TIME-clause-kept : goal.returns-then-time-le-LATEST_TIME-clause-kept
 returns-then-time-le-LATEST_TIME-clause-kept c =
     let n = c.args.generations in
@@ -54,7 +54,7 @@ returns-then-time-le-LATEST_TIME-clause-cells c =
     ∙ ap (after rule (whole_of rule h)) c.if-made-most.true)
     ∙ in_parts rule (whole_of rule h) (n - n % 2) (n % 2) n (both_parts n)
 
--- otherwise the pattern goes on as a list
+-- the case of a board that had no room, or of a time past `LATEST_TIME`: the pattern becomes a list
 pub overflow_add-time : goal.overflow_add-time
 overflow_add-time c = omega (arith, c.requires.is_split.1.early, c.in_ok-made.ensures.most, c.requires.few)
 

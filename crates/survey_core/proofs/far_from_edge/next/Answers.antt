@@ -5,7 +5,7 @@ use Rattle.plane_core.specs.declared.generation.StepError.TheVariants.{Edge}
 use Rattle.plane_core.proofs.lemmas.plane.SpeedLemmas.{inside_edge}
 use Rattle.survey_core.proofs.far_from_edge.next.Goals as goal
 
--- no cell lies on the edge
+-- the step isn't refused at the edge, because no cell touches the edge
 pub refusal-requires : goal.refusal-requires
 refusal-requires c = record {
   inland = λ edge.

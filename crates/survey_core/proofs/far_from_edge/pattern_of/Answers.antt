@@ -5,7 +5,7 @@ use Rattle.plane_core.specs.plane.Refusals.{RefusesCells}
 use Rattle.survey_core.proofs.lemmas.PlaneLemmas.{none_off}
 use Rattle.survey_core.proofs.far_from_edge.pattern_of.Goals as goal
 
--- no cell lies past the bound
+-- no cell is refused as off the plane
 pub unreachable-requires : goal.unreachable-requires
 unreachable-requires c =
     let none : position off_plane c.args.cells.now ≡ None = none_off c.args.cells.now c.requires in

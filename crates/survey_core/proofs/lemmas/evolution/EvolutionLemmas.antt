@@ -9,7 +9,7 @@ use Rattle.survey_core.specs.UnderWay.{StaysNear, survey_reach}
 use Rattle.survey_core.proofs.lemmas.FindingLemmas.{after-then}
 use Rattle.survey_core.proofs.lemmas.PlaneLemmas.{within_later}
 
--- n generations in two parts
+-- a generations and then b generations are n generations if a + b is n
 pub in_parts : (rule : Numbers) (cells : List Cell) (a b n : ℕ) → a + b ≡ n → after rule (after rule cells a) b ≡ after rule cells n
 in_parts rule cells a b n is = after-then rule cells a b ∙ ap (after rule cells) is
 
@@ -17,7 +17,8 @@ in_parts rule cells a b n is = after-then rule cells a b ∙ ap (after rule cell
 pub near_now : (rule : Numbers) (cells : List Cell) (n : ℕ) → StaysNear rule cells n → lies_within survey_reach cells ≡ true
 near_now rule cells n near = ap (lies_within survey_reach) (sym (after-none rule cells)) ∙ near 0 (omega arith)
 
--- if a pattern is near the origin and stays near from at most one generation later, it stays near from now on
+-- if a pattern is near the origin now, and stays near it from `ahead` generations later on, where `ahead` is 0 or 1, it
+-- stays near it from now on
 pub near_ahead : (rule : Numbers) (cells : List Cell) (ahead n : ℕ) → ahead ≤ 1 → lies_within survey_reach cells ≡ true
     → StaysNear rule (after rule cells ahead) n → StaysNear rule cells (ahead + n)
 near_ahead rule cells ahead n few here near g low = go (less_or_not g ahead)
@@ -29,7 +30,7 @@ near_ahead rule cells ahead n few here near g low = go (less_or_not g ahead)
     go (inr late) =
         ap (lies_within survey_reach) (sym (in_parts rule cells ahead (g - ahead) g (omega arith))) ∙ near (g - ahead) (omega arith)
 
--- up to the next checkpoint a pattern stays near
+-- a pattern that began within 1,000 of the origin stays near it for n more generations, up to generation 100,000
 pub stays_near : (rule : Numbers) (cells latest : List Cell) (t n : ℕ) → latest ≡ after rule cells t
     → lies_within 1000 cells ≡ true → t + n ≤ 100000 → StaysNear rule latest n
 stays_near rule cells latest t n is near most g few =

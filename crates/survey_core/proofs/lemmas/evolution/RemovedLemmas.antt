@@ -47,7 +47,7 @@ whole-none rule t board order =
     same_lists (whole_at rule t board []) board (in_order-whole rule t board []) order
     (λ c. has-whole rule t board [] c ∙ or_nothing (has board c))
 
--- the whole doesn't change if one more spaceship is counted separately from the board
+-- if `all` is the board and a spaceship together, listing the spaceship apart from the board doesn't change the whole
 pub whole-more : (rule : Numbers) (t : ℕ) (all board : List Cell) (spaceships : List Spaceship) (spaceship : Spaceship)
     → ((c : Cell) → has all c ≡ (has board c || has (spaceship_at rule t spaceship) c)) → whole_at rule t all spaceships ≡ whole_at rule t board (spaceships ++ spaceship ∷ [])
 whole-more rule t all board spaceships spaceship is =
@@ -69,9 +69,9 @@ whole-more rule t all board spaceships spaceship is =
         ∙ ap (λ (b : Bool). has board c || b) (sym (list_any-append (λ (s : Spaceship). has (spaceship_at rule t s) c) spaceships (spaceship ∷ [])))
         ∙ sym (has-whole rule t board (spaceships ++ spaceship ∷ []) c)
 
--- ---- off the board
+-- ---- spaceships off the board
 
--- a board from which no spaceship was removed
+-- `AreOff` holds for a board from which no spaceship was removed
 pub none_off : (rule : Numbers) (t : ℕ) (board : List Cell) → InOrder board → AreOff rule t board []
 none_off rule t board order = record {
   in_order = order;
@@ -113,9 +113,9 @@ all_off_later rule t k board spaceships off = record {
     times_add : (a b c : ℕ) → a + (b + c) ≡ (a + b) + c
     times_add a b c = omega arith
 
--- ---- one spaceship more
+-- ---- removing one more spaceship
 
--- so removing a spaceship doesn't change the whole in any later generation
+-- removing a spaceship that is ahead of the rest of the board doesn't change the whole in any later generation
 pub same_whole : (rule : Numbers) (t g : ℕ) (board : List Cell) (spaceships : List Spaceship) (spaceship : Spaceship) → InOrder board → is_slow rule ≡ true
     → spaceship.since ≡ t
     → IsForemost rule board spaceship.recurrence spaceship.cells
@@ -128,7 +128,7 @@ same_whole rule t g board spaceships spaceship order slow now is =
     age : (t since : ℕ) → since ≡ t → g ≡ (t + g) - since
     age t since e = omega arith
 
--- removing a spaceship doesn't change the whole now
+-- removing a spaceship that is ahead of the rest of the board doesn't change the whole now
 pub same_whole_now : (rule : Numbers) (t : ℕ) (board : List Cell) (spaceships : List Spaceship) (spaceship : Spaceship) → InOrder board → is_slow rule ≡ true
     → spaceship.since ≡ t → IsForemost rule board spaceship.recurrence spaceship.cells
     → whole_at rule t board spaceships ≡ whole_at rule t (without board spaceship.cells) (spaceships ++ spaceship ∷ [])
@@ -136,7 +136,7 @@ same_whole_now rule t board spaceships spaceship order slow now is =
     (λ i. whole_at rule (sym (add-zero t) i) (sym (after-none rule board) i) spaceships) ∙ same_whole rule t 0 board spaceships spaceship order slow now is
     ∙ (λ i. whole_at rule (add-zero t i) (after-none rule (without board spaceship.cells) i) (spaceships ++ spaceship ∷ []))
 
--- the spaceship is off the board, like those removed before
+-- once a spaceship that is ahead of the rest of the board is removed, it is off the board, like those removed before
 pub all_off_more : (rule : Numbers) (t : ℕ) (board : List Cell) (spaceships : List Spaceship) (spaceship : Spaceship) → is_slow rule ≡ true → spaceship.since ≡ t
     → IsForemost rule board spaceship.recurrence spaceship.cells → AreOff rule t board spaceships → AreOff rule t (without board spaceship.cells) (spaceships ++ spaceship ∷ [])
 all_off_more rule t board spaceships spaceship slow now is off = record {
@@ -174,9 +174,9 @@ all_off_more rule t board spaceships spaceship slow now is off = record {
         same : (d : ℤ) → d ≡ d +ℤ pos 0
         same d = omega (arith, ints)
 
--- ---- what the board says of the whole
+-- ---- what the board says about the whole
 
--- a part of the board, at most one generation later, stays apart from each removed spaceship
+-- a part of the board `ahead` generations later, where `ahead` is 0 or 1, stays apart from each removed spaceship
 part_apart : (rule : Numbers) (t : ℕ) (board cells : List Cell) (spaceship : Spaceship) (ahead g : ℕ) → IsOff rule t board spaceship → InOrder board → InOrder cells
     → ahead ≤ 1 → ((c : Cell) → has cells c ≡ true → has (after rule board ahead) c ≡ true)
     → LieApart (after rule cells g) (spaceship_at rule (t + (ahead + g)) spaceship)
@@ -192,7 +192,8 @@ part_apart rule t board cells spaceship ahead g off order in_order few part =
     further : (m d : ℤ) (half : ℕ) → (pos 2 *ℤ d) ≤ℤ ((pos 2 *ℤ (m +ℤ pos half)) +ℤ pos (ahead + 1)) → d ≤ℤ (m +ℤ pos (half + ahead))
     further m d half low = omega (arith, ints, few)
 
--- no spaceship has a cell at king distance 2 or less from such a part
+-- no removed spaceship ever has a cell at king distance 2 or less from a part of the board `ahead` generations later,
+-- where `ahead` is 0 or 1
 no_spaceship_near : (rule : Numbers) (t : ℕ) (board cells : List Cell) (spaceships : List Spaceship) (ahead g : ℕ) → AreOff rule t board spaceships → InOrder cells
     → ahead ≤ 1 → ((c : Cell) → has cells c ≡ true → has (after rule board ahead) c ≡ true) → (c d : Cell) → has (after rule cells g) c ≡ true
     → king_distance c d ≤ 2 → list_any (λ (spaceship : Spaceship). has (spaceship_at rule (t + (ahead + g)) spaceship) d) spaceships ≡ true → ⊥

@@ -63,7 +63,7 @@ depth-origin Flip = refl
 depth-origin Diagonal = refl
 depth-origin AntiDiagonal = refl
 
--- n displacements, each at least p / 2 deep, are together at least n * p / 2 deep
+-- if one displacement adds at least p / 2 to the depth, n displacements add at least n * p / 2
 cycles_deep : (o : Orientation) (dx dy : ℤ) (p n : ℕ) → pos p ≤ℤ (pos 2 *ℤ depth (turned_cell o (cell_at dx dy)))
     → pos (n * p) ≤ℤ (pos 2 *ℤ depth (turned_cell o (cell_at (times n dx) (times n dy))))
 cycles_deep o dx dy p zero fast = none (0 * p) (depth (turned_cell o (cell_at (pos 0) (pos 0)))) (zero-mul p) (depth-origin o)
@@ -78,7 +78,7 @@ cycles_deep o dx dy p (suc n) fast =
     more : (k j : ℕ) (d e f : ℤ) → k ≡ j + p → d ≡ e +ℤ f → pos j ≤ℤ (pos 2 *ℤ e) → pos p ≤ℤ (pos 2 *ℤ f) → pos k ≤ℤ (pos 2 *ℤ d)
     more k j d e f same sum low fast = omega (arith, ints)
 
--- so after n generations each cell of a spaceship is at least (n + 1 - period) / 2 deeper than `from`
+-- after n generations, each cell of a spaceship that is ahead is at least (n + 1 - period) / 2 deeper than `from`
 spaceship_deep : (rule : Numbers) (o : Orientation) (m : ℤ) (r : Recurrence) (spaceship : List Cell) (n : ℕ) (c : Cell) → (ahead : IsAheadOf rule o m r spaceship)
     → has (after rule spaceship n) c ≡ true → ((pos 2 *ℤ ahead.from) +ℤ pos (n + 1)) ≤ℤ ((pos 2 *ℤ depth (turned_cell o c)) +ℤ pos r.period)
 spaceship_deep rule o m r spaceship n c ahead e =
@@ -119,7 +119,7 @@ spaceship_deep rule o m r spaceship n c ahead e =
 deeper_apart : (c d : Cell) → (depth c +ℤ pos 5) ≤ℤ depth d → 3 ≤ king_distance c d
 deeper_apart c d low = omega (arith, ints)
 
--- no pattern behind a spaceship ever comes near it
+-- under a slow rule, no pattern behind a spaceship ever comes near it
 pub spaceships_stay_ahead : SpaceshipsStayAhead
 spaceships_stay_ahead rule o m r spaceship cells n k g slow ahead order behind few c d in_cells in_spaceship =
     subst (λ (w : ℕ). 3 ≤ w) (turned-keeps o c d)
@@ -207,7 +207,7 @@ left_has board spaceship c e =
     dead true h = absurd (false≢true h)
     dead false h = refl
 
--- a part of the board, and what is left without it, make up the board
+-- a part of the board and the rest of the board make up the board
 both_parts : (board spaceship : List Cell) → IsPartOf board spaceship → (c : Cell)
     → has board c ≡ (has (without board spaceship) c || has spaceship c)
 both_parts board spaceship part c =
@@ -222,7 +222,7 @@ both_parts board spaceship part c =
 pub cluster_part : (board cluster : List Cell) → IsCluster board cluster → IsPartOf board cluster
 cluster_part board cluster is c e = linked-has board is.start c ((is.members c).0 e)
 
--- a part that is ahead of all the rest and the rest evolve independently
+-- under a slow rule, a part that is ahead of the rest of a pattern evolves independently of the rest
 pub spaceships_run_alone : SpaceshipsRunAlone
 spaceships_run_alone rule whole r spaceship slow order is =
     two_run_alone rule whole (without whole spaceship) spaceship order left is.ahead.comes.in_order (both_parts whole spaceship is.part) far
@@ -337,7 +337,7 @@ no_faster rule cells p dx dy some back = go (box_of cells) refl
         down : (b.top -ℤ pos p) ≤ℤ (b.top +ℤ dy) → (b.bottom +ℤ dy) ≤ℤ (b.bottom +ℤ pos p) → unsigned_abs dy ≤ p
         down low high = omega (arith, ints)
 
--- p is at most twice v if a test in 64-bit numbers says so for a lower bound of v
+-- if a test in 64-bit numbers says that p is at most twice d, and d is at most v, then p is at most twice v
 pub half_by_test : (p d v : ℤ) → FitsSigned w64 p → FitsSigned w64 d → FitsSigned w64 (pos 2 *ℤ d)
     → IsTrue (int_le (to_z w64 (of_z w64 p)) (to_z w64 (of_z w64 (pos 2 *ℤ to_z w64 (of_z w64 d))))) → d ≤ℤ v → p ≤ℤ (pos 2 *ℤ v)
 half_by_test p d v p_fits d_fits twice_fits test low =
@@ -365,7 +365,7 @@ spaceship_by_cycles rule r cells age is =
     ap (after rule cells) (sym (div-add-mod' age r.period))
     ∙ after_cycles rule cells r.period r.dx r.dy is.in_order is.back (age / r.period) (age % r.period)
 
--- this phase, displaced by the program, is the spaceship
+-- the phase, displaced by whole periods, is the spaceship at this age
 pub spaceship_moved : (rule : Numbers) (r : Recurrence) (cells phase result : List Cell) (age : ℕ) (x y dx dy : ℤ) → IsSpaceship rule r cells
     → phase ≡ after rule cells (age % r.period) → x ≡ times (age / r.period) dx → y ≡ times (age / r.period) dy → dx ≡ r.dx → dy ≡ r.dy
     → result ≡ shifted x y phase → result ≡ after rule cells age

@@ -34,13 +34,13 @@ use Rattle.survey_core.proofs.lemmas.evolution.RemovedLemmas.{all_off_later, all
 
 -- ---- the numbers of a spaceship
 
--- a spaceship lies on the plane up to an age past the latest time
+-- a spaceship lies on the plane up to an age of `latest_time` + 10001
 pub spaceship_on_plane : (rule : Numbers) (cells : List Cell) (age : ℕ) → lies_within survey_reach cells ≡ true → age ≤ latest_time + 10001
     → list_all on_plane (after rule cells age) ≡ true
 unfolding on_plane
 spaceship_on_plane rule cells age near early = within_later survey_reach plane_bound rule cells age (omega arith) near
 
--- a spaceship with a short period has small numbers
+-- a spaceship that recurs within 64 generations has small numbers
 pub small_by_envelope : (rule : Numbers) (limit : ℕ) (spaceship : Spaceship) (cells : List Cell) (envelope : EnvelopeBounds) → limit ≤ 64 → (cells ≡ [] → ⊥)
     → lies_within survey_reach cells ≡ true → spaceship.cells ≡ cells → spaceship.recurrence ≡ envelope.recurrence → IsEnvelope rule limit cells envelope
     → HasSmallNumbers spaceship
@@ -77,7 +77,7 @@ traced_later rule t g board spaceships is k d low = record {
     early : (t half since : ℕ) → t ≡ since + 2 * half → since ≤ t + g
     early t half since e = omega arith
 
--- a board from which no spaceship was removed
+-- a board from which no spaceship was removed is a split pattern at time 0
 pub new_split : (rule : Numbers) (board : List Cell) (spaceships : List Spaceship) → InOrder board → spaceships ≡ [] → IsSplitAt rule 0 board spaceships
 new_split rule board spaceships order none = subst (IsSplitAt rule 0 board) (sym none) (record {
   off = none_off rule 0 board order;
@@ -85,7 +85,7 @@ new_split rule board spaceships order none = subst (IsSplitAt rule 0 board) (sym
   early = omega arith;
 })
 
--- a part of a pattern that lies within a reach lies within it, too
+-- if a board lies within a reach, each part of it does, too
 pub part_near : (reach : ℕ) (board cells : List Cell) → lies_within reach board ≡ true → IsPartOf board cells → lies_within reach cells ≡ true
 part_near reach board cells near part = has-list_all (is_within reach) cells (λ c e. list_all-has (is_within reach) board near c (part c e))
 
@@ -101,7 +101,7 @@ set_of-more cells others = is_set_of (set_of (set_of cells ++ others)) (cells ++
     (λ c. has-set_of (set_of cells ++ others) c ∙ has-append (set_of cells) others c ∙ ap (λ (b : Bool). b || has others c) (has-set_of cells c)
     ∙ sym (has-append cells others c))
 
--- one more spaceship is added to the whole
+-- adding spaceship n to the whole with the first n spaceships gives the whole with the first n + 1 spaceships
 pub whole_more : (rule : Numbers) (t : ℕ) (board : List Cell) (spaceships : List Spaceship) (n : ℕ) (spaceship : Spaceship) (whole there : List Cell)
     → n < length spaceships → spaceship ≡ get_or spaceships n spaceship → whole ≡ whole_at rule t board (take n spaceships)
     → there ≡ spaceship_at rule t spaceship → set_of (whole ++ there) ≡ whole_at rule t board (take (n + 1) spaceships)
@@ -126,7 +126,7 @@ still_whole rule t n board spaceships is_empty is empty order still =
     let all = whole-empty rule t board spaceships is_empty is empty order in
     ap (λ (S : List Cell). after rule S n) all ∙ still ∙ sym all
 
--- a split pattern is still one an even number of generations later
+-- advancing the board of a split pattern by an even number of generations, up to the latest time, gives a split pattern
 pub split_later : (rule r : Numbers) (t n most : ℕ) (board b : List Cell) (spaceships : List Spaceship) → IsSplitAt rule t board spaceships → most % 2 ≡ 0
     → n ≡ most
     → r ≡ rule → b ≡ after rule board n → t + n ≤ latest_time → IsSplitAt r (t + n) b spaceships
@@ -140,7 +140,7 @@ split_later rule r t n most board b spaceships is even all same at early =
     off : AreOff rule (t + n) (after rule board n) spaceships
     off = subst (λ (k : ℕ). AreOff rule (t + k) (after rule board k) spaceships) twice (all_off_later rule t (n / 2) board spaceships is.off)
 
--- one more spaceship is removed from the board
+-- removing a spaceship that is ahead of the rest of the board from a split pattern gives a split pattern
 pub split_more : (rule : Numbers) (t : ℕ) (board b : List Cell) (spaceships s : List Spaceship) (spaceship : Spaceship) → IsSplitAt rule t board spaceships
     → is_slow rule ≡ true
     → spaceship.since ≡ t → IsForemost rule board spaceship.recurrence spaceship.cells → HasSmallNumbers spaceship → b ≡ without board spaceship.cells → s ≡ spaceships ++ spaceship ∷ []
@@ -153,27 +153,27 @@ split_more rule t board b spaceships s spaceship is slow now foremost small left
       early = is.early;
     }))
 
--- the whole n generations later
+-- if the board is advanced by n generations, so is the whole
 pub whole_gone_on : (rule : Numbers) (t n : ℕ) (board b whole : List Cell) (spaceships : List Spaceship) → IsSplitAt rule t board spaceships
     → whole_at rule t board spaceships ≡ whole
     → b ≡ after rule board n → whole_at rule (t + n) b spaceships ≡ after rule whole n
 whole_gone_on rule t n board b whole spaceships is all at =
     ap (λ (S : List Cell). whole_at rule (t + n) S spaceships) at ∙ sym (is.off.alone n) ∙ ap (λ (S : List Cell). after rule S n) all
 
--- ---- a split pattern that goes on
+-- ---- advancing a split pattern
 
 -- the board evolves under the rule
 pub board_later : (rule : Numbers) (split : SplitPattern) (n : ℕ) (b : List Cell) → IsSplit rule split → b ≡ after split.board.rule split.board.cells n
     → b ≡ after rule split.board.cells n
 board_later rule split n b is at = at ∙ ap (λ (r : Numbers). after r split.board.cells n) is.0
 
--- if the board is n generations later, so is the whole
+-- if the board of a split pattern is advanced by n generations, so is the whole pattern
 pub whole_later : (rule : Numbers) (split : SplitPattern) (n : ℕ) (b : List Cell) → IsSplit rule split → b ≡ after split.board.rule split.board.cells n
     → whole_at rule (split.time + n) b split.spaceships.items ≡ after rule (whole_of rule split) n
 whole_later rule split n b is at =
     whole_gone_on rule split.time n split.board.cells b (whole_of rule split) split.spaceships.items is.1 refl (board_later rule split n b is at)
 
--- if the board is one generation later, so is the whole
+-- if the board of a split pattern is advanced by one generation, so is the whole pattern
 pub next_whole : (rule : Numbers) (split : SplitPattern) (b : List Cell) → IsSplit rule split → b ≡ next split.board.rule split.board.cells
     → whole_at rule (split.time + 1) b split.spaceships.items ≡ next rule (whole_of rule split)
 next_whole rule split b is at =
@@ -196,12 +196,12 @@ same_cluster cells one other c is also in_one in_other =
     there : Linked cells also.start is.start
     there = linked-trans cells also.start c is.start ((also.members c).0 in_other) (linked-sym cells is.start c ((is.members c).0 in_one))
 
--- at first all clusters are on the board
+-- the clusters of a board are candidates
 pub candidates_start : (board : List Cell) (spaceships : List Spaceship) (clusters : List (List Cell)) → All (IsCluster board) clusters
     → AreCandidates board spaceships clusters
 candidates_start board spaceships clusters each = record { before = board; each = each; still = λ cluster is new. cluster_part board cluster is }
 
--- each candidate is a cluster of the board as it was before
+-- each candidate is a cluster of the earlier board
 pub candidate : (board : List Cell) (spaceships : List Spaceship) (clusters : List (List Cell)) (i : ℕ) (cluster : List Cell)
     → (are : AreCandidates board spaceships clusters)
     → i < length clusters → cluster ≡ get_or clusters i cluster → IsCluster are.before cluster

@@ -13,7 +13,7 @@ near_here : (rule : Numbers) (cells latest : List Cell) (m n : ℕ) → cells �
 near_here rule cells latest m n is same near g low =
     (λ i. lies_within survey_reach (after rule (is i) g)) ∙ near g (subst (λ (k : ℕ). g ≤ k) same low)
 
--- the pattern is kept as a list
+-- the case of a pattern that is kept as a list
 pub from_list-requires-clause-near : goal.from_list-requires-clause-near
 from_list-requires-clause-near c =
     near_here c.args.rule.now c.in-Listed.pattern (kept c.args.rule.now c.args.self) c.stride-generations.result c.args.profile.now.stride
@@ -28,7 +28,7 @@ returns-in-Listed-clause-cells c =
     subst (λ (T : List Cell). IfOk c.from_list.result (λ evolution. kept c.args.rule.now evolution ≡ T))
     (λ i. after c.args.rule.now (cells i) (c.stride-generations.ensures.stride i)) c.from_list.ensures.cells
 
--- the pattern is kept on a board
+-- the case of a pattern that is kept on a board
 pub remove_escaped-requires-clause-is_split : goal.remove_escaped-requires-clause-is_split
 remove_escaped-requires-clause-is_split c = (rw c.in-Shown.is at c.requires.kept).0
 

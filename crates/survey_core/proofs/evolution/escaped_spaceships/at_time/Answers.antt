@@ -18,7 +18,7 @@ returns-in-Ok c =
     c.in_ok-phase.ensures (to_z-of_z w32 c.steps.result x_fits ∙ c.steps.ensures) (to_z-of_z w32 c.steps-2.result y_fits ∙ c.steps-2.ensures)
     (to_z-of_z w32 spaceship.recurrence.dx across_fits) (to_z-of_z w32 spaceship.recurrence.dy down_fits) c.in-Ok.ensures.shifted
 
--- the spaceship lies on the plane
+-- the shift isn't refused, because the spaceship lies on the plane at this time
 pub unreachable-requires : goal.unreachable-requires
 unreachable-requires c =
     let spaceship = c.args.spaceship.now in

@@ -7,7 +7,7 @@ use Rattle.plane_core.specs.plane.Orientations.{turned_cell}
 use Rattle.survey_core.proofs.lemmas.evolution.SpaceshipLemmas.{half_by_test}
 use Rattle.survey_core.proofs.evolution.escaped_spaceships.is_fast.Goals as goal
 
--- a cell lies within the box of this cell only
+-- the cell in column dx and row dy lies within the box that has only this cell
 within_itself : (dx dy : ℤ) → FitsSigned w32 dx → FitsSigned w32 dy → IsWithin (record {
   left = to_z w32 (of_z w32 dx);
   top = to_z w32 (of_z w32 dy);

@@ -40,7 +40,7 @@ spaceship_of-requires-clause-most c = c.requires.most
 pub loop-cluster-init : goal.loop-cluster-init
 loop-cluster-init c = record { rule = refl; split = c.requires.split; whole = refl; clusters = c.requires.clusters }
 
--- a cluster that was already removed, or that stays on the board, changes nothing
+-- an iteration changes nothing if its cluster has already been removed, or if the cluster stays on the board
 pub loop-cluster-preserved-then-has_escaped : goal.loop-cluster-preserved-then-has_escaped
 loop-cluster-preserved-then-has_escaped c = c.loop-cluster.invariant
 

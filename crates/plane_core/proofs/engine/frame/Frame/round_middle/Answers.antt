@@ -72,7 +72,7 @@ overflow_add-height-2 c =
     fits_room c.apart-height.result (apart_small c.args.bounds.top c.args.bounds.bottom c.apart-height.result near.top
     near.bottom c.apart-height.ensures)
 
--- once the tests before this branch have passed, the box has room on the board
+-- once all tests of `round_middle` have passed, the box has room on the board
 room_found : (c : Else-height-room) → HasRoom c.args.self c.args.bounds
 room_found c =
     let b = c.args.bounds in

@@ -36,14 +36,14 @@ loop-preserved c = record {
   clusters = c.in_ok-remove_ahead.ensures.clusters;
 }
 
--- no spaceship was removed in this turn
+-- the case of an iteration that removed no spaceship, so that the loop ends
 pub returns-then-len-count-clause-is_split : goal.returns-then-len-count-clause-is_split
 returns-then-len-count-clause-is_split c = (c.in_ok-remove_ahead.ensures.rule ∙ c.loop.invariant.is_split.0, c.in_ok-remove_ahead.ensures.split)
 
 pub returns-then-len-count-clause-cells : goal.returns-then-len-count-clause-cells
 returns-then-len-count-clause-cells c = c.in_ok-remove_ahead.ensures.whole ∙ c.loop.invariant.whole
 
--- there were as many turns as clusters
+-- the case of a loop that ends after as many iterations as there are clusters
 pub returns-clause-is_split : goal.returns-clause-is_split
 returns-clause-is_split c = c.loop.invariant.is_split
 
