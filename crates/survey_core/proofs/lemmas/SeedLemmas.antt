@@ -76,7 +76,7 @@ invisible_later bytes i low e =
 pub invisible_nowhere : (bytes : List ℕ) (i : ℕ) → length bytes ≤ i → position_from is_invisible i (drop i bytes) ≡ None
 invisible_nowhere bytes i all = ap (position_from is_invisible i) (drop_all i bytes all)
 
--- ---- shown
+-- ---- seeds as texts
 
 small_if : (b : ℕ) (low high : Bool) → nat_le b 126 ≡ high → (low && high) ≡ true → b < 128
 small_if b true true is h = let k : b ≤ 126 = leb-true b 126 is in omega (arith, k)

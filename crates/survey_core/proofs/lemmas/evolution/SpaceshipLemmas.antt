@@ -248,7 +248,8 @@ both_turned o b s c (inl is) e w =
 both_turned o b s c (inr is) e w =
     subst (λ (p : Orientation). (pos 0 -ℤ s) ≤ℤ depth (turned_cell p c)) (sym is) (omega (arith, ints, e, w.right, w.bottom))
 
--- the same if it reverses neither axis, or one of them
+-- a lower bound of the depths in a box, if the orientation reverses neither axis, or only one of them (`bottom_turned`
+-- and `right_turned`)
 pub none_turned : (o : Orientation) (b : Bounds) (s : ℤ) (c : Cell) → (o ≡ Same) ⊎ (o ≡ Diagonal) → s ≡ b.left +ℤ b.top → IsWithin b c
     → s ≤ℤ depth (turned_cell o c)
 none_turned o b s c (inl is) e w = subst (λ (p : Orientation). s ≤ℤ depth (turned_cell p c)) (sym is) (omega (arith, ints, e, w.left, w.top))

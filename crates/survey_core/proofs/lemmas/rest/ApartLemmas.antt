@@ -1,4 +1,4 @@
--- Parts that lie apart now: in the next generation each is what it becomes alone.
+-- Parts that lie apart now: in the next generation, they are together what each of them becomes alone.
 use Rattle.std.proofs.Common.{◌≡◌, ◌≢◌, ◌∙◌, ◌+◌, ◌<◌, ◌≤◌, ◌⊎◌, ◌||◌, ap, sym, refl, subst, inl, inr, ℕ, zero, suc, Bool, true, false, List, [], ◌∷◌, All, AllPairs, arith, get_or, length, map}
 use Rattle.std.specs.List.{list_any}
 use Rattle.std.proofs.lemmas.List.{get_or_default, get_or-map, length-map}
@@ -32,7 +32,7 @@ apart_by_boxes one other a b in_one in_other far c d h k =
     far c d (has-all (IsWithin a) one c (recursion_from_All (IsWithin a) one in_one) h)
     (has-all (IsWithin b) other d (recursion_from_All (IsWithin b) other in_other) k)
 
--- the first n cells are at king distance 3 or more from each of the others
+-- each of the first n cells is at king distance 3 or more from each cell of `others`
 abbrev pub AreFar : ℕ → List Cell → List Cell → Type 0
 AreFar n cells others = (i : ℕ) (c d : Cell) → i < n → has others d ≡ true → 3 ≤ king_distance (get_or cells i c) d
 
@@ -94,7 +94,7 @@ or_false : (a : Bool) → (a || false) ≡ a
 or_false true = refl
 or_false false = refl
 
--- if only the part at place k can pass a test, some part passes if and only if this one does
+-- if only the part at place k can pass a test, some part passes if and only if the part at place k does
 list_any-only : (p : List Cell → Bool) (parts : List (List Cell)) (k : ℕ) → k < length parts
     → ((j : ℕ) (d : List Cell) → j < length parts → j ≢ k → p (get_or parts j d) ≡ false) → list_any p parts ≡ p (get_or parts k [])
 list_any-only p [] k low none = absurd (omega arith)
@@ -116,7 +116,7 @@ module _ (rule : Numbers) (parts : List (List Cell)) (order : All InOrder parts)
             let same : king_distance e c ≡ king_distance c e = turned e c in
             omega (arith, back, same)
 
-    -- what is near one part now is far from the others
+    -- a cell that is near one part now is far from the other parts
     others_far : (c : Cell) (s : SomeNear rule parts 0 c) (j : ℕ) (d : List Cell) → j < length parts → j ≢ s.place → (e : Cell)
         → has (after rule (get_or parts j d) 0) e ≡ true → 2 ≤ king_distance c e
     others_far c s j d there ne e h =
@@ -168,7 +168,7 @@ module _ (rule : Numbers) (parts : List (List Cell)) (order : All InOrder parts)
     pub apart_keeps : KeepApart rule (union_of parts) parts 1
     apart_keeps = keeps_from rule (union_of parts) parts 1 adds off
 
--- ---- and one generation later than others
+-- ---- from generation g to generation g + 1
 
 -- if clusters keep apart, the union of their generations g is generation g of the whole
 pub union_is : (rule : Numbers) (cells : List Cell) (clusters latest : List (List Cell)) (g : ℕ) → InOrder cells → latest ≡ map (λ part. after rule part g) clusters
@@ -202,7 +202,7 @@ one_later rule cells clusters latest g order is kept = record {
     whole : after rule (union_of latest) 1 ≡ after rule cells (g + 1)
     whole = ap (λ (S : List Cell). after rule S 1) (union_is rule cells clusters latest g order is kept) ∙ after-plus rule cells g 1
 
--- ---- the clusters as they are kept
+-- ---- lists of `Alone`
 
 after-one : (rule : Numbers) (S : List Cell) → after rule S 1 ≡ next rule S
 after-one rule S = after-suc rule S 0 ∙ ap (next rule) (after-none rule S)

@@ -35,7 +35,7 @@ after_periods rule cells p (suc k) back =
     ap (after rule cells) (suc-mul k p) ∙ sym (after-then rule cells (k * p) p)
     ∙ ap (λ (state : List Cell). after rule state p) (after_periods rule cells p k back) ∙ back
 
--- so a generation depends only on its remainder modulo the period
+-- generation g is the same as the generation g % p, the remainder modulo the period
 pub after_remainder : (rule : Numbers) (cells : List Cell) (p g : ℕ) → after rule cells p ≡ cells → after rule cells g ≡ after rule cells (g % p)
 after_remainder rule cells p g back =
     ap (after rule cells) (sym (div-add-mod g p) ∙ ap (λ (n : ℕ). n + g % p) (mul_comm p (g / p)))
@@ -63,7 +63,7 @@ map_itself (part ∷ parts) = λ i. part ∷ map_itself parts i
 module _ (rule : Numbers) (cells : List Cell) (clusters : List (List Cell)) (L : ℕ) (some : 1 ≤ L) (order : InOrder cells)
     (are : Partition cells clusters) (each : All (λ part. after rule part L ≡ part) clusters) (apart : (g : ℕ) → g ≤ L → KeepApart rule cells clusters g)
   where
-    -- the whole is itself again as well
+    -- the whole is itself again in generation L, too
     pub whole_back : after rule cells L ≡ cells
     whole_back =
         let later : Partition (after rule cells L) (map (λ part. after rule part L) clusters) = apart L (omega arith) in
@@ -72,7 +72,7 @@ module _ (rule : Numbers) (cells : List Cell) (clusters : List (List Cell)) (L :
         same_lists (after rule cells L) cells (in_order-after rule cells L order) order
         (λ c. sym (later.union c) ∙ ap (λ (parts : List (List Cell)). list_any (λ part. has part c) parts) same ∙ are.union c)
 
-    -- so the clusters keep apart forever
+    -- the clusters keep apart forever
     pub apart_forever : (g : ℕ) → KeepApart rule cells clusters g
     apart_forever g =
         let inside : g % L ≤ L = omega arith in

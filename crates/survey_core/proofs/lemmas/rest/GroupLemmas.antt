@@ -40,7 +40,7 @@ members-none k parts = refl
 itself : (k : ℕ) → (k == k) ≡ true
 itself k = (Decides-eqb k k).1 refl
 
--- what holds for all parts holds for those of a group
+-- a property of all parts is a property of all parts of a group
 pub members_all : (P : List Cell → Type 0) (k : ℕ) (gs : List ℕ) (parts : List (List Cell)) → All P parts → All P (members k gs parts)
 members_all P k [] parts all = subst (All P) (sym (members-none k parts)) (λ i d low. absurd (omega arith))
 members_all P k (g ∷ gs) [] all = subst (All P) (sym (members-nil k (g ∷ gs))) all
@@ -65,11 +65,11 @@ members_few k (g ∷ gs) (part ∷ parts) =
     go false few = few
     go true few = omega (arith, few)
 
--- a loop has counted no more than it has seen
+-- a count that is at most n is at most n + 1 after one more iteration, even if the count grows by 1
 pub counted_more : (count n : ℕ) → count ≤ n → (count ≤ n + 1) × (count + 1 ≤ n + 1)
 counted_more count n few = (omega arith, omega arith)
 
--- what holds for all parts of a group holds for each part that has the group's number
+-- a property of all parts of a group is a property of each part that has the group's number
 pub member_has : (P : List Cell → Type 0) (k : ℕ) (gs : List ℕ) (parts : List (List Cell)) (i : ℕ) (d : List Cell) → All P (members k gs parts)
     → i < length parts → i < length gs → get_or gs i 0 ≡ k → P (get_or parts i d)
 member_has P k [] parts i d all low there is = absurd (omega arith)
@@ -84,7 +84,7 @@ member_has P k (g ∷ gs) (part ∷ parts) (suc i) d all low there is =
     go false more = more
     go true more = λ j e below. more (suc j) e (omega arith)
 
--- what holds for all pairs of parts holds for the pairs in a group
+-- a relation that holds for all pairs of parts holds for all pairs of parts in a group
 pub members_pairs : (R : List Cell → List Cell → Type 0) (k : ℕ) (gs : List ℕ) (parts : List (List Cell)) → AllPairs R parts
     → AllPairs R (members k gs parts)
 members_pairs R k [] parts pairs = subst (AllPairs R) (sym (members-none k parts)) (λ i j d lt low. absurd (omega arith))
@@ -130,7 +130,7 @@ pairs_of_groups R (g ∷ gs) (part ∷ parts) same each far =
         split false e = far 0 (suc j) d (omega arith) (omega arith)
             (λ is. false≢true (sym e ∙ ap (λ (n : ℕ). n == g) (sym is) ∙ itself g))
 
--- if only parts of this group can pass a test, it has the same answer on all parts as on the group's parts
+-- if only parts of group k can pass a test, some part passes if and only if some part of the group passes
 pub any_members : (p : List Cell → Bool) (k : ℕ) (gs : List ℕ) (parts : List (List Cell)) → length gs ≡ length parts
     → ((j : ℕ) (d : List Cell) → j < length parts → get_or gs j 0 ≢ k → p (get_or parts j d) ≡ false)
     → list_any p parts ≡ list_any p (members k gs parts)
@@ -147,13 +147,13 @@ any_members p k (g ∷ gs) (part ∷ parts) same none =
     go false e more =
         ap (λ (a : Bool). a || list_any p parts) (none 0 part (omega arith) (λ is. false≢true (sym e ∙ ap (λ (n : ℕ). n == k) is ∙ itself k))) ∙ more
 
--- ---- what a cell sees of some parts
+-- ---- cells near some part, and cells near none
 
--- no part is near the cell
+-- no part, run alone up to generation g, is near the cell
 abbrev pub NoneNear : Numbers → List (List Cell) → ℕ → Cell → Type 0
 NoneNear rule parts g c = All (λ part. IsFar c (after rule part g)) parts
 
--- some part is near the cell
+-- some part, run alone up to generation g, is near the cell
 pub record SomeNear (rule : Numbers) (parts : List (List Cell)) (g : ℕ) (c : Cell) : Type 0 where
   pub place : ℕ
   pub within : place < length parts
@@ -243,7 +243,7 @@ list_any-map : (p : List Cell → Bool) (f : List Cell → List Cell) (parts : L
 list_any-map p f [] = refl
 list_any-map p f (part ∷ parts) = ap (λ (a : Bool). p (f part) || a) (list_any-map p f parts)
 
--- the two share no cell after g generations
+-- the two parts, each run alone, share no cell after g generations
 abbrev pub LaterOff : Numbers → ℕ → List Cell → List Cell → Type 0
 LaterOff rule g a b = (c : Cell) → has (after rule a g) c ≡ true → has (after rule b g) c ≡ false
 
@@ -305,7 +305,7 @@ module _ (rule : Numbers) (cells : List Cell) (groups : List ℕ) (parts : List 
         let across : king_distance s.cell e ≤ 1 + king_distance c e = triangle s.cell c e 1 (king_distance c e) (omega arith) (omega arith) in
         omega arith
 
-    -- so such a cell becomes in the whole what it becomes in the group of the part
+    -- a cell that is near a part becomes in the whole what it becomes in the group of the part
     as_in_group : (g : ℕ) (c : Cell) → g ≤ n → (s : SomeNear rule parts g c) → AddUp rule cells parts g
         → AddUp rule (union (get_or groups s.place 0)) (members (get_or groups s.place 0) groups parts) g
         → has (after rule cells (suc g)) c ≡ has (after rule (union (get_or groups s.place 0)) (suc g)) c
@@ -321,7 +321,7 @@ module _ (rule : Numbers) (cells : List Cell) (groups : List ℕ) (parts : List 
         ∙ sym (adds d))
         ∙ sym (next_at rule (union (get_or groups s.place 0)) g c)
 
-    -- in the next generation no part of another group is alive at such a cell
+    -- at a cell that is near a part, only parts of the same group can be alive in the next generation
     as_in_members : (g : ℕ) (c : Cell) → g ≤ n → (s : SomeNear rule parts g c)
         → list_any (λ part. has (after rule part (suc g)) c) parts
         ≡ list_any (λ part. has (after rule part (suc g)) c) (members (get_or groups s.place 0) groups parts)
@@ -330,7 +330,7 @@ module _ (rule : Numbers) (cells : List Cell) (groups : List ℕ) (parts : List 
         (λ j e there ne. next_at rule (get_or parts j e) g c
         ∙ far-lives rule c (after rule (get_or parts j e) g) (λ d h. others_far g c low s j e there ne d h))
 
-    -- if each group adds up, the whole does
+    -- if the parts of each group add up to their union, all parts add up to the whole
     pub whole_adds : AddUp rule cells parts 0
         → ((i g : ℕ) → i < length parts → g ≤ n → AddUp rule (union (get_or groups i 0)) (members (get_or groups i 0) groups parts) g)
         → (g : ℕ) → g ≤ n → AddUp rule cells parts g
@@ -345,7 +345,7 @@ module _ (rule : Numbers) (cells : List Cell) (groups : List ℕ) (parts : List 
             ∙ each s.place (suc g) s.within low c
             ∙ sym (as_in_members g c (omega arith) s)
 
-    -- if the whole adds up, each group does
+    -- if all parts add up to the whole, the parts of each group add up to their union
     pub group_adds : (k : ℕ) → AddUp rule (union k) (members k groups parts) 0 → ((g : ℕ) → g ≤ n → AddUp rule cells parts g)
         → (g : ℕ) → g ≤ n → AddUp rule (union k) (members k groups parts) g
     group_adds k start whole zero low = start
@@ -366,7 +366,7 @@ module _ (rule : Numbers) (cells : List Cell) (groups : List ℕ) (parts : List 
             ∙ whole (suc g) low c
             ∙ as_in_members g c (omega arith) s)
 
-    -- if each group keeps apart, the whole does
+    -- if the parts of each group keep apart, all parts keep apart
     pub whole_keeps : Partition cells parts → ((i : ℕ) → i < length parts → GroupKeeps rule groups parts n (get_or groups i 0))
         → (g : ℕ) → g ≤ n → KeepApart rule cells parts g
     whole_keeps start each g low =
@@ -379,7 +379,7 @@ module _ (rule : Numbers) (cells : List Cell) (groups : List ℕ) (parts : List 
         (λ k. let out : 3 ≤ king_distance c c = far i j d g (omega arith) there ne low c c h k in
         omega (arith, out, distance_itself c.x, distance_itself c.y))))
 
-    -- if the whole keeps apart, each group does
+    -- if all parts keep apart, the parts of each group keep apart
     pub group_keeps : Partition cells parts → ((g : ℕ) → g ≤ n → KeepApart rule cells parts g) → (k : ℕ) → GroupKeeps rule groups parts n k
     group_keeps start whole k g low =
         keeps_from rule (union k) (members k groups parts) g
@@ -387,7 +387,7 @@ module _ (rule : Numbers) (cells : List Cell) (groups : List ℕ) (parts : List 
         (λ h below. keeps_adds rule cells parts h (whole h below)) g low)
         (members_pairs (LaterOff rule g) k groups parts (keeps_off rule cells parts g (whole g low)))
 
--- fewer than two parts keep apart
+-- one part, or none, keeps apart
 pub alone_keeps : (rule : Numbers) (parts : List (List Cell)) (g : ℕ) → length parts < 2 → All InOrder parts → KeepApart rule (union_of parts) parts g
 alone_keeps rule [] g low order =
     keeps_from rule (union_of []) [] g (λ c. ap (λ (S : List Cell). has S c) (after-empty rule g)) (λ i j d lt there. absurd (omega arith))
@@ -404,7 +404,7 @@ alone_keeps rule (part ∷ []) g low order =
         (λ c. union_has (part ∷ []) c ∙ sym (or_none (has part c)))
 alone_keeps rule (part ∷ other ∷ parts) g low order = absurd (omega arith)
 
--- what holds below n and at n holds below n + 1
+-- a property of n and of all numbers below n is a property of all numbers below n + 1
 pub below_more : (P : ℕ → Type 0) (n : ℕ) → ((k : ℕ) → k < n → P k) → P n → (k : ℕ) → k < n + 1 → P k
 below_more P n before here k low = elim (eq-or-lt_of_le (below k n low)) [
   | inl is ↦ subst P (sym is) here
@@ -422,7 +422,7 @@ members_off k gs parts off = members_pairs (λ a b. (c : Cell) → has a c ≡ t
 pub union_partition : (parts : List (List Cell)) → ShareNoCell parts → Partition (union_of parts) parts
 union_partition parts off = record { disjoint = off; union = λ c. sym (union_has parts c) }
 
--- ---- one place more
+-- ---- the group's parts among one more part
 
 pub members-append : (k : ℕ) (gs : List ℕ) (parts : List (List Cell)) (g : ℕ) (part : List Cell) → length gs ≡ length parts
     → members k (gs ++ g ∷ []) (parts ++ part ∷ []) ≡ members k gs parts ++ cond (g == k) (part ∷ []) []
@@ -453,7 +453,8 @@ members_more k gs parts i d low same =
     length_take : {X : Type 0} (xs : List X) (i : ℕ) → i < length xs → length (take i xs) ≡ i
     length_take xs i h = length-take-le i xs (omega arith)
 
--- the next part is in another group, or is one more part of the group
+-- `members_other`: part i is in another group, so that the first i + 1 parts have no more parts of group k than the
+-- first i; `members_one`: part i is one more part of the group
 pub members_other : (k : ℕ) (gs : List ℕ) (parts : List (List Cell)) (i : ℕ) → i < length parts → length gs ≡ length parts → get_or gs i 0 ≢ k
     → members k (take (i + 1) gs) (take (i + 1) parts) ≡ members k (take i gs) (take i parts)
 members_other k gs parts i low same ne =

@@ -1,4 +1,4 @@
--- Groups as they are joined.
+-- Joining the groups of envelopes that may meet.
 use Rattle.std.proofs.Common.{◌≡◌, ◌≢◌, ◌==◌, ◌∙◌, ◌<◌, ap, sym, refl, subst, ℕ, Bool, true, false, List, arith, cond, get_or, inl, inr, length, IfNone, IfSome}
 use Rattle.std.proofs.Common.{[], ◌∷◌, ◌+◌, AllPairs, eq-or-lt_of_le, get_or-set_other, get_or-set_same, nat_lt, set, ◌≤◌}
 use Rattle.std.specs.Bool.{then_some}
@@ -20,7 +20,7 @@ use Rattle.survey_core.specs.rest.Rest.{RestsAs}
 use Rattle.survey_core.specs.shapes.Envelopes.{AreEnvelopes, StayApart}
 use Rattle.survey_core.proofs.lemmas.rest.GroupLemmas.{group_keeps, whole_keeps}
 
--- the default of `get_or` doesn't matter at places of the list
+-- at places of the list, `StayApart` doesn't depend on the default of `get_or`
 pub stay_default : (horizon : ℕ) (envelopes : List EnvelopeBounds) (i j : ℕ) (d e f : EnvelopeBounds) → i < length envelopes → j < length envelopes
     → StayApart horizon (get_or envelopes i e) (get_or envelopes j f) → StayApart horizon (get_or envelopes i d) (get_or envelopes j d)
 stay_default horizon envelopes i j d e f one other apart =
@@ -60,7 +60,7 @@ renamed_other from to k differs = go (k == from) refl
     go true e = absurd (differs (eqb-true _ _ e))
     go false e = refl
 
--- one more entry of the list is renamed
+-- if the entries before place i are renamed, and entry i is set to its new number, the first i + 1 entries are renamed
 pub renamed_more : (from to i : ℕ) (old now : List ℕ) (number : ℕ) → i < length now → number ≡ renamed from to (get_or now i 0)
     → ((k : ℕ) → k < i → get_or now k 0 ≡ renamed from to (get_or old k 0)) → ((k : ℕ) → i ≤ k → get_or now k 0 ≡ get_or old k 0)
     → (k : ℕ) → k < i + 1 → get_or (set now i number) k 0 ≡ renamed from to (get_or old k 0)
@@ -88,13 +88,14 @@ pub renamed_coarser : (groups later : List ℕ) (from to : ℕ) → AreRenamed f
 renamed_coarser groups later from to made a b low there ne = λ same.
     ne (made a low ∙ ap (renamed from to) same ∙ sym (made b there))
 
--- after the renaming, the two are in the same group
+-- after group `from` is renamed to `to`, the places i and j, which were in these two groups, are in the same group
 pub renamed_pair : (groups later : List ℕ) (from to i j : ℕ) → AreRenamed from to groups later → i < length groups → j < length groups
     → get_or groups i 0 ≡ from → get_or groups j 0 ≡ to → get_or later i 0 ≡ get_or later j 0
 renamed_pair groups later from to i j made low there one other =
     made i low ∙ renamed_from from to (get_or groups i 0) one ∙ sym (made j there ∙ renamed_to from to (get_or groups j 0) other)
 
--- the pairs are right for one more envelope
+-- if the pairs of places before `place` are right, and so are the pairs of `place` and an earlier place, then the pairs
+-- of places up to `place` are right
 pub pairs_more : (horizon : ℕ) (envelopes : List EnvelopeBounds) (old new : List ℕ) (place : ℕ) → place < length envelopes → length old ≡ length envelopes
     → Coarser old new → ((i j : ℕ) → j < i → i < place → PairIsRight horizon envelopes old i j)
     → ((j : ℕ) → j < place → PairIsRight horizon envelopes new place j) → (i j : ℕ) → j < i → i < place + 1 → PairIsRight horizon envelopes new i j
@@ -106,7 +107,7 @@ pairs_more horizon envelopes old new place there count coarser before here i j l
     in_old : (k : ℕ) → k < place → k < length old
     in_old k less = subst (λ (n : ℕ). k < n) (sym count) (omega (arith, less, there))
 
--- an envelope gets a group of its own, numbered by its place
+-- `AreNumbers` still holds after an envelope gets a group of its own, whose number is the envelope's place
 pub numbered : (envelopes : List EnvelopeBounds) (groups : List ℕ) (place : ℕ) → place < length envelopes → AreNumbers envelopes groups
     → AreNumbers envelopes (set groups place place)
 numbered envelopes groups place there are = record {
@@ -120,7 +121,7 @@ numbered envelopes groups place there are = record {
   ];
 }
 
--- the pairs of earlier envelopes are still right
+-- the pairs of earlier envelopes are still right after the envelope at `place` gets a group of its own
 pub numbered_pairs : (horizon : ℕ) (envelopes : List EnvelopeBounds) (groups : List ℕ) (place : ℕ)
     → ((i j : ℕ) → j < i → i < place → PairIsRight horizon envelopes groups i j)
     → (i j : ℕ) → j < i → i < place → PairIsRight horizon envelopes (set groups place place) i j
@@ -128,7 +129,8 @@ numbered_pairs horizon envelopes groups place before i j lt low d ne =
     before i j lt low d (λ same. ne (get_or-set_other groups place i place 0 (below_differs i place low) ∙ same
     ∙ sym (get_or-set_other groups place j place 0 (below_differs j place (omega (arith, lt, low))))))
 
--- one more pair of this envelope and an earlier one is right
+-- if the pairs of `place` and a place before `other` are right, and so is the pair of `place` and `other`, then the
+-- pairs of `place` and a place up to `other` are right
 pub places_more : (horizon : ℕ) (envelopes : List EnvelopeBounds) (old new : List ℕ) (place other : ℕ) → place < length envelopes → length old ≡ length envelopes
     → other < place → Coarser old new → ((j : ℕ) → j < other → PairIsRight horizon envelopes old place j) → PairIsRight horizon envelopes new place other
     → (j : ℕ) → j < other + 1 → PairIsRight horizon envelopes new place j
@@ -176,7 +178,7 @@ groups_stay_apart rule limit horizon parts envelopes groups apart are right i j 
         before : j ≤ i → j < i
         before le = elim (eq-or-lt_of_le le) [ inl same ↦ absurd (ne (ap (λ (n : ℕ). get_or groups n 0) (sym same))) | inr lt ↦ lt ]
 
--- ---- at rest, by groups
+-- ---- the test of rest by groups
 
 pub rest_by_groups : (rule : Numbers) (profile : Settling) (cells : List Cell) (clusters : List (List Cell)) (envelopes : List EnvelopeBounds) (groups : List ℕ)
     → InOrder cells → AreClusters cells clusters → AreEnvelopes rule profile.period clusters envelopes → AreGroups profile.horizon envelopes groups

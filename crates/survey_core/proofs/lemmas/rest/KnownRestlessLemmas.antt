@@ -11,11 +11,11 @@ use Rattle.survey_core.specs.Profiles.{Settling}
 use Rattle.survey_core.specs.rest.Rest.{IsAtRest}
 use Rattle.survey_core.proofs.lemmas.FindingLemmas.{after-then}
 
--- if nothing is known, nothing is claimed
+-- `AreKnownRestless` holds if nothing is known
 pub none_known : (rule : Numbers) (profile : Settling) (cells : List Cell) (t : ℕ) → AreKnownRestless rule profile cells t (replicate 2 false)
 none_known rule profile cells t n known = absurd (false≢true (sym (get_or-replicate 2 ((t + n) % 2) false false (omega arith)) ∙ known))
 
--- a checkpoint that is known not to be at rest
+-- a pattern that is known not to be at rest in generation t isn't at rest
 pub known_now : (rule : Numbers) (profile : Settling) (cells : List Cell) (t : ℕ) (known_restless : List Bool) → AreKnownRestless rule profile cells t known_restless
     → is_known known_restless t ≡ true → ¬ IsAtRest rule profile cells
 known_now rule profile cells t known_restless are known rest =
@@ -24,7 +24,7 @@ known_now rule profile cells t known_restless are known rest =
     same : t + 0 ≡ t
     same = omega arith
 
--- s generations later the same is known
+-- what is known about a pattern in generation t is known s generations later, too
 pub known_later : (rule : Numbers) (profile : Settling) (cells : List Cell) (t s : ℕ) (known_restless : List Bool) → AreKnownRestless rule profile cells t known_restless
     → AreKnownRestless rule profile (after rule cells s) (t + s) known_restless
 known_later rule profile cells t s known_restless are n known rest =
@@ -33,7 +33,8 @@ known_later rule profile cells t s known_restless are n known rest =
     same : t + (s + n) ≡ (t + s) + n
     same = omega arith
 
--- a restless pattern that even numbers of generations don't change is restless at every t + 2k
+-- if a pattern isn't at rest in generation t, and even numbers of generations don't change it, then it isn't at rest in
+-- any later generation whose number is even or odd like t
 pub known_more : (rule : Numbers) (profile : Settling) (cells : List Cell) (t : ℕ) (known_restless : List Bool) → AreKnownRestless rule profile cells t known_restless
     → ¬ IsAtRest rule profile cells → ((n : ℕ) → n % 2 ≡ 0 → after rule cells n ≡ cells) → AreKnownRestless rule profile cells t (set known_restless (t % 2) true)
 known_more rule profile cells t known_restless are moves still n known = elim (cases_eq ((t + n) % 2) (t % 2)) [

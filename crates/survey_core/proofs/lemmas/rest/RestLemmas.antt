@@ -25,7 +25,7 @@ pub cluster_some : (cells cluster : List Cell) → IsCluster cells cluster → c
 cluster_some cells cluster is none =
     false≢true (ap (λ (c : List Cell). has c is.start) (sym none) ∙ (is.members is.start).1 (linked-itself cells is.start is.has_start))
 
--- a cluster lies within each reach within which its pattern lies
+-- if a pattern lies within a reach, each of its clusters does, too
 pub cluster_within : (reach : ℕ) (cells cluster : List Cell) → lies_within reach cells ≡ true → IsCluster cells cluster → lies_within reach cluster ≡ true
 cluster_within reach cells cluster within is =
     has-list_all _ cluster (λ c e. list_all-has _ cells within c (linked-has cells is.start c ((is.members c).0 e)))
@@ -34,13 +34,13 @@ pub alone_at_once : (rule : Numbers) (clusters : List (List Cell)) → map (λ p
 alone_at_once rule [] = refl
 alone_at_once rule (part ∷ parts) = λ i. after-none rule part i ∷ alone_at_once rule parts i
 
--- at generation 0 the parts are the pattern
+-- the parts of a partition keep apart in generation 0
 pub apart_at_once : (rule : Numbers) (cells : List Cell) (clusters : List (List Cell)) → Partition cells clusters → KeepApart rule cells clusters 0
 apart_at_once rule cells clusters are =
     subst (λ (parts : List (List Cell)). Partition (after rule cells 0) parts) (sym (alone_at_once rule clusters))
     (subst (λ (whole : List Cell). Partition whole clusters) (sym (after-none rule cells)) are)
 
--- ---- the clusters beside the whole
+-- ---- clusters run alone
 
 -- each generation of each cluster is in order
 pub alone_in_order : (rule : Numbers) (clusters : List (List Cell)) (g : ℕ) → All InOrder clusters
@@ -55,7 +55,8 @@ alone_near rule clusters g near low =
     All-map (λ part. lies_within 999999 part ≡ true) (λ part. after rule part g) clusters
     (λ k d there. within_later survey_reach 999999 rule (get_or clusters k d) g (omega arith) (near k d there))
 
--- the clusters keep apart for one more generation
+-- if clusters keep apart up to generation g, and partition the whole in generation g + 1, they keep apart up to
+-- generation g + 1
 pub apart_more : (rule : Numbers) (cells : List Cell) (clusters : List (List Cell)) (g : ℕ) (whole : List Cell) (alone : List (List Cell))
     → whole ≡ after rule cells (g + 1) → alone ≡ map (λ part. after rule part (g + 1)) clusters
     → ((k : ℕ) → k ≤ g → KeepApart rule cells clusters k) → Partition whole alone → (k : ℕ) → k ≤ g + 1 → KeepApart rule cells clusters k

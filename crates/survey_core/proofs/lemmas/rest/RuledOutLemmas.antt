@@ -60,7 +60,7 @@ rest_holds rule profile cells cluster (clusters, rest) is strays = go (is_one_of
         let some = list_any-from_Any (λ (part : List Cell). has (after rule part g) strays.cell) clusters (k, one, low, at, there) in
         false≢true (sym strays.missing ∙ keeps_adds rule cells clusters g (rest.apart g strays.early) strays.cell ∙ some)
 
--- so a pattern with a restless cluster isn't at rest
+-- a pattern with a restless cluster isn't at rest
 pub ruled_out_moves : (rule : Numbers) (profile : Settling) (cells : List Cell) → HasRestlessCluster rule cells profile.horizon profile.period
     → ¬ IsAtRest rule profile cells
 ruled_out_moves rule profile cells refused rest = go refused.why

@@ -22,7 +22,7 @@ back_at list i alone low is same =
     ∙ ap (λ (all : List (List Cell)). get_or all i []) same
     ∙ get_or-map (λ (a : Alone). a.cluster) list i alone [] low ∙ ap (λ (a : Alone). a.cluster) (sym is)
 
--- one more cluster is itself again
+-- if the first i clusters and cluster i are themselves again, the first i + 1 clusters are
 pub back_more : (list : List Alone) (i : ℕ) (alone : Alone) → i < length list → alone ≡ get_or list i alone
     → latest_of (take i list) ≡ clusters_of (take i list) → alone.latest ≡ alone.cluster
     → latest_of (take (i + 1) list) ≡ clusters_of (take (i + 1) list)
@@ -31,7 +31,8 @@ back_more list i alone low is before same =
     ∙ (λ j. before j ++ (ap (λ (a : Alone). a.latest) (sym is) ∙ same ∙ ap (λ (a : Alone). a.cluster) is) j ∷ [])
     ∙ sym (map_more (λ (a : Alone). a.cluster) list i alone low)
 
--- the clusters, and what they are after g generations
+-- for clusters that are run alone for g generations, `clusters_of` is the clusters, and `latest_of` is what they are
+-- after g generations
 pub clusters_alone : (rule : Numbers) (g : ℕ) (clusters : List (List Cell)) → clusters_of (map (alone_at rule g) clusters) ≡ clusters
 clusters_alone rule g [] = refl
 clusters_alone rule g (cluster ∷ clusters) = ap (λ (more : List (List Cell)). cluster ∷ more) (clusters_alone rule g clusters)
@@ -55,12 +56,12 @@ pub clusters_are : (rule : Numbers) (g : ℕ) (clusters : List (List Cell)) (lis
     → clusters_of list ≡ clusters
 clusters_are rule g clusters list is = ap clusters_of is ∙ clusters_alone rule g clusters
 
--- the clusters one generation later
+-- stepping clusters that are run alone for g generations gives the clusters run alone for g + 1 generations
 pub later_is : (rule : Numbers) (g : ℕ) (clusters : List (List Cell)) (list later : List Alone) → list ≡ map (alone_at rule g) clusters
     → later ≡ map (stepped rule) list → later ≡ map (alone_at rule (g + 1)) clusters
 later_is rule g clusters list later is stepped_is = stepped_is ∙ ap (map (stepped rule)) is ∙ stepped_alone rule g clusters
 
--- the next generation of each is known, and lies far from the edge
+-- `first` is the next generation of each cluster, and `latest` lies far from the edge of the plane
 pub first_known : (rule : Numbers) (g : ℕ) (clusters : List (List Cell)) (list : List Alone) → list ≡ map (alone_at rule g) clusters
     → All (λ (a : Alone). a.first ≡ next rule a.cluster) list
 first_known rule g clusters list is =
@@ -74,7 +75,7 @@ latest_near rule g clusters list is low near =
     (All-map (λ (a : Alone). lies_within 999999 a.latest ≡ true) (alone_at rule g) clusters
     (λ k d there. within_later survey_reach 999999 rule (get_or clusters k d) g (omega arith) (near k d there)))
 
--- one more cluster of the group, which hasn't been run yet
+-- adding part i, which is in group k, as a cluster that is run for 0 generations
 pub start_more : (rule : Numbers) (k : ℕ) (gs : List ℕ) (parts : List (List Cell)) (i : ℕ) (d : List Cell) (list : List Alone) (alone : Alone)
     → i < length parts → length gs ≡ length parts → get_or gs i 0 ≡ k → list ≡ map (alone_at rule 0) (members k (take i gs) (take i parts))
     → alone ≡ alone_at rule 0 (get_or parts i d) → list ++ alone ∷ [] ≡ map (alone_at rule 0) (members k (take (i + 1) gs) (take (i + 1) parts))
@@ -86,7 +87,7 @@ start_more rule k gs parts i d list alone low same number are is =
 prefix : (rule : Numbers) (list : List Alone) (i : ℕ) → i < length list → length (map (stepped rule) (take i list)) ≡ i
 prefix rule list i low = length-map _ _ ∙ length-take-le i list (omega arith)
 
--- The clusters are stepped one after another: the next one is still as it was, and then it is stepped.
+-- while the clusters are stepped one after another, cluster i is still as it was before it is stepped
 pub as_it_was : (rule : Numbers) (list now : List Alone) (i : ℕ) (d : Alone) → i < length list → now ≡ map (stepped rule) (take i list) ++ drop i list
     → get_or now i d ≡ get_or list i d
 as_it_was rule list now i d low is =
@@ -107,7 +108,7 @@ step_more rule list now i d latest low is later =
     ∙ sym (append_assoc (map (stepped rule) (take i list)) (stepped rule (get_or list i d) ∷ []) (drop (i + 1) list))
     ∙ ap (λ (all : List Alone). all ++ drop (i + 1) list) (sym (map_more (stepped rule) list i d low))
 
--- at the end all clusters are stepped
+-- after the loop, all clusters are stepped
 pub all_stepped : (rule : Numbers) (list now : List Alone) (i : ℕ) → length list ≤ i → now ≡ map (stepped rule) (take i list) ++ drop i list
     → now ≡ map (stepped rule) list
 all_stepped rule list now i end is =

@@ -27,7 +27,7 @@ use Rattle.survey_core.proofs.lemmas.rest.ForGoodLemmas.{after_remainder, shifte
 
 -- ---- cycles
 
--- the box of cycle n
+-- the envelope's box in cycle n
 abbrev carried : ℕ → EnvelopeBounds → Bounds
 carried n envelope = record {
   left = envelope.bounds.left +ℤ times n envelope.recurrence.dx;
@@ -60,7 +60,7 @@ pub times-none : (n : ℕ) → times n (pos 0) ≡ pos 0
 times-none zero = refl
 times-none (suc n) = ap (λ (t : ℤ). t +ℤ pos 0) (times-none n)
 
--- n steps by the difference are the difference of n steps
+-- n times the difference e - d, plus n times d, is n times e
 pub times-difference : (n : ℕ) (d e : ℤ) → times n (e -ℤ d) +ℤ times n d ≡ times n e
 times-difference zero d e = refl
 times-difference (suc n) d e = one (times n (e -ℤ d)) (times n d) (times n e) (times-difference n d e)
@@ -169,7 +169,7 @@ clear_apart one other n c d clear v w = elim (or_cases _ _ clear) [
     down : 3 ≤ distance c.y d.y → 3 ≤ king_distance c d
     down h = omega arith
 
--- a pattern that doesn't move, with this box
+-- the envelope of a pattern that doesn't move, with this box
 abbrev resting : Bounds → EnvelopeBounds
 resting b = record { recurrence = record { period = 1; dx = pos 0; dy = pos 0 }; bounds = b }
 
@@ -223,7 +223,7 @@ still_life_stays rule limit cells envelope is still g =
     let none : g % 1 ≡ 0 = omega arith in
     after_remainder rule cells 1 g back ∙ ap (after rule cells) none ∙ after-none rule cells
 
--- so two still lives that are apart stay apart
+-- two still lifes that are apart stay apart
 pub still_lives_stay_apart : (horizon : ℕ) (one other : EnvelopeBounds) → IsStillLife one → IsStillLife other → StayApart horizon one other
 still_lives_stay_apart horizon one other s t rule limit cells others is that apart g low =
     subst (λ (S : List Cell). LieApart S (after rule others g)) (sym (still_life_stays rule limit cells one is s g))
@@ -269,7 +269,7 @@ in_later_cycles P n more now (suc m) low = elim (eq-or-lt_of_le low) [
   | inr less ↦ more m (in_later_cycles P n more now m (omega (arith, less)))
 ]
 
--- a box that begins past an end, and doesn't move back, stays past it
+-- a box that begins past the end of another box, and doesn't move back, stays past it
 past_later : (end begin d : ℤ) (n m : ℕ) → n ≤ m → (is_past end (pos 0) begin (times n d) && int_le (pos 0) d) ≡ true
     → is_past end (pos 0) begin (times m d) ≡ true
 past_later end begin d n m low h =
@@ -279,7 +279,7 @@ past_later end begin d n m low h =
     one : (t : ℤ) → is_past end (pos 0) begin t ≡ true → int_le (pos 0) d ≡ true → is_past end (pos 0) begin (t +ℤ d) ≡ true
     one t there on = grind (arith, ints)
 
--- a box that ends before a begin, and doesn't move forward, stays before it
+-- a box that ends before the beginning of another box, and doesn't move forward, stays before it
 ahead_later : (end begin d : ℤ) (n m : ℕ) → n ≤ m → (is_past end (times n d) begin (pos 0) && int_le d (pos 0)) ≡ true
     → is_past end (times m d) begin (pos 0) ≡ true
 ahead_later end begin d n m low h =
@@ -292,7 +292,7 @@ ahead_later end begin d n m low h =
 either : {a b c d : Bool} → (a ≡ true → c ≡ true) → (b ≡ true → d ≡ true) → (a || b) ≡ true → (c || d) ≡ true
 either {a} {b} {c} {d} one other some = elim (or_cases a b some) [ inl e ↦ or_left c d (one e) | inr e ↦ or_right c d (other e) ]
 
--- the boxes are clear of each other, and stay so, if the other goes on by (dx, dy) in each cycle
+-- box `other`, moved by (x, y), is clear of box `one`, and stays clear if it moves by (dx, dy) in each cycle
 abbrev is_parting : Bounds → Bounds → ℤ → ℤ → ℤ → ℤ → Bool
 is_parting one other x y dx dy = gap_stays (gaps_of one other x y) dx dy
 
@@ -303,7 +303,7 @@ parting_clear one other dx dy n m low =
     either (either (either (past_later one.right other.left dx n m low) (ahead_later other.right one.left dx n m low))
     (past_later one.bottom other.top dy n m low)) (ahead_later other.bottom one.top dy n m low)
 
--- so once the boxes part, no later cycle has to be tested
+-- boxes that are clear in the first n cycles, and then part, are clear in all cycles
 pub clear_from_here : (one other : EnvelopeBounds) (n cycles : ℕ) (x y s t : ℤ) → s ≡ other.recurrence.dx -ℤ one.recurrence.dx
     → t ≡ other.recurrence.dy -ℤ one.recurrence.dy → x ≡ times n s → y ≡ times n t → StayClear n one other
     → is_parting one.bounds other.bounds x y s t ≡ true → StayClear cycles one other
@@ -315,7 +315,8 @@ clear_from_here one other n cycles x y s t is_s is_t is_x is_y before part m low
 
 -- ---- the box of all phases
 
--- the joint box contains one more phase
+-- if box `bounds` contains the first n phases, and box `box` contains phase n, a box that contains both boxes contains
+-- the first n + 1 phases
 pub phases_more : (phases : List (List Cell)) (n : ℕ) (bounds both box : Bounds) (phase : List Cell) → n < length phases → phase ≡ get_or phases n phase
     → ((c : Cell) → IsWithin bounds c → IsWithin both c) → ((c : Cell) → IsWithin box c → IsWithin both c) → All (IsWithin box) phase
     → ((g : ℕ) (none : List Cell) → g < n → All (IsWithin bounds) (get_or phases g none))
@@ -328,7 +329,7 @@ phases_more phases n bounds both box phase there is first second now before g no
   | inr apart ↦ λ k d here. first (get_or (get_or phases g none) k d) (before g none (omega arith) k d here)
 ]
 
--- the envelope of a pattern with these phases
+-- a pattern's recurrence, with a box that contains all phases, is an envelope of the pattern
 pub envelope_of : (rule : Numbers) (limit : ℕ) (cells : List Cell) (phases : List (List Cell)) (r : Recurrence) (envelope : EnvelopeBounds) → InOrder cells
     → IsCycle rule cells limit phases r → envelope.recurrence ≡ r
     → ((g : ℕ) (none : List Cell) → g < length phases → All (IsWithin envelope.bounds) (get_or phases g none)) → IsEnvelope rule limit cells envelope
@@ -374,7 +375,7 @@ envelopes_more rule limit parts i part envelopes envelope items low at are is ma
     (subst (λ (prefix : List (List Cell)). AreEnvelopes rule limit prefix (envelopes ++ envelope ∷ [])) (sym (take_more parts i part low))
     (envelopes_push rule limit (take i parts) envelopes (get_or parts i part) envelope are (subst (λ (p : List Cell). IsEnvelope rule limit p envelope) at is)))
 
--- the envelopes are those of the first patterns, as many as there are envelopes
+-- if the envelopes are those of the first i patterns, the number of envelopes can stand for i
 pub first_envelopes : (rule : Numbers) (limit : ℕ) (parts : List (List Cell)) (i : ℕ) (envelopes : List EnvelopeBounds) → i ≤ length parts
     → AreEnvelopes rule limit (take i parts) envelopes → AreEnvelopes rule limit (take (length envelopes) parts) envelopes
 first_envelopes rule limit parts i envelopes low are =
@@ -384,7 +385,7 @@ pub few_envelopes : (rule : Numbers) (limit : ℕ) (parts : List (List Cell)) (i
     → AreEnvelopes rule limit (take i parts) envelopes → length envelopes ≤ length parts
 few_envelopes rule limit parts i envelopes low are = subst (λ (n : ℕ). n ≤ length parts) (sym (are.count ∙ length-take-le i parts low)) low
 
--- one more envelope, after those of other patterns
+-- adding the envelope of pattern i to the envelopes of the patterns `before` and of the first i patterns
 pub envelopes_after : (rule : Numbers) (limit : ℕ) (before parts : List (List Cell)) (i : ℕ) (part : List Cell) (envelopes : List EnvelopeBounds)
     (envelope : EnvelopeBounds) (items : List EnvelopeBounds) → i < length parts → part ≡ get_or parts i part
     → AreEnvelopes rule limit (before ++ take i parts) envelopes → IsEnvelope rule limit part envelope
@@ -407,7 +408,7 @@ above_is_clear one other is =
     last_of_four false false true d is = refl
     last_of_four false false false d is = sym is
 
--- ---- numbers that come out of their bits
+-- ---- numbers that are converted to words and back
 
 pub past_at : (result : Bool) (end begin : ℤ) → FitsSigned w32 end → FitsSigned w32 begin
     → result ≡ is_past (to_z w32 (of_z w32 end)) (pos 0) (to_z w32 (of_z w32 begin)) (pos 0) → result ≡ is_past end (pos 0) begin (pos 0)

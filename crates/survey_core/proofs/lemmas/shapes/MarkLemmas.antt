@@ -75,7 +75,7 @@ stays_in_place r stays = go (int_eq r.dx (pos 0) && int_eq r.dy (pos 0)) refl
         let parts = and_parts (int_eq r.dx (pos 0)) (int_eq r.dy (pos 0)) e in
         ((Decides-int_eq r.dx (pos 0)).0 parts.0, (Decides-int_eq r.dy (pos 0)).0 parts.1)
 
--- an object that recurs in its place is no spaceship
+-- an object that recurs in its place isn't a spaceship
 no_ship : (period : ℕ) → kind_of (record { period = period; dx = pos 0; dy = pos 0 }) ≢ Ship
 no_ship period is = go (period == 1) is
   where
@@ -85,7 +85,7 @@ no_ship period is = go (period == 1) is
 
 -- ---- codes among objects and among clusters
 
--- what holds for the code of each object holds for each code that is counted
+-- a property of the code of each object is a property of each code with a count of at least 1
 pub listed_code : (objects : List (List ℕ × ℕ)) (code : List ℕ) → 1 ≤ count_of objects code → (P : List ℕ → Type 0)
     → All (λ object. P object.0) objects → P code
 listed_code [] code some P all = absurd (omega arith)
@@ -98,7 +98,7 @@ listed_code (object ∷ objects) code some P all =
     go Less e h more = more h
     go Greater e h more = more h
 
--- each object is counted
+-- the code of each object has a count of at least 1
 listed_some : (objects : List (List ℕ × ℕ)) → All (λ object. 1 ≤ object.1) objects → All (λ object. 1 ≤ count_of objects object.0) objects
 listed_some [] some k d low = absurd (omega arith)
 listed_some (object ∷ objects) some zero d low = subst (λ (n : ℕ). 1 ≤ n) (sym (count-head object objects)) (some 0 object (omega arith))
@@ -135,7 +135,7 @@ each_listed rule limit (x ∷ xs) (y ∷ ys) all Q h (suc k) d low =
     more true n some = omega arith
     more false n some = omega arith
 
--- each counted code is the code of a cluster
+-- each counted code is the code of a cluster, so it has each property that all codes of clusters have
 of_a_cluster : (rule : Numbers) (limit : ℕ) (clusters : List (List Cell)) (codes : List (List ℕ))
     → AllZip (λ cluster code. IsCode rule cluster limit code) clusters codes → (code : List ℕ) → 1 ≤ count_by (is_code code) codes
     → (Q : List ℕ → Type 0) → All (λ cluster. (code : List ℕ) → IsCode rule cluster limit code → Q code) clusters → Q code
@@ -154,13 +154,13 @@ of_a_cluster rule limit (x ∷ xs) (y ∷ ys) all code some Q each =
 
 module _ (rule : Numbers) (limit : ℕ) (clusters : List (List Cell)) (objects : List (List ℕ × ℕ)) (counted : AreObjectsOf rule limit clusters objects)
   where
-    -- what holds for the code of each object holds for some code of each cluster
+    -- if the code of each object has a property, each cluster has a code with this property
     pub of_clusters : (Q : List ℕ → Type 0) → All (λ object. Q object.0) objects
         → All (λ cluster. (code : List ℕ) × IsCode rule cluster limit code × Q code) clusters
     of_clusters Q all = each_listed rule limit clusters counted.codes counted.named Q
         (λ code some. listed_code objects code (subst (λ (n : ℕ). 1 ≤ n) (sym (counted.counts code)) some) Q all)
 
-    -- what holds for all codes of each cluster holds for the code of each object
+    -- if all codes of each cluster have a property, the code of each object has it
     pub of_objects : (Q : List ℕ → Type 0) → All (λ cluster. (code : List ℕ) → IsCode rule cluster limit code → Q code) clusters
         → All (λ object. Q object.0) objects
     of_objects Q all k d low = of_a_cluster rule limit clusters counted.codes counted.named (get_or objects k d).0
@@ -171,7 +171,7 @@ module _ (rule : Numbers) (limit : ℕ) (clusters : List (List Cell)) (objects :
 module _ (rule : Numbers) (limit : ℕ) (clusters : List (List Cell)) (objects : List (List ℕ × ℕ)) (low : limit ≤ 64)
     (some : All (λ cluster. cluster ≢ []) clusters) (counted : AreObjectsOf rule limit clusters objects)
   where
-    -- a cluster that recurs in its place has the period that its code tells
+    -- the code of a cluster that recurs in its place isn't the code of a spaceship, and tells the cluster's period
     told : (cluster : List Cell) (code : List ℕ) (period : ℕ) → cluster ≢ [] → IsCode rule cluster limit code
         → RecursInPlace rule limit cluster period → (kind_in code ≢ Ship) × (period_in code ≡ period)
     told cluster code period full named recurs =
@@ -239,7 +239,7 @@ pub marks_match : (rule : Numbers) (limit horizon : ℕ) (clusters : List (List 
 marks_match rule limit horizon clusters objects low some counted =
     (stay_there rule limit clusters objects low some counted horizon, stay_back rule limit clusters objects low some counted horizon)
 
--- the mark of a pattern at rest is what the codes of its objects say
+-- the mark of a pattern at rest says whether its objects, by their codes, stay for good
 pub settled_mark : (rule : Numbers) (profile : Settling) (cells : List Cell) (objects : List (List ℕ × ℕ)) (good : Bool) → profile.period ≤ 64
     → IsSettled rule profile cells objects good → IsTrue good ↔ StayForGood profile.horizon objects
 settled_mark rule profile cells objects good low settled =

@@ -1,4 +1,4 @@
--- What is known of a shape holds for each pattern that it is about.
+-- A fact about a shape, moved, holds for each pattern that the fact is about.
 use Rattle.std.proofs.Common.{◌≡◌, ◌∙◌, ◌+ℤ◌, Err, IfNone, IfOk, None, Ok, Option, Result, Some, refl, sym, subst, ℕ, ℤ, Bool, false, not, true, List, All, arith}
 use Rattle.std.proofs.lemmas.Int.{ints}
 use Rattle.std.proofs.lemmas.List.Elements.{All-map}
@@ -18,7 +18,7 @@ use Rattle.survey_core.specs.shapes.RecurringShapes.{RecursWithin}
 use Rattle.survey_core.specs.shapes.Envelopes.{IsEnvelope}
 use Rattle.survey_core.proofs.lemmas.JobLemmas.{rules_decide}
 
--- a box, moved
+-- the box, moved by `shift`
 abbrev moved_bounds : ℤ × ℤ → Bounds → Bounds
 moved_bounds shift b = record {
   left = b.left +ℤ shift.0;
@@ -44,7 +44,7 @@ within_moved shift b c w = record {
   bottom = omega (arith, ints, w.bottom);
 }
 
--- the envelope of a moved pattern
+-- if a pattern has an envelope, the moved pattern has the moved envelope
 envelope_moved : (shift : ℤ × ℤ) (rule : Numbers) (limit : ℕ) (cells : List Cell) (envelope : EnvelopeBounds) → IsEnvelope rule limit cells envelope
     → IsEnvelope rule limit (shifted shift.0 shift.1 cells) (moved_envelope shift envelope)
 envelope_moved shift rule limit cells envelope is = record {
@@ -56,7 +56,7 @@ envelope_moved shift rule limit cells envelope is = record {
       (λ k d there. within_moved shift envelope.bounds _ (is.within g low k d there)));
 }
 
--- the envelope of a pattern that the fact is about
+-- a pattern that a known fact is about has the fact's envelope, moved
 pub envelope_known : (rule : Numbers) (limit : ℕ) (cells : List Cell) (shift : ℤ × ℤ) (fact : Fact) → IsKnown fact → IsAbout rule limit cells shift fact
     → IsEnvelope rule limit cells (moved_envelope shift fact.envelope)
 envelope_known rule limit cells shift fact known about =
@@ -65,7 +65,7 @@ envelope_known rule limit cells shift fact known about =
     (subst (λ (S : List Cell). IsEnvelope fact.rule fact.limit S (moved_envelope shift fact.envelope)) about.shape_is
     (envelope_moved shift fact.rule fact.limit fact.shape fact.envelope known.enveloped)))
 
--- the code of a pattern that the fact is about
+-- a pattern that a known fact is about has the fact's code
 pub code_known : (rule : Numbers) (limit : ℕ) (cells : List Cell) (shift : ℤ × ℤ) (fact : Fact) → IsKnown fact → IsAbout rule limit cells shift fact
     → IsCode rule cells limit fact.code
 code_known rule limit cells shift fact known about =

@@ -46,7 +46,7 @@ pub multiple_of_least : (objects : List (List ℕ × ℕ)) (l m : ℕ) → IsLea
     → IsMultiple m l
 multiple_of_least objects l m is common = divided m l ((dvd_iff_mod-eq-zero l).1 none)
   where
-    -- otherwise the remainder would be a smaller common multiple
+    -- if the remainder m % l isn't 0, it is a common multiple, too
     smaller : (m % l ≢ 0) → IsCommonMultiple objects (m % l)
     smaller some = record {
       some = omega (arith, some);
@@ -59,7 +59,7 @@ multiple_of_least objects l m is common = divided m l ((dvd_iff_mod-eq-zero l).1
       | inr some ↦ absurd (let low = is.least (m % l) (smaller some) in let high = mod-lt m is.common.some in omega (arith, low, high))
     ]
 
--- No common multiple of n and p is below the multiple b + 1 of n, if p divides none of the first b multiples.
+-- if p divides none of the first b multiples of n, each positive common multiple of n and p is at least (b + 1) * n
 pub first_common : (n p b : ℕ) → ((j : ℕ) → j < b → ¬ IsMultiple ((j + 1) * n) p) → (m : ℕ) → 1 ≤ m → IsMultiple m n
     → IsMultiple m p → (b + 1) * n ≤ m
 first_common n p b none m some (k, is) of_period = go k is
@@ -74,7 +74,8 @@ first_common n p b none m some (k, is) of_period = go k is
       | inr high ↦ subst (λ (x : ℕ). (b + 1) * n ≤ x) (sym is) (mul-le-mul_right n (omega (arith, high)))
     ]
 
--- the same if the first b multiples of n are all its multiples up to `most`
+-- if p divides none of the first b multiples of n, and these are all its multiples up to `most`, each positive common
+-- multiple of n and p is greater than `most`
 pub none_common : (n p b most : ℕ) → 1 ≤ n → most / n ≤ b → ((j : ℕ) → j < b → ¬ IsMultiple ((j + 1) * n) p) → (m : ℕ) → 1 ≤ m
     → IsMultiple m n → IsMultiple m p → most < m
 none_common n p b most positive all none m some of_one of_period = elim (cases_lt most m) [
@@ -85,12 +86,13 @@ none_common n p b most positive all none m some of_one of_period = elim (cases_l
       omega (arith, within, all))
 ]
 
--- the common multiples of some objects are common multiples of the first ones
+-- a common multiple of the periods of a list of objects is a common multiple of the periods of the first i objects
 pub common_before : (objects : List (List ℕ × ℕ)) (i m : ℕ) → IsCommonMultiple objects m → IsCommonMultiple (take i objects) m
 common_before objects i m common =
     record { some = common.some; each = All-take (λ object. IsMultiple m (period_in object.0)) i objects common.each }
 
--- the least common multiple with one more object
+-- the least common multiple of `one`, which is that of the first i objects, and of the period of object i is the least
+-- common multiple of the first i + 1 objects
 pub least_more : (objects : List (List ℕ × ℕ)) (i one next : ℕ) (item : List ℕ × ℕ) → i < length objects → item ≡ get_or objects i item
     → IsLeastCommonMultiple (take i objects) one → 1 ≤ next → IsMultiple next one → IsMultiple next (period_in item.0)
     → ((m : ℕ) → 1 ≤ m → IsMultiple m one → IsMultiple m (period_in item.0) → next ≤ m)
@@ -111,7 +113,7 @@ least_more objects i one next item low there is some of_one of_item first = reco
     take_less : {m : ℕ} → IsCommonMultiple (take (i + 1) objects) m → take i (take (i + 1) objects) ≡ take i objects
     take_less _ = take-take i (i + 1) objects (omega arith)
 
--- ---- codes
+-- ---- codes and their counts
 
 -- two texts that compare as equal are equal
 pub same_code : (a b : List ℕ) → slice_cmp nat_cmp a b ≡ Equal → a ≡ b
@@ -126,7 +128,7 @@ is_code-sym a b = ap is_eq (nat_list_cmp_total.antisymm a b) ∙ turned (slice_c
     turned Equal = refl
     turned Greater = refl
 
--- one more object with the code k
+-- if the count of code k is set to `before` + 1, one more than it was, one more object with code k is counted
 pub counted_more : (old new : List (List ℕ × ℕ)) (k : List ℕ) (before : ℕ)
     → ((q : List ℕ) → lookup (is_code q) new ≡ cond (is_code k q) (Some (before + 1)) (lookup (is_code q) old))
     → before ≡ count_of old k → (q : List ℕ) → count_of new q ≡ count_of old q + (if is_code q k then 1 else 0)
@@ -147,7 +149,7 @@ counted_more old new k before updates is q = go (slice_cmp nat_cmp k q) refl
     go Less e = miss (ap is_eq e)
     go Greater e = miss (ap is_eq e)
 
--- with one more object there is still no count of 0
+-- if the count of code k is set to `before` + 1, there is still no count of 0
 pub some_more : (old new : List (List ℕ × ℕ)) (k : List ℕ) (before : ℕ)
     → ((q : List ℕ) → lookup (is_code q) new ≡ cond (is_code k q) (Some (before + 1)) (lookup (is_code q) old))
     → CountsAreSome old → CountsAreSome new
@@ -169,7 +171,7 @@ number_more old new k before ordered is at =
     ap (λ (es : List (List ℕ × ℕ)). sum (values_of es)) is in
     omega (arith, put)
 
--- the first object of a code
+-- counting the first object of a code, which gets the count 1
 pub first_counted : (old : BTreeMap (List ℕ) ℕ) (new : List (List ℕ × ℕ)) (k : List ℕ) → IsOrdered (slice_cmp nat_cmp) old
     → lookup (is_code k) old.entries ≡ None
     → ((q : List ℕ) → lookup (is_code q) new ≡ cond (is_code k q) (Some 1) (lookup (is_code q) old.entries))
@@ -183,7 +185,7 @@ first_counted old new k ordered none updates is = record {
     before : 0 ≡ count_of old.entries k
     before = sym (ap (λ (o : Option ℕ). unwrap_or o 0) none)
 
--- one more object of a code that is already counted
+-- counting one more object of a code that is already counted
 pub once_more : (old new : List (List ℕ × ℕ)) (k : List ℕ) (before : ℕ) → lookup (is_code k) old ≡ Some before
     → ((q : List ℕ) → lookup (is_code q) new ≡ cond (is_code k q) (Some (before + 1)) (lookup (is_code q) old))
     → new ≡ set_value (is_code k) old (before + 1) → IsOneMore k old new

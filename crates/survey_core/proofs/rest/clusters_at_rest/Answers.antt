@@ -25,7 +25,7 @@ envelopes-requires-clause-near c =
     subst (All (λ (part : List Cell). lies_within survey_reach part ≡ true)) (sym c.as_slice-parts.ensures.value)
     (clusters_near survey_reach c.args.pattern.now c.in_ok-clusters.clusters.items c.in_ok-clusters.ensures.clusters c.requires)
 
--- some cluster doesn't recur
+-- if some cluster doesn't recur, the pattern isn't at rest
 pub returns-in_default-clause-moves : goal.returns-in_default-clause-moves
 returns-in_default-clause-moves c = λ rest.
     let same : RestsAs c.args.rule.now c.args.profile.now c.args.pattern.now c.in_ok-clusters.clusters.items =
@@ -44,7 +44,7 @@ groups_keep_apart-requires-clause-off c =
     subst ShareNoCell (sym c.as_slice-parts.ensures.value)
     (clusters_off c.args.pattern.now c.in_ok-clusters.clusters.items c.in_ok-clusters.ensures.clusters)
 
--- what is known about the envelopes and the groups of the clusters
+-- the envelopes and the groups are those of the clusters
 enveloped : (c : goal.After-drop-envelopes-2)
     → AreEnvelopes c.args.rule.now c.args.profile.now.period c.in_ok-clusters.clusters.items c.in-Some.envelopes.items
 enveloped c =
@@ -57,7 +57,7 @@ grouped c =
     subst (λ (h : ℕ). AreGroups h c.in-Some.envelopes.items c.in_ok-groups.groups.items) c.horizon-horizon.ensures.horizon
     (subst (λ (envelopes : List EnvelopeBounds). AreGroups c.horizon-horizon.result envelopes c.in_ok-groups.groups.items) c.as_slice.ensures.value c.in_ok-groups.ensures)
 
--- the clusters of some group don't keep apart
+-- if the clusters of some group don't keep apart, the pattern isn't at rest
 pub returns-clause-moves : goal.returns-clause-moves
 returns-clause-moves c =
     rw c.then_some.ensures (none_if c.in_ok-apart.apart c.in_ok-clusters.clusters (¬ IsAtRest c.args.rule.now c.args.profile.now c.args.pattern.now) (λ not_apart rest.
@@ -71,7 +71,7 @@ returns-clause-moves c =
     (groups_of_rest c.args.rule.now c.args.profile.now c.args.pattern.now c.in_ok-clusters.clusters.items c.in-Some.envelopes.items
     c.in_ok-groups.groups.items order (enveloped c) (grouped c) same k)))))))
 
--- the clusters of each group keep apart
+-- if the clusters of each group keep apart, the pattern is at rest with these clusters
 pub returns-clause-rest : goal.returns-clause-rest
 returns-clause-rest c =
     rw c.then_some.ensures (some_if c.in_ok-apart.apart c.in_ok-clusters.clusters

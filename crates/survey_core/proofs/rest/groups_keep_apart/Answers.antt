@@ -11,7 +11,7 @@ use Rattle.survey_core.proofs.lemmas.rest.GroupLemmas.{alone_keeps, below_more, 
 use Rattle.survey_core.proofs.lemmas.rest.RunLemmas.{clusters_are}
 use Rattle.survey_core.proofs.rest.groups_keep_apart.Goals as goal
 
--- fewer than two clusters keep apart
+-- the case of a group of fewer than two clusters, which keep apart
 pub loop-number-preserved-then-count_of-lt2 : goal.loop-number-preserved-then-count_of-lt2
 loop-number-preserved-then-count_of-lt2 c =
     let few = members_few c.loop-number.number c.args.groups.now c.args.clusters.now in
@@ -49,7 +49,7 @@ keep_apart-requires-clause-off c =
     (c.as_mut_slice.ensures.value ∙ c.in_ok-members.ensures)))
     (members_off c.loop-number.number c.args.groups.now c.args.clusters.now c.requires.off)
 
--- a group that doesn't keep apart
+-- the case of a group whose clusters don't keep apart
 pub returns-then-not-keeps : goal.returns-then-not-keeps
 returns-then-not-keeps c = (
   λ e. absurd (false≢true e),

@@ -56,7 +56,8 @@ step_apart-requires-clause-off c =
     subst ShareNoCell (sym (latest_is c.args.rule.now c.loop.counter clusters c.loop.clusters c.loop.invariant.alone))
     (c.loop.invariant.apart c.loop.counter (omega arith)).disjoint
 
--- what the next generation says about the clusters as they were at first
+-- the clusters of the start keep apart in the next generation if and only if their latest generations, run anew, keep
+-- apart in generation 1
 later : (c : After-step_apart) → AreOneLater c.args.rule.now (union_of (clusters_of c.args.clusters.now)) (clusters_of c.args.clusters.now)
     (latest_of c.loop.clusters) c.loop.counter
 later c =
@@ -65,7 +66,7 @@ later c =
     (in_order-set_of (flat_map (λ (part : List Cell). part) clusters))
     (latest_is c.args.rule.now c.loop.counter clusters c.loop.clusters c.loop.invariant.alone) (c.loop.invariant.apart c.loop.counter (omega arith))
 
--- a generation in which the clusters don't keep apart
+-- the case of a generation in which the clusters don't keep apart
 pub returns-then-not-keeps : goal.returns-then-not-keeps
 returns-then-not-keeps c =
     let low : c.loop.counter + 1 ≤ c.args.horizon = omega (arith, c.loop-test.true) in (
@@ -74,7 +75,7 @@ returns-then-not-keeps c =
           ∙ c.in_ok-keeps.ensures.apart.1 ((later (goal.at.returns-then-not-keeps c).After-step_apart).back (apart (c.loop.counter + 1) low)))),
     )
 
--- each cluster is itself again, so all later generations have been tested
+-- the case in which each cluster is itself again, so that later generations needn't be tested
 pub returns-then-have_recurred : goal.returns-then-have_recurred
 returns-then-have_recurred c =
     let rule = c.args.rule.now in
@@ -102,6 +103,6 @@ loop-preserved c =
           ((later (goal.at.loop-preserved c).After-step_apart).there (c.in_ok-keeps.ensures.apart.0 c.if-not-keeps.false));
     }
 
--- no generation is left
+-- the case in which all generations up to the horizon have been tested
 pub returns : goal.returns
 returns c = (λ e g low. c.loop.invariant.apart g (omega arith), λ apart. refl)

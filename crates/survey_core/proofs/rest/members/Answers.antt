@@ -18,14 +18,14 @@ next-requires c =
     (within_more survey_reach 999999 (get_or c.args.clusters.now c.loop-place.place c.index-clusters-place.result) (omega arith)
     (c.requires.near c.loop-place.place c.index-clusters-place.result c.loop-place-test.true))
 
--- the next cluster is in another group
+-- the case of a cluster in another group
 pub loop-place-preserved-then-groups-place : goal.loop-place-preserved-then-groups-place
 loop-place-preserved-then-groups-place c =
     c.loop-place.invariant
     ∙ ap (map (alone_at c.args.rule.now 0))
     (sym (members_other c.args.number c.args.groups.now c.args.clusters.now c.loop-place.place c.loop-place-test.true c.requires.count c.if-groups-place.true))
 
--- the next cluster is in the group
+-- the case of a cluster in the group
 pub loop-place-preserved : goal.loop-place-preserved
 loop-place-preserved c =
     let rule = c.args.rule.now in

@@ -16,7 +16,7 @@ use Rattle.survey_core.proofs.lemmas.rest.RestLemmas.{alone_in_order, union_near
 use Rattle.survey_core.proofs.rest.step_apart.Goals.{In-Some, In_default, In_ok-step_each-2}
 use Rattle.survey_core.proofs.rest.step_apart.Goals as goal
 
--- the clusters lie apart
+-- the case of clusters that lie apart
 pub returns-then-lie_apart-clause-apart : goal.returns-then-lie_apart-clause-apart
 returns-then-lie_apart-clause-apart c = (
   λ _. apart_keeps c.args.rule.now (latest_of c.args.clusters.now) c.requires.order (c.lie_apart.ensures c.if-lie_apart.true),
@@ -27,7 +27,7 @@ pub joined-requires-clause-near : goal.joined-requires-clause-near
 joined-requires-clause-near c =
     All-map (λ part. lies_within 999999 part ≡ true) (λ (alone : Alone). alone.latest) c.args.clusters.now c.requires.near
 
--- the clusters share no cell yet
+-- before the step the clusters share no cell, so the first call of `joined` doesn't return `None`
 never : (c : In_default) → ⊥
 never c =
     let latest = latest_of c.args.clusters.now in
@@ -63,7 +63,7 @@ parts c =
     parts_later c.args.rule.now c.args.clusters.now c.step_each-2.new.clusters c.in_ok-later.later c.in_ok-step_each-2.ensures
     (c.in_ok-later.ensures ∙ ap (next c.args.rule.now) (rw c.in-Some.is at c.in_ok-whole.ensures.union))
 
--- two of the clusters share a cell in the next generation
+-- the case of two clusters that share a cell in the next generation
 pub returns-in_default-2-clause-apart : goal.returns-in_default-2-clause-apart
 returns-in_default-2-clause-apart c =
     let are = parts (goal.at.returns-in_default-2-clause-apart c).In_ok-step_each-2 in

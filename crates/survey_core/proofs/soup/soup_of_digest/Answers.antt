@@ -23,7 +23,7 @@ loop-place-preserved c =
     (λ dead. c.from-count.ensures ∙ ap bool_byte dead) c.square_cell.ensures live in
     (length-set c.loop-place.cells count c.square_cell.result ∙ long, omega (arith, few, more.0), more.1)
 
--- all places are passed
+-- after the loop, the counted cells are the live cells at all 256 places
 all : (c : After-loop-place) → take c.loop-place.count c.loop-place.cells ≡ live_in_square c.args.digest.now 256
 all c = c.loop-place.invariant.2 ∙ ap (live_in_square c.args.digest.now) (omega arith)
 

@@ -26,7 +26,7 @@ returns-then-known_restless-parity-clause-moves c = elim c.then-known_restless-p
 pub clusters_at_rest-requires : goal.clusters_at_rest-requires
 clusters_at_rest-requires c = ap (lies_within survey_reach) c.in_ok-latest.ensures ∙ c.requires.near
 
--- the pattern isn't at rest
+-- the case of a pattern that isn't at rest
 pub returns-in_default-clause-moves : goal.returns-in_default-clause-moves
 returns-in_default-clause-moves c =
     subst (λ (S : List Cell). ¬ IsAtRest c.args.rule.now c.args.profile.now S) c.in_ok-latest.ensures (rw c.in_default.is at c.in_ok-found.ensures.moves)
@@ -41,7 +41,7 @@ returns-in_default-clause-known_restless c = elim c.if-is_still.branch [
   | else-is_still w ↦ subst (AreKnownRestless c.args.rule.now c.args.profile.now (kept c.args.rule.now c.args.evolution.now) c.args.checkpoint) (sym w.known_restless-is) c.requires.known_restless
 ]
 
--- the pattern is at rest, with these clusters
+-- the case of a pattern that is at rest with these clusters
 pub of_clusters-requires-clause-some : goal.of_clusters-requires-clause-some
 of_clusters-requires-clause-some c =
     let rest : RestsAs c.args.rule.now c.args.profile.now c.in_ok-latest.latest c.in-Some.clusters.items = rw c.in-Some.is at c.in_ok-found.ensures.rest in

@@ -24,7 +24,7 @@ loop-alone-preserved c =
     ∙ flat_map_more (λ (cells : List Cell). cells) [] (latest_of (take n clusters)) (get_or clusters n item).latest
     ∙ ap (flat_map (λ (cells : List Cell). cells)) (sym (map_more (λ (alone : Alone). alone.latest) clusters n item c.loop-alone-test.true))
 
--- the cells of all clusters
+-- after the loop, the gathered cells are the cells of all clusters
 gathered : (clusters : List Alone) (k : ℕ) (cells : List Cell) → cells ≡ joined (latest_of (take k clusters)) → length clusters ≤ k
     → cells ≡ joined (latest_of clusters)
 gathered clusters k cells are end = are ∙ ap (λ (all : List Alone). joined (latest_of all)) (take_all k clusters end)
@@ -35,7 +35,7 @@ pattern_of-requires c =
     ∙ gathered c.args.clusters.now c.loop-alone.alone-index c.loop-alone.cells.items c.loop-alone.invariant c.loop-alone-test.false)
     ∙ within_all 999999 (latest_of c.args.clusters.now) c.requires.near
 
--- two of the clusters share a cell
+-- the result is `None` only if two of the clusters share a cell, so that they aren't a partition
 pub returns-clause-shared : goal.returns-clause-shared
 returns-clause-shared c =
     let parts = latest_of c.args.clusters.now in

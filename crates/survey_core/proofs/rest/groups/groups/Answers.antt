@@ -4,7 +4,6 @@ use Rattle.survey_core.specs.rest.Grouping.{AreNumbers, Coarser}
 use Rattle.survey_core.proofs.lemmas.rest.GroupingLemmas.{numbered, numbered_pairs, pairs_more}
 use Rattle.survey_core.proofs.rest.groups.groups.Goals as goal
 
--- the first n elements are the n that were put in front
 all_new : (n : ℕ) (xs ws : List ℕ) → length ws ≡ n → take n (ws ++ xs) ≡ ws
 all_new n xs ws e = take-append-le n ws xs (omega (arith, e)) ∙ take_all n ws (omega (arith, e))
 

@@ -3,7 +3,7 @@ use Rattle.survey_core.specs.rest.Grouping.{Coarser}
 use Rattle.survey_core.proofs.lemmas.rest.GroupingLemmas.{places_more, renamed_coarser, renamed_numbers, renamed_pair, stay_default}
 use Rattle.survey_core.proofs.rest.groups.join.Goals as goal
 
--- the two envelopes stay apart
+-- the case of two envelopes that stay apart
 pub loop-other-preserved-then-apart : goal.loop-other-preserved-then-apart
 loop-other-preserved-then-apart c =
     let before = c.loop-other.invariant in
@@ -17,7 +17,7 @@ loop-other-preserved-then-apart c =
           let other : c.loop-other.other < c.args.place = c.loop-other-test.true in omega arith) (c.stay_apart-apart.ensures c.if-apart.true));
     }
 
--- the two envelopes may meet, and are then in one group
+-- the case of two envelopes that may meet, so that their groups become one
 pub loop-other-preserved : goal.loop-other-preserved
 loop-other-preserved c =
     let before = c.loop-other.invariant in

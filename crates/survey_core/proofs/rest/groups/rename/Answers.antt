@@ -2,7 +2,7 @@ use Rattle.std.proofs.Common.{◌<◌, ℕ, arith, get_or, length, subst, sym}
 use Rattle.survey_core.proofs.lemmas.rest.GroupingLemmas.{left_after, renamed_from, renamed_more, renamed_other}
 use Rattle.survey_core.proofs.rest.groups.rename.Goals as goal
 
--- the next entry is in another group
+-- the case of an entry of another group than `from`
 pub loop-group-preserved-then-group-from : goal.loop-group-preserved-then-group-from
 loop-group-preserved-then-group-from c =
     let now = c.loop-group.groups in
@@ -15,7 +15,7 @@ loop-group-preserved-then-group-from c =
       left = left_after c.loop-group.group-index c.args.groups.now now number c.loop-group.invariant.left;
     }
 
--- the next entry is in the group
+-- the case of an entry of the group `from`
 pub loop-group-preserved : goal.loop-group-preserved
 loop-group-preserved c =
     let now = c.loop-group.groups in

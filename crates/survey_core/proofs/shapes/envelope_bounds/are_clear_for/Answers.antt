@@ -4,7 +4,7 @@ use Rattle.survey_core.specs.shapes.Envelopes.{gap_stays, is_gap, times}
 use Rattle.survey_core.proofs.lemmas.shapes.EnvelopeLemmas.{clear_from_here, clear_more, offset_small}
 use Rattle.survey_core.proofs.shapes.envelope_bounds.are_clear_for.Goals as goal
 
--- the boxes part
+-- the case of boxes with a gap that no later cycle narrows
 pub returns-then-stay : goal.returns-then-stay
 returns-then-stay c = λ e.
     clear_from_here c.args.one.now c.args.other.now c.loop.counter c.args.cycles c.loop.offset.x c.loop.offset.y c.step-step.result.x c.step-step.result.y
@@ -31,7 +31,7 @@ pub moved-offset-requires-clause-down : goal.moved-offset-requires-clause-down
 moved-offset-requires-clause-down c =
     offset_small c.loop.counter c.args.cycles c.step-step.result.y c.loop.offset.y c.loop-test.true c.requires c.step-step.ensures.down c.loop.invariant.y
 
--- one more cycle
+-- an iteration tests one more cycle
 pub loop-preserved : goal.loop-preserved
 loop-preserved c = record {
   x = c.moved-offset.ensures.x ∙ ap (λ (o : ℤ). o +ℤ c.step-step.result.x) c.loop.invariant.x

@@ -5,7 +5,7 @@ use Rattle.survey_core.specs.shapes.Objects.{IsOneMore, is_code}
 use Rattle.survey_core.proofs.lemmas.shapes.ObjectLemmas.{first_counted, once_more}
 use Rattle.survey_core.proofs.shapes.objects.count_one.Goals as goal
 
--- the code is already counted
+-- the case of a code that is already counted
 pub returns-in-Some : goal.returns-in-Some
 returns-in-Some c =
     let before = c.in-Some.count.now in
@@ -13,7 +13,7 @@ returns-in-Some c =
     once_more c.args.counts.now.entries (c.get_mut.follows.lender (before + 1)).entries c.args.code.now before (sym c.in-Some.ensures.value)
     (written.3 (search rules)).0 written.0
 
--- this is the first object with the code
+-- the case of the first object with the code
 pub returns : goal.returns
 returns c =
     let left = c.get_mut.follows.lender-at-none in

@@ -8,7 +8,7 @@ use Rattle.survey_core.proofs.shapes.objects.joint_multiple.Goals as goal
 pub returns-then-from-period-eq0-clause-least : goal.returns-then-from-period-eq0-clause-least
 returns-then-from-period-eq0-clause-least c = first_common c.args.one c.args.period c.loop-below.below c.loop-below.invariant
 
--- one more multiple that the period doesn't divide
+-- an iteration finds one more multiple of `one` that the period doesn't divide
 pub loop-below-preserved : goal.loop-below-preserved
 loop-below-preserved c = λ j low divides. elim (cases_lt j c.loop-below.below) [
   | inl before ↦ c.loop-below.invariant j before divides

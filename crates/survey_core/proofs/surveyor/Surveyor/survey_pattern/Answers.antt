@@ -36,7 +36,7 @@ examine-requires-clause-near c =
 pub examine-requires-clause-known_restless : goal.examine-requires-clause-known_restless
 examine-requires-clause-known_restless c = c.loop-evolution.invariant.known_restless
 
--- at rest for the first time
+-- the case of a pattern that is at rest for the first time
 pub returns-in-Some : goal.returns-in-Some
 returns-in-Some c = record {
   few = rw c.in-Some.is at c.in_ok-found.ensures.few;
@@ -47,7 +47,7 @@ returns-in-Some c = record {
 pub overflow_sub-limit : goal.overflow_sub-limit
 overflow_sub-limit c = subst (λ (n : ℕ). c.loop-evolution.checkpoint ≤ n) (sym c.limit-limit.ensures.limit) c.loop-evolution.invariant.here.within
 
--- no checkpoint is left
+-- the case of a pattern that isn't at rest at the last checkpoint
 pub returns-then-limit-checkpoint : goal.returns-then-limit-checkpoint
 returns-then-limit-checkpoint c = record {
   few = omega arith;
@@ -59,7 +59,7 @@ returns-then-limit-checkpoint c = record {
       c.loop-evolution.invariant.before;
 }
 
--- the pattern isn't at rest yet
+-- the case of a pattern that isn't at rest yet, with another checkpoint within the limit
 pub go_on-requires-clause-kept : goal.go_on-requires-clause-kept
 go_on-requires-clause-kept c = c.loop-evolution.invariant.by_rule
 

@@ -12,7 +12,7 @@ use Rattle.survey_core.proofs.lemmas.shapes.MemoLemmas.{none_of_part}
 use Rattle.survey_core.proofs.shapes.memo.Memo.envelopes.Goals.{After-split_at}
 use Rattle.survey_core.proofs.shapes.memo.Memo.envelopes.Goals as goal
 
--- what holds for all patterns holds for those that aren't remembered
+-- a property of all patterns is a property of those from the first one that isn't remembered on
 of_others : (c : After-split_at) (P : List Cell → Type 0) → All P c.args.patterns.now → All P c.split_at.result.1.now
 of_others c P all = subst (All P) (sym c.split_at.ensures.back) (All-drop P _ c.args.patterns.now all)
 
@@ -33,7 +33,7 @@ returns-then-any_surely_changes-clause-never c = λ all.
     c.if-any_surely_changes.ensures refl
     (of_others (goal.at.returns-then-any_surely_changes-clause-never c).After-split_at (RecursWithin c.args.rule.now c.args.limit) all)
 
--- the envelopes of the remembered patterns, and then those of the others
+-- the known envelopes, followed by the envelopes of the other patterns, are the envelopes of all patterns
 pub returns-clause-envelopes : goal.returns-clause-envelopes
 returns-clause-envelopes c =
     let count : c.len.result ≡ length c.in_ok-known.known.items = search rules in

@@ -14,14 +14,14 @@ pub loop-pattern-init : goal.loop-pattern-init
 loop-pattern-init c = λ first are.
     subst (λ (parts : List (List Cell)). AreEnvelopes c.args.rule.now c.args.limit parts c.args.known.items) (sym (append-nil first)) are
 
--- a pattern that doesn't recur
+-- the case of a pattern that doesn't recur
 pub returns-in_default-clause-never : goal.returns-in_default-clause-never
 returns-in_default-clause-never c = λ all.
     let never : ¬ RecursWithin c.args.rule.now c.args.limit c.pattern-item.result = rw c.in_default.is at c.in_ok-envelope.ensures.never in
     never (subst (RecursWithin c.args.rule.now c.args.limit) (sym c.pattern-item.is)
     (all c.loop-pattern.pattern-index c.pattern-item.result c.loop-pattern-test.true))
 
--- one more envelope
+-- an iteration adds one more envelope
 pub loop-pattern-preserved : goal.loop-pattern-preserved
 loop-pattern-preserved c = λ first are.
     let found : IsEnvelope c.args.rule.now c.args.limit c.pattern-item.result c.in-Some.envelope = rw c.in-Some.is at c.in_ok-envelope.ensures.envelope in

@@ -6,7 +6,7 @@ use Rattle.survey_core.specs.shapes.Envelopes.{IsEnvelope}
 use Rattle.survey_core.proofs.lemmas.shapes.MemoLemmas.{moved_envelope, envelope_known}
 use Rattle.survey_core.proofs.shapes.memo.Memo.recalled_envelope.Goals as goal
 
--- a side of the moved box, if the numbers fit in 32 bits
+-- a side of the moved box is the side of the box plus the displacement, if these three numbers fit in 32 bits
 moved_to : (at by to : ℤ) → FitsSigned w32 at → FitsSigned w32 by → FitsSigned w32 to → to ≡ to_z w32 (of_z w32 at) +ℤ to_z w32 (of_z w32 by)
     → to_z w32 (of_z w32 to) ≡ at +ℤ by
 moved_to at by to at_fits by_fits to_fits is =

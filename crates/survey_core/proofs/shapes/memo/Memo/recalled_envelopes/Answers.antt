@@ -8,13 +8,13 @@ loop-pattern-init c = record {
   each = λ i d e low. absurd (omega arith);
 }
 
--- one more envelope
+-- an iteration adds one more envelope
 pub loop-pattern-preserved : goal.loop-pattern-preserved
 loop-pattern-preserved c =
     envelopes_more c.args.rule.now c.args.limit c.args.patterns.now c.loop-pattern.pattern-index c.pattern-item.result c.loop-pattern.envelopes.items
     c.in-Some.envelope c.push.new.self.items c.loop-pattern-test.true c.pattern-item.is c.loop-pattern.invariant c.in-Some.ensures c.in_ok-push.ensures.items
 
--- a pattern that isn't remembered
+-- the case of a pattern that isn't remembered
 pub returns-in_default-clause-few : goal.returns-in_default-clause-few
 returns-in_default-clause-few c =
     few_envelopes c.args.rule.now c.args.limit c.args.patterns.now c.loop-pattern.pattern-index c.loop-pattern.envelopes.items

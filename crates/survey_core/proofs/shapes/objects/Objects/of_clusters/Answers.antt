@@ -27,11 +27,11 @@ count_cluster-requires-clause-near c =
     subst (λ (cluster : List Cell). lies_within survey_reach cluster ≡ true) (sym c.cluster-item.is)
     (c.requires.near c.loop-cluster.cluster-index c.cluster-item.result c.loop-cluster-test.true)
 
--- no code has more objects than there are clusters
+-- fewer objects than there are clusters have been counted so far
 pub count_cluster-requires-clause-few : goal.count_cluster-requires-clause-few
 count_cluster-requires-clause-few c = omega (arith, c.loop-cluster.invariant.5, c.loop-cluster-test.true)
 
--- one more cluster, with its code
+-- an iteration counts one more cluster under its code
 pub loop-cluster-preserved : goal.loop-cluster-preserved
 loop-cluster-preserved c =
     let codes : List (List ℕ) = c.loop-cluster.invariant.0 in

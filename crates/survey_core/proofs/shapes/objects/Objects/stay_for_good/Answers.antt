@@ -5,7 +5,7 @@ use Rattle.code_core.specs.declared.apgcode.Kind.TheVariants.{Ship}
 use Rattle.survey_core.specs.shapes.Objects.{IsCommonMultiple, IsLeastCommonMultiple, StayForGood}
 use Rattle.survey_core.proofs.shapes.objects.Objects.stay_for_good.Goals as goal
 
--- there is a small common multiple if and only if the least one is small
+-- if none of the objects is a spaceship, `multiple` is `Some` if and only if they stay for good
 found : (objects : List (List ℕ × ℕ)) (horizon : ℕ) (multiple : Option ℕ) → All (λ object. kind_in object.0 ≢ Ship) objects
     → IfSome multiple (IsLeastCommonMultiple objects) → IfSome multiple (λ m. m ≤ horizon)
     → IfNone multiple ((m : ℕ) → IsCommonMultiple objects m → horizon < m)
