@@ -1,6 +1,7 @@
 # shellcheck shell=bash
-# Functions for the scripts that load this file by its full path: where the program is, by what and for what it is built, and the stamp
-# beside it, which says what it was built from. bin/rebuild-due.bash compares the stamp with what is there now.
+# Variables and functions for the scripts that load this file by its full path: the path of the program, the toolchain's
+# version, the level of this machine's processor, and the stamp beside the program, which says what the program was
+# built from. bin/rebuild-due.bash compares the stamp with the sources and the toolchain that are there now.
 
 top=${BASH_SOURCE[0]%/*/*}
 program=crates/census/out/census
@@ -18,8 +19,8 @@ get_version() {
     if [[ -r $version ]]; then version=$(<"$version"); else version=$(rt version </dev/null 2>/dev/null); fi
 }
 
-# Sets `cpu` to the level of processors that this machine's belongs to: x86-64-v3, for which the program is about
-# twice as fast, or default, which is the lowest one for which the toolchain builds: x86-64-v2, which has SSE4.2.
+# Sets `cpu` to the level of this machine's processor: `x86-64-v3`, for which the program is faster, or `default`. That
+# stands for the lowest level for which the toolchain builds, x86-64-v2, which has SSE4.2.
 get_cpu() {
     cpu=default
     local flags feature
@@ -33,10 +34,10 @@ get_cpu() {
     done 2>/dev/null </proc/cpuinfo
 }
 
-# Writes the stamp of a program for these processors, unless something else is there now than the basis that is given,
-# which was there before the build.
+# Writes the stamp of the program. $1 is the basis from before the build, and $2 the level of processors that the
+# program was built for. Fails if the basis has changed since then.
 write_stamp() {
     [[ -x $top/$program && $(basis) == "$1" ]] || return
-    # A stamp that is written by halves must not be read, so it gets its name last.
+    # The stamp gets its name last, so that an incomplete stamp is never read.
     { echo "${1%%$'\n'*}" && echo "$2" && digests "$program"; } >"$stamp.next" && mv -fT -- "$stamp.next" "$stamp"
 }

@@ -1,10 +1,11 @@
 # shellcheck shell=bash
-# For the scripts that need the prover: calls the package `builder/`. They load bin/built.bash first.
+# Calls the package `builder/`, for the scripts that need the prover. They load bin/built.bash first.
 
 no_python="the program isn't built from the sources that are here, and can't be: there is no command python3 on the PATH"
 
-# An interrupted build leaves nothing that counts as built, since the stamp is written last. The package prints a line and ends with
-# status 70, unless the signal comes before it can.
+# Ends the package and this script after a signal. An interrupted build leaves nothing that counts as built, since the
+# stamp is written last. The package prints a line and ends with status 70, unless the signal comes so early that this
+# script has to print the line.
 interrupted() {
     trap '' INT TERM HUP
     {
@@ -15,8 +16,9 @@ interrupted() {
     exit 70
 }
 
-# Calls the package with arguments, and returns its status, which is 70 if nothing was built. The package gets its own process group
-# (set -m), so that Ctrl-C reaches only this script, and the proofs go on and are kept if this script is killed.
+# Calls the package with arguments, and returns its status, which is 70 if nothing was built. The package gets its own
+# process group (set -m), so that Ctrl-C reaches only this script. If this script is killed, the proofs go on and are
+# kept.
 build() {
     local status
     if ! type -P python3 >/dev/null; then

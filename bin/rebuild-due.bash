@@ -2,13 +2,15 @@
 # Decides whether a rebuild is due. bin/built.bash loads this file.
 #
 # The stamp beside the program has the toolchain's version, then the processors that the program was built for, and then a
-# line of `b2sum` for each source and for the program. So contents and names count, and times don't: no matter when a file
-# was changed, copied or touched.
+# line of `b2sum` for each source and for the program. So contents and names count. The time at which a file was
+# changed, copied or touched doesn't.
 #
-# Each call of the program waits for `is_fresh`, so what runs there starts few processes.
+# Each call of bin/census waits for `is_fresh`, so these functions start few processes.
 
-# Prints the digests of the sources, and of the program if it is named. Mutants, tests' inputs, crates of tests and the laws aren't
-# built into it, and what is built is in a folder `out` of each crate. Below `src/` and `specs/` a folder may have any name, and be a link.
+# Prints the digests of the sources, and of the program if it is an argument. Crates of tests and the crate of laws are
+# left out, since they aren't built into the program. So are mutants and inputs of tests, which have other suffixes, and
+# the folder `out` of each crate, which has built files. Below `src/` and `specs/`, a folder may have any name, and may
+# be a link.
 digests() (
     set -o pipefail
     cd -- "$top" && find -L crates.txt crates "$@" -type d -regex 'crates/\([^/]*_tests\|laws\|[^/]*/out\)' -prune -o \
@@ -22,9 +24,9 @@ basis() {
     get_version && echo "$version" && digests
 }
 
-# Whether the program is the one that was built from these sources by this toolchain, for processors as this one or less. Where
-# there is no toolchain, its version isn't compared: nothing else could be built, and a program that was built from the
-# sources is right.
+# Checks whether the program was built from these sources by this toolchain, for this machine's level of processors or
+# the lowest. If there is no toolchain, its version isn't compared: nothing else could be built, and a program that was
+# built from the sources is right.
 is_fresh() {
     [[ -x $top/$program && -f $stamp && -r $stamp ]] || return
     local version cpu built_by='' built_for='' built_from=''

@@ -20,7 +20,7 @@ OF_CRATE = re.compile(r"  crates/([^/]*)")
 
 
 class Built:
-    """Calls the functions of bin/built.bash."""
+    """The functions of bin/built.bash, which are called in a shell."""
 
     def __init__(self, places: Places) -> None:
         self.places = places
@@ -49,7 +49,9 @@ class Built:
         return self._called("is_fresh") is not None
 
     def write_stamp(self, basis: str, cpu: str) -> bool:
-        """Writes the stamp of the program, unless the basis has changed since."""
+        """Writes the stamp of the program, unless the basis has changed since the given one.
+        Returns whether it was written.
+        """
         return self._called('write_stamp "$(cat)" "$1"', cpu, given=basis) is not None
 
 

@@ -56,7 +56,7 @@ class Build:
 
 
 class Work:
-    """Proves the crates of one build."""
+    """The proofs of one build."""
 
     def __init__(self, build: Build, cpu: str, log: Log) -> None:
         self.build, self.cpu, self.log = build, cpu, log

@@ -38,7 +38,7 @@ class Crates:
             self.order = list(TopologicalSorter(self.graph).static_order())
         except CycleError as error:
             raise cannot_build(f"crates.txt has a circle: {', '.join(error.args[1])}") from None
-        # Each crate with all crates below it, including itself.
+        # For each crate, all crates below it, including the crate itself.
         self.below: dict[str, frozenset[str]] = {}
         for name in self.order:
             self.below[name] = frozenset({name}).union(
@@ -52,7 +52,7 @@ class Crates:
                 self._add(used)
 
     def above(self, name: str) -> list[str]:
-        """Returns the crates above this one, including itself."""
+        """Returns the crates above a crate, including the crate itself."""
         return [other for other in self.order if name in self.below[other]]
 
     def ways(self, weights: Mapping[str, int]) -> dict[str, int]:

@@ -2,7 +2,7 @@
 level of processors.
 
 Beside each of them are NAME.verdict, which has the prover's last line, and NAME.from, which has the
-part of the basis from which it was proved. NAME.from is written last, so a crate that was
+part of the basis from which it was proved. NAME.from is written last, so a crate whose proof was
 interrupted doesn't count as proved.
 """
 
@@ -74,7 +74,7 @@ class Kept:
 
     def forget(self, crate: str, cpu: str) -> None:
         """Forgets a crate and all crates above it, since they were proved with its earlier state.
-        The programs for other levels are kept if the crate is the program.
+        If the crate is the program, the programs for other levels stay kept.
         """
         if crate == PROGRAM:
             self.origin(crate, cpu).unlink(missing_ok=True)

@@ -8,8 +8,8 @@ from pathlib import Path
 # The crate of the program. All others are libraries.
 PROGRAM = "census"
 # The levels of processors for which the program is built, as named by `rattle --cpu`, each with the
-# suffix of the program's name. The first is the lowest level for which the toolchain builds. On the
-# other, the program is about a fifth faster.
+# suffix of the program's name. The first is the lowest level for which the toolchain builds. On
+# processors of the other level, the program that is built for them is faster.
 LEAST = "default"
 LEVELS = {LEAST: "v2", "x86-64-v3": "v3"}
 

@@ -100,7 +100,7 @@ class Commands:
 
 @dataclass(frozen=True)
 class Prover:
-    """Proves a single crate."""
+    """The prover and the linker, which are called for one crate at a time."""
 
     places: Places
     kit: Path
@@ -139,8 +139,8 @@ class Prover:
         return b"".join(line for line in lines if line.startswith(VERDICT)).decode().rstrip("\n")
 
     def _words(self, crate: str, copies: int) -> list[str]:
-        """Returns the prover's arguments for a crate: its root, the libraries that it names, and
-        where to find the libraries that these use.
+        """Returns the prover's arguments for a crate: its root file, the libraries that it names,
+        and where to find the libraries that these use.
         """
         kit, made = self.kit, self.kept.made
         words = [

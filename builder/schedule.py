@@ -23,7 +23,7 @@ from builder.crates import Crates
 MOST_COPIES = 8
 # The memory that each copy needs.
 COPY_KILOBYTES = 1_500_000
-# A crate gets at most one copy for each of these units of its weight.
+# The weight per copy: a crate of twice this weight gets at most two copies.
 COPY_WEIGHT = 50
 # The highest niceness.
 MOST_YIELDING = 19
@@ -86,7 +86,7 @@ class Work(Protocol):
 
 
 class Schedule:
-    """Decides when each crate is proved."""
+    """The schedule of a build, which decides when each crate is proved."""
 
     def __init__(
         self, crates: Crates, weights: Mapping[str, int], copies: Callable[[], int]
@@ -151,7 +151,7 @@ class Schedule:
     def _after_kept(
         self, sorter: TopologicalSorter[str], work: Work, proved: set[str]
     ) -> list[str]:
-        """Skips the crates that are kept, and returns those that can be proved next. A crate
+        """Skips the crates that are kept, and returns the crates that can be proved next. A crate
         doesn't count as kept if a crate that it uses has been proved in this run.
         """
         ready: list[str] = []

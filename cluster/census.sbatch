@@ -7,7 +7,7 @@
 # What a task of Slurm's array job does: the part with the task's number. cluster/with-slurm and
 # cluster/take-with-slurm submit it.
 #
-# usage: cluster/census.sbatch PART FOLDER TOTAL SIZE [further words, as --seed x]
+# usage: cluster/census.sbatch PART FOLDER TOTAL SIZE [further words, such as --seed x]
 #
 # PART is the program of a part: Slurm runs a copy of this file, which doesn't know where it came from.
 set -euo pipefail

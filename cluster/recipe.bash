@@ -1,43 +1,44 @@
 # shellcheck shell=bash
-# What the recipes share: the words that they take, and the file `job` in a folder of lines or hauls, which says what census
-# these are of.
+# What the recipes share: how they read their arguments, and the file `job` in a folder of lines or hauls, which says of
+# what census these are.
 #
-# A recipe sets `here` to the folder that it stands in, loads this file, and then calls `read_folder`, `read_words` and
-# `keep_job`, and for Slurm `read_array` between them.
+# A recipe sets `here` to the folder that it is in, loads this file, and then calls `read_folder`, `read_words` and
+# `keep_job`. A recipe for Slurm calls `read_array` before `keep_job`.
 
 # The programs of this repository, or of the installation that the recipes belong to.
 programs=$here/../bin
 [[ -d $programs ]] || programs=$here/../../../bin
 census=${CENSUS:-$programs/census}
-# A recipe's further words are tried by this call, which runs no soup. The recipes that take hauls set another one.
+# The further arguments of a recipe are tried in this call, which runs no soup. The recipes that take hauls set another
+# call.
 tried=(work --count 0 --worker 1)
 
-# One line that says why nothing is done.
+# Prints one line that says why nothing is done, and ends the script.
 refuse() {
     printf '%s: %s\n' "${0##*/}" "$1" >&2
     exit 2
 }
 
-# The line of the recipe's own head that says its words.
+# Prints the line of usage at the head of the recipe, and ends the script.
 usage() {
     sed -n 's/^# usage: /usage: /p' "$0" >&2
     exit 2
 }
 
-# Sets `folder` to a name for the folder that no program takes for an option or for an assignment.
+# Sets `folder` to a path of the folder that no program can mistake for an option or for an assignment.
 read_folder() {
     [[ $1 ]] || refuse "FOLDER is empty"
     folder=$1
     [[ $folder == /* ]] || folder=./$folder
 }
 
-# Whether a word is a whole number from 1 on, of at most thirteen digits.
+# Checks whether a word is a whole number from 1 on, of at most thirteen digits.
 is_count() {
     [[ $1 =~ ^[1-9][0-9]{0,12}$ ]]
 }
 
-# Sets `total`, `size` and `parts` from the words TOTAL and SIZE, and looks at those that go on to the program. Nothing is
-# written before the program has understood them.
+# Sets `total`, `size` and `parts` from the arguments TOTAL and SIZE, and checks the further arguments, which the
+# program gets. Nothing is written before the program has accepted them.
 read_words() {
     total=$1 size=$2
     shift 2
@@ -66,15 +67,16 @@ read_array() {
         refuse "an array job has at most $most tasks here, and these are $parts parts; take a greater SIZE"
 }
 
-# Writes down what census the lines in the folder are of, or refuses what another job says: other words, another SIZE, or fewer
-# soups than before. More soups than before go on.
+# Writes the file `job`, which says of what census the lines in the folder are. If the file is there, refuses other
+# arguments, another SIZE, or fewer soups than it says. If there are more soups than it says, the census grows.
 #
-# The file has a line `total N`, then `size N`, and then each further word as a shell would quote it. It is made under a name
-# of its own and then linked, so that of many parts that begin at once one makes it, and none reads half of it.
+# The file has a line `total N`, then `size N`, and then a line `word W` for each further argument, quoted for a shell.
+# It is made under another name and then linked, so that one of many parts that begin at once makes it, and none reads
+# an incomplete file.
 keep_job() {
     local lines now new known
     mkdir -p -- "$folder" || exit
-    # Lines are looked for before the job: who makes a job does so before the first line.
+    # Looks for lines before it looks for `job`, since a call makes `job` before its first line.
     lines=$(find "$folder" -maxdepth 1 \( -name '*.lines' -o -name '*.part' -o -name '*.haul' \) -print -quit)
     now=$(printf 'size %d\n' "$size" && if [[ $# != 0 ]]; then printf 'word %q\n' "$@"; fi)
     new=$folder/job.$(uname -n).$$

@@ -4,8 +4,8 @@ from __future__ import annotations
 
 
 def pluralize(number: int, one: str, more: str = "") -> str:
-    """Returns the form of a noun for a number. `more` is the plural if it isn't the noun with an
-    `s`."""
+    """Returns the form of a noun for a number. `one` is the singular. `more` is the plural if it
+    isn't the singular with an `s`."""
     return one if number == 1 else more or one + "s"
 
 

@@ -71,7 +71,8 @@ def version_of(top: Path) -> str:
 
 def git(top: Path, *words: str) -> bytes:
     """Returns what git prints about a checkout, without changing the checkout."""
-    # A git hook that calls this has another checkout in its environment.
+    # If a git hook calls this, the environment names another checkout, so git's variables are left
+    # out.
     environment = {name: value for name, value in os.environ.items() if not name.startswith("GIT_")}
     environment |= {"GIT_OPTIONAL_LOCKS": "0", "LC_ALL": "C"}
     try:

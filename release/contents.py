@@ -87,7 +87,7 @@ def name_of(checkout: Checkout) -> str:
 
 
 def package_tree(checkout: Checkout, programs: Path) -> Tree:
-    """Returns the contents of the package: the same files below /usr, in the form that Debian
+    """Returns the contents of the package: the installed files below /usr, in the form that Debian
     requires, and the package's description.
     """
     own = checkout.top / "release"

@@ -14,8 +14,8 @@ PACKER = "dpkg-deb"
 
 
 def environment(date: int = 0) -> dict[str, str]:
-    """Returns the only environment variables that these programs get, so that nothing else in the
-    caller's environment changes what they make.
+    """Returns the environment variables that the called programs get. They get no others, so that
+    nothing else in the caller's environment changes what they make.
     """
     return {
         "PATH": os.environ.get("PATH", "/usr/bin:/bin"),

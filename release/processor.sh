@@ -2,8 +2,8 @@
 # Sets `program` to the census program in the folder `libexec` that fits this processor. If there is none, prints one line and ends
 # with status 70.
 #
-# On processors of the level x86-64-v3, their own program is about a fifth faster. If the system doesn't say what the processor has,
-# the program for the level below is used, which itself checks what the processor has.
+# A processor of the level x86-64-v3 gets a faster program of its own. If the system doesn't say what the processor has, the program
+# for the level below is used, which itself checks what the processor has.
 
 flags=
 {

@@ -15,7 +15,8 @@ LEVELS = ("v2", "v3")
 
 def call(top: Path, words: list[str]) -> None:
     """Calls bin/programs, which reports errors itself."""
-    # Ctrl-C also reaches that program, which then ends the prover. Until then, this one waits.
+    # Ctrl-C also reaches bin/programs, which then ends the prover. Until that has happened, this
+    # process ignores Ctrl-C and waits.
     before = signal.signal(signal.SIGINT, lambda _number, _frame: None)
     try:
         status = subprocess.run(

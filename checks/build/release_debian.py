@@ -14,7 +14,7 @@ RELEASES = ("stable", "oldstable")
 CHECKS = 2
 MOST_SECONDS = 3600
 MIRROR = "http://deb.debian.org/debian"
-# As on any Debian, what a package recommends is installed with it.
+# As usual in Debian, the packages that a package recommends are installed with it.
 CALLS = f"""\
 cd /root && apt-get install -y -o APT::Install-Recommends=true ./gokzerd_*.deb &&
 census take --count {SOUPS} > haul && haul check haul > checked
@@ -65,7 +65,8 @@ class Debian:
         count.equal(f"Debian {self.name}: haul", checked, b"right\n")
 
     def end(self) -> None:
-        """Ends the program that makes the system, which ends what it has started."""
+        """Ends the program that makes the system. That program ends the processes that it
+        started."""
         if self.process.poll() is None:
             self.process.terminate()
             self.process.wait()

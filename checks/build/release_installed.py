@@ -1,5 +1,5 @@
-"""Tests what a user has of a release, in any folder: each command of both programs, the manuals, the
-pages and a recipe."""
+"""Tests a release that is installed or unpacked in any folder: each command of both programs, the
+manuals, the pages and a recipe."""
 
 from __future__ import annotations
 
@@ -16,10 +16,10 @@ COMPARED = re.compile(rb"^xq4_153 +91 +91 .* glider$", re.MULTILINE)
 LISTED = re.compile(rb"^ +[0-9]+ +xq4_153 +91 .* glider$", re.MULTILINE)
 RARE = re.compile(rb"^xq7_3nw17862z6952 \(loafer\): none in 100000000 soups", re.MULTILINE)
 SETTLED = re.compile(rb"^9 soups, 0 unsettled, . for good$", re.MULTILINE)
-# The find of a search of ten soups.
+# The first soup of a search of ten soups, and the code of the object that the search finds.
 FIRST, FIND = "23285", "xs12_330f96"
 FIND_FIELDS = [FIND, "-", "23290"]
-# Appends its second argument to a file.
+# A script that appends its second argument to a file.
 TELL = '#!/bin/sh\necho "$2" >> "%s"\n'
 
 
@@ -123,7 +123,7 @@ class Installed:
     # ---- Manuals and recipes
 
     def try_manual(self, page: str) -> None:
-        """Has a manual laid out by `man` or `mandoc`."""
+        """Checks that `man` or `mandoc` can lay out a manual."""
         (file,) = self.manuals.glob(f"{page}.1*")
         for words in (["man", "-l"], ["mandoc"]):
             source = TOP / "docs" / "man" / f"{page}.1"

@@ -11,7 +11,7 @@ from checks.build.release_installed import Installed
 from checks.build.trial import Trial
 from checks.lib.commands import read_files, run
 
-# The number of checks, besides those of what is installed.
+# The number of checks, apart from those of `Installed`.
 CHECKS_OF_PACKAGE = 7
 GLIBC = re.compile(rb"GLIBC_([0-9.]+[0-9])")
 DEPENDS = re.compile(r"libc6 \(>= ([0-9.]*)\)")

@@ -1,5 +1,5 @@
-"""Tests `bin/release --verify`: on what was made, on damaged copies of it, and on a checkout with
-changes."""
+"""Tests `bin/release --verify` on the files that were made, on damaged copies of them, and on a
+checkout with changes."""
 
 from __future__ import annotations
 
@@ -27,14 +27,15 @@ class Damaged(NamedTuple):
 
 
 class Copies:
-    """Copies of what was made. In each of them, one file is damaged in another way."""
+    """Copies of the files that were made. In each copy, one file is damaged in a different way."""
 
     def __init__(self, trial: Trial) -> None:
         self.trial = trial
         self.damaged: list[Damaged] = []
 
     def add(self, name: str, pattern: str) -> Path:
-        """Makes a copy, whose file of this name is to be damaged. Returns the folder."""
+        """Makes a copy, whose file `name` is to be damaged, and returns its folder. `pattern` is
+        for what must be said about that file."""
         folder = self.trial.room / "copies" / str(len(self.damaged))
         shutil.copytree(self.trial.dist, folder)
         self.damaged.append(Damaged(folder / name, pattern))
@@ -76,7 +77,7 @@ def repack_archive(trial: Trial, folder: Path) -> None:
 
 
 def repack_package(trial: Trial, folder: Path) -> None:
-    """Puts a package of another version under the name of this one."""
+    """Replaces the package by a package of another version, under the same name."""
     package, unpacked = folder / trial.package_name, trial.room / "other"
     subprocess.run(["dpkg-deb", "-R", package, unpacked], check=True)
     control = unpacked / "DEBIAN/control"
@@ -94,15 +95,16 @@ def repack_package(trial: Trial, folder: Path) -> None:
 
 
 def count_verified(trial: Trial, name: str, said: Ended, status: int, end: str) -> None:
-    """Counts a check that `--verify` ended with a status, and printed a line that ends like this."""
+    """Counts a check that `--verify` ended with a status, and printed a line that ends with
+    `end`."""
     lines = said.lines() + said.error_lines()
     is_right = said.status == status and any(line.endswith(end) for line in lines)
     trial.count.holds(name, is_right, said)
 
 
 def try_verify(trial: Trial) -> None:
-    """Checks that a single call for all files says that every file that was made is the same, and
-    says what is wrong with each damaged file."""
+    """Checks a single call for all files. It must say that each file that was made is the same, and
+    say what is wrong with each damaged file."""
     copies = Copies(trial)
     copies.damage()
     made = sorted(trial.dist.iterdir())
@@ -121,7 +123,7 @@ def try_verify(trial: Trial) -> None:
 
 
 def try_provenance(trial: Trial, folder: Path) -> None:
-    """Checks what is said about files without a PROVENANCE.txt, and about those of another
+    """Checks what is said about files without a PROVENANCE.txt, and about files of another
     commit."""
     provenance, archive = folder / "PROVENANCE.txt", folder / trial.archive_name
     provenance.unlink()

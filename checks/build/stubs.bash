@@ -1,9 +1,9 @@
 # shellcheck shell=bash
-# For the checks that try bin/census, bin/programs and bin/unproved on a small tree, with stubs in place of the toolchain that build in
-# no time and prove nothing.
+# Functions for the checks of bin/census, bin/programs and bin/unproved. The checks call these scripts in a small tree,
+# with stubs in place of the toolchain, which build at once and prove nothing.
 
-# A caller may ignore signals, as a shell does for a job in the background, and a shell can't undo that. It is undone here,
-# where `env` can do it.
+# The caller may have ignored signals, as a shell does for a job in the background. A shell can't undo that, but some
+# versions of `env` can.
 if [[ ! ${SIGNALS_UNDONE-} ]] && env --default-signal true 2>/dev/null; then
     SIGNALS_UNDONE=1 exec env --default-signal bash -- "${BASH_SOURCE[-1]}" "$@"
 fi
@@ -11,7 +11,7 @@ fi
 # shellcheck source=checks/lib/check.bash
 . "${BASH_SOURCE[0]%/*/*}/lib/check.bash" || exit 1
 room=$(mktemp -d) || exit 1
-# A stub that still waits ends too.
+# The file `go` ends a stub that still waits.
 trap 'touch -- "$room/go"; chmod -R u+w -- "$room"; rm -rf -- "$room"' EXIT
 chmod 755 -- "$room"
 
@@ -27,14 +27,14 @@ for tool in awk b2sum bash cat chmod cp diff find flock grep head ln mkdir mktem
     tee touch truncate; do
     ln -s -- "$(type -P "$tool")" "$tools/$tool"
 done
-# What is called by this name may be a script that looks for Python on the PATH.
+# `python3` may be a script that looks for Python on the PATH, so the link leads to the interpreter itself.
 ln -s -- "$(python3 -c 'import sys; print(sys.executable)')" "$tools/python3"
 
-# Root can write into read-only folders. So as root the cases that need one make their calls as nobody.
+# Root can write into read-only folders, so cases that need such a folder make their calls as nobody if root runs them.
 as_user=()
 [[ $(id -u) != 0 ]] || as_user=(setpriv --reuid=65534 --regid=65534 --clear-groups)
 
-# A tree that isn't built, and a toolchain.
+# Makes a tree that isn't built, and a toolchain of stubs.
 new_tree() {
     touch -- "$room/go"
     rm -rf -- "$tree" "$kit" "$room"/{begun.*,said,slow,go,breaks,links,proof,low.pid,prover.pid,version,tries,programs,log}
@@ -51,8 +51,8 @@ new_tree() {
     write_stubs
 }
 
-# What the stubs make is a program that prints what main.rt said when it was proved, then its words and its input, and ends with
-# status 3. They note what they are told, and wait, or break, where a case wants it.
+# Writes the stubs. They make a program that prints the text that main.rt had when it was proved, then its arguments and
+# its input, and ends with status 3. They note their arguments, and wait or fail if a case wants that.
 write_stubs() {
     cat >"$kit/bin/rt" <<'END'
 #!/bin/sh
@@ -95,10 +95,10 @@ END
     chmod +x -- "$kit"/bin/*
 }
 
-# Calls the launcher in place of this shell, with the stubs for a toolchain.
+# Replaces this shell with a call of the launcher, which finds the stubs as its toolchain.
 launch() { PATH=$kit/bin:$tools exec "$tree/bin/census" "$@"; }
 
-# A call keeps its streams in files, and its status.
+# Calls the launcher, and keeps its output and errors in files, and its status.
 call() {
     (launch) >"$room/output" 2>"$room/errors" </dev/null
     status=$?
@@ -116,18 +116,18 @@ call_read_only() {
     chmod -R u+w -- "$tree"
 }
 
-# The program that was built from a main.rt with this text ran.
+# Checks that the program ran that was built from a main.rt with the text $1.
 ran() { [[ $status == 3 && $(head -n 1 -- "$room/output") == "$1" ]]; }
 
-# No program ran, the status is 70, and the last line on standard error says why. It is the only one, but for those that
-# tell what the launcher is doing.
+# Checks that no program ran, that the status is 70, and that the last line on standard error says why. The only other
+# lines may be those that say what the launcher is doing.
 refused() {
     [[ $status == 70 && ! -s $room/output ]] || return
     [[ $(grep -cv '^census: \(building\|waiting\|proving\) ' "$room/errors") == 1 ]] || return
     tail -n 1 -- "$room/errors" | grep -qv '^census: \(building\|waiting\|proving\) '
 }
 
-# Checks how many times the program was proved, or the crate that is named.
+# Checks that the program, or the crate $2, was proved $1 times.
 builds() { [[ $(grep -c "^build --crate-name ${2-census} " "$room/said") == "$1" ]]; }
 silent() { [[ ! -s $room/errors ]]; }
 
@@ -141,7 +141,7 @@ until_true() {
     return 1
 }
 
-# A list of two crates that stand on nothing, and the program on both.
+# Makes two libraries that use no other crate of the tree, and a list in which the program uses both.
 two_libraries() {
     printf '%s\n' '# a comment' 'census: low arguments' 'low: core' 'arguments: clap' 'census_tests: census' >"$tree/crates.txt"
     mkdir -p -- "$tree"/crates/{low,arguments}/src
@@ -152,7 +152,8 @@ two_libraries() {
 # Checks whether a process has ended.
 has_ended() { ! kill -0 "$1" 2>/dev/null; }
 
-# Runs a case, after its name, on a new tree. If it fails, what the last call wrote to standard error is printed too.
+# Runs the case $2, whose name is $1, on a new tree. If it fails, what the last call wrote to standard error is printed
+# too.
 try() {
     new_tree
     : >"$room/errors"
@@ -164,7 +165,7 @@ try() {
     fi
 }
 
-# A case of a read-only tree, which needs a user who can't write everywhere.
+# Runs a case on a read-only tree, which needs a user who can't write everywhere.
 try_read_only() {
     if [[ ${#as_user[@]} != 0 ]] && ! "${as_user[@]}" test -x "$room" 2>/dev/null; then
         skip "$1" "root can write everywhere, and setpriv doesn't work here" 1

@@ -26,7 +26,7 @@ SOUPS = "40"
 
 
 class Trial:
-    """What is tried, and the folder in which everything is made."""
+    """A release that is tested, and the folder in which everything is made."""
 
     def __init__(self, room: Path, count: Count, version: str) -> None:
         self.room, self.count, self.version = room, count, version

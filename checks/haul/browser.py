@@ -29,7 +29,7 @@ DARK = 128
 # The most pictures that are taken until two in a row are the same, and the seconds between them.
 MOST_PICTURES, SECONDS_BETWEEN = 40, 0.05
 
-# Fills a table of plain rows and lays it out, and how long that usually takes.
+# A script that fills a table with plain rows and lays it out, and how long it usually takes.
 PLAIN_TABLE = """
 const box = document.createElement("div");
 const row = "<tr>" + "<td><b>a word</b> and some more words</td>".repeat(8) + "</tr>";
@@ -141,7 +141,7 @@ def text(driver: Driver, selector: str) -> str:
 
 
 def all_of(driver: Driver) -> list[str]:
-    """Returns the codes of the list in order. All of them are drawn, as for printing."""
+    """Draws the whole list, as for printing, and returns its codes in order."""
     driver.execute_script("dispatchEvent(new Event('beforeprint'))")
     return texts(driver, "#list .card code, #list .name code")
 
@@ -230,7 +230,9 @@ setTimeout(() => done(seen), seconds * 1000);""",
 
 
 def is_narrow(driver: Driver) -> bool:
-    """Checks that the page doesn't scroll sideways. What scrolls in a box of its own may be wider."""
+    """Checks that the page doesn't scroll sideways. A box that scrolls by itself may have wider
+    contents.
+    """
     return bool(driver.execute_script("return document.documentElement.scrollWidth <= innerWidth"))
 
 
@@ -332,8 +334,8 @@ def longest_frame(driver: Driver) -> float:
 
 
 def slowness(driver: Driver) -> float:
-    """Returns how many times as long as usual this machine takes for work of a page's main thread:
-    it fills a box with a table of plain rows and lays it out. A machine isn't faster than usual.
+    """Returns how many times as long as usual this machine takes to run `PLAIN_TABLE` in a page's
+    main thread. The result is at least 1.
     """
     driver.execute_cdp_cmd("Performance.enable", {"timeDomain": "threadTicks"})
     before = seconds_worked(driver)

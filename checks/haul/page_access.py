@@ -1,5 +1,6 @@
-"""Checks pages as axe does: names and roles of controls, the order of the focus, contrasts, and the
-sizes of targets, at three widths and at 200 %; and does every task of a mouse with the keyboard.
+"""Checks pages by rules like those of the tool axe: names and roles of controls, the order of the
+focus, contrasts, and the sizes of targets, at three widths and at 200 %. Also does every task of a
+mouse with the keyboard.
 """
 
 from __future__ import annotations
@@ -23,10 +24,10 @@ from checks.haul.browser import (
 from checks.haul.made_pages import PULSAR, count
 from checks.haul.page_looks import BACKSPACE, ENTER, ESCAPE, SPACE, TAB
 
-# At 200 %, a window of 1,400 points has 700.
+# At 200 %, a window of 1,400 points is 700 points wide.
 WIDTHS = (390, 700, 800, 1400)
 SHIFT_TAB, LEFT, RIGHT, UP, DOWN = "\ue008\ue004", "\ue012", "\ue014", "\ue013", "\ue015"
-# The roles of what can have the focus: controls, and regions that scroll or can be moved.
+# The roles of elements that may have the focus: controls, and regions that scroll or can be moved.
 ROLES = {
     "button",
     "link",
@@ -44,7 +45,7 @@ ROLES = {
     "RootWebArea",
     "option",
 }
-# Finds what the rules of WCAG forbid. The names of the rules are axe's, where axe has them.
+# Finds what the rules of WCAG forbid. Rules that axe also has are called by their names in axe.
 FAULTS = (
     SHARED
     + """
@@ -143,7 +144,9 @@ def try_access(driver: Driver, one: Path, two: Path) -> None:
 
 
 def list_unfit(driver: Driver) -> list[str]:
-    """Returns what can have the focus but has no name, or no role that is in `ROLES`."""
+    """Returns the elements that can have the focus but have no name, or a role that isn't in
+    `ROLES`.
+    """
     nodes: list[dict[str, Any]] = driver.execute_cdp_cmd("Accessibility.getFullAXTree", {})["nodes"]
     return [
         f"{node['role']['value']} {node.get('name', {}).get('value', '')}"
@@ -209,7 +212,7 @@ def try_walk(driver: Driver, path: Path) -> None:
 
 
 def go_to(driver: Driver, what: str, key: str = TAB) -> None:
-    """Presses a key until something with this text or name has the focus."""
+    """Presses a key until an element whose text or name begins with `what` has the focus."""
     for _ in range(40):
         press(driver, key)
         if focused(driver).startswith(what):

@@ -179,7 +179,7 @@ return [area === document.activeElement, area.value.slice(area.selectionStart, a
 
 
 def keep_copies(driver: Driver) -> None:
-    """Stores the texts that the page copies in its variable `copied`."""
+    """Makes the page put the texts that it copies into its variable `copied`."""
     driver.execute_script(
         "window.copied = []; Object.defineProperty(navigator, 'clipboard', {value: {writeText: async text => { copied.push(text) }}})"
     )
@@ -194,7 +194,7 @@ def by_haul(rle: str) -> bytes:
 
 
 def by_golly(rle: str) -> bytes:
-    """Returns a pattern, as plaintext, in the form in which Golly writes it after reading it."""
+    """Has Golly read a pattern and write it again. Returns the written pattern as plaintext."""
     with tempfile.TemporaryDirectory() as room:
         folder = Path(room)
         (folder / "in.rle").write_text(rle)

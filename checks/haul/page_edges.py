@@ -51,7 +51,7 @@ def try_edges(driver: Driver, path: Path, folder: Path) -> None:
 
 
 def try_focus(driver: Driver, page: Path, width: int, view: str) -> None:
-    """Checks that no object is hidden when Shift+Tab goes back from an object far down."""
+    """Checks that the focus is never hidden when Shift+Tab goes back from an object far down."""
     opened(driver, page, f"#&parts=0&view={view}")
     driver.execute_script("scrollTo(0, 2500)")
     time.sleep(0.3)
@@ -104,8 +104,8 @@ def try_telephone(driver: Driver, two: Path) -> None:
 
 
 def try_columns(driver: Driver, path: Path) -> None:
-    """Checks that the dialog has one column at up to 800 points, and two at 1,400 points, with the
-    player in the right one.
+    """Checks that the dialog has one column at up to 800 points. At 1,400 points, it has two, with
+    the player in the right-hand column.
     """
     sides = "return [...document.querySelectorAll('.columns > div')].map(one => one.offsetLeft)"
     for width, columns in ((390, 1), (641, 1), (700, 1), (800, 1), (1400, 2)):
@@ -256,8 +256,8 @@ return [...document.querySelectorAll('.bar, .letter')].filter(one => getComputed
 
 
 def try_without_scripts(driver: Driver, two: Path, folder: Path) -> None:
-    """Checks that the table has the first thousand objects, and that two hauls fit into the
-    window.
+    """Checks, without scripts, that the table has the first thousand objects, and that two hauls
+    fit into the window.
     """
     codes = [f"xp{period}_{period:x}" for period in range(2, 1302)]
     many = page_of(folder / "many.html", haul_of(codes, 6000), more=("--play=0",))

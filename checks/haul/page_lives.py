@@ -27,7 +27,8 @@ from checks.haul.page_looks import ENTER
 from checks.lib.program import CENSUS
 
 LEFT, RIGHT, ESCAPE = "\ue012", "\ue014", "\ue00c"
-# Soups from this number on. Some of them are unsettled under this limit.
+# The number of soups; the limit, at which some of them are unsettled; and the earliest checkpoint
+# of a late soup.
 SOUPS, LIMIT, LATE = 40, 3030, 1000
 
 

@@ -97,7 +97,7 @@ return [...document.querySelectorAll('.card .total, #chips .chip')].filter(one =
 
 
 def try_other_readers(driver: Driver, path: Path, haul: bytes) -> None:
-    """Checks a page on paper, without scripts, and in a browser that can't tell what is visible."""
+    """Checks a page on paper, without scripts, and in a browser without `IntersectionObserver`."""
     totals = [row[0] for row in rows_of(haul, "@CENSUS TABLE")]
     parts = parts_of(path)
     for address in ("#&parts=0", "#&parts=0&view=table"):

@@ -16,8 +16,8 @@ from checks.lib.program import TOP
 
 
 def try_parts(driver: Driver, path: Path) -> None:
-    """Checks what is counted by parts, which objects there are without that, and which are
-    strict.
+    """Checks the totals by parts, the objects that are listed if parts aren't counted, and which
+    of these objects are strict.
     """
     opened(driver, path)
     count.equal(

@@ -12,7 +12,7 @@ from checks.haul.browser import Driver, all_of, click, opened, press, text, wait
 from checks.haul.made_pages import census, count, go_to, rows_of
 from checks.haul.page_looks import ENTER, SPACE
 
-# The soups that are played to their ends.
+# The number of soups that are played to their ends.
 SOUPS = 10
 # Counts the points of the player's picture that have the colour of live cells.
 LIVE_POINTS = """
@@ -106,7 +106,9 @@ def play_to_end(driver: Driver, code: str, number: str) -> None:
 
 
 def try_view(driver: Driver) -> None:
-    """Checks that the view follows the ash of soup 1 without the two gliders that it leaves."""
+    """Checks that the view follows the ash of soup 1, but not the two gliders that the soup
+    leaves.
+    """
     play_to_end(driver, "xs4_33", "1")
     followed = live_points(driver)
     count.equal(
@@ -170,7 +172,7 @@ return [least(xs) / width, 1 - (most(xs) + 1) / width, least(ys) / height, 1 - (
 
 
 def try_keys_of_player(driver: Driver, number: str) -> None:
-    """Checks the keys of the player's buttons."""
+    """Checks that keys press the player's buttons."""
 
     def said() -> str:
         return text(driver, ".player output")

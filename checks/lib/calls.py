@@ -8,7 +8,7 @@ from typing import NamedTuple
 from checks.lib import program
 
 MOST_SECONDS = 120
-# Only the beginning and the length of a longer text are shown.
+# A text below `SHOWN_WHOLE` bytes is shown whole. Of a longer text, `SHOWN` bytes are shown.
 SHOWN_WHOLE, SHOWN = 100, 60
 
 

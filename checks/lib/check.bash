@@ -1,25 +1,25 @@
 # shellcheck shell=bash
-# What the checks in Bash share, which load this file by its full path: where the repository is, and the one way in which they count and
-# print.
+# What the checks in Bash share: the folder of the repository, `top`, and the functions by which they count and print.
+# The checks load this file by its full path.
 
 top=${BASH_SOURCE[0]%/*/*/*}
 passed=0 failed=0 skipped=0
 
 pass() { passed=$((passed + 1)); }
 
-# Says what failed.
+# Counts a check that failed, and prints its name, $1.
 fail() {
     echo "FAILED: $1"
     failed=$((failed + 1))
 }
 
-# Counts checks that can't run here: what they are, why, and how many.
+# Counts $3 checks that can't run here, and prints what they are, $1, and why they can't run, $2.
 skip() {
     echo "skipped: $1, since $2"
     skipped=$((skipped + $3))
 }
 
-# Runs a command, after a name for what it looks at, which must end with status 0.
+# Counts a check that the command that follows the name $1 ends with status 0.
 check() {
     local name=$1
     shift

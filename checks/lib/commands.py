@@ -1,4 +1,4 @@
-"""Commands that checks run, and what is in folders."""
+"""Functions that run commands, list folders, and read and write files."""
 
 from __future__ import annotations
 

@@ -43,8 +43,8 @@ class Count:
             self.passed += fault == ""
 
     def attempt(self, name: str, do: Callable[[], object]) -> None:
-        """Does a part of the checks. If something is so wrong that the part can't go on, such as a
-        missing file that it reads, that counts as a failed check.
+        """Does a part of the checks. If the part can't go on, for example because a file that it
+        reads is missing, that counts as a failed check.
         """
         try:
             do()

@@ -19,7 +19,7 @@ ONE_CHECKPOINT = Profile(1, 1, 1, 0)
 # Two checkpoints.
 TWO_CHECKPOINTS = Profile(1, 1, 1, 1)
 LIFE = "b3s23"
-# Rules under which everything dies, or nothing does.
+# A rule under which all cells die, and a rule under which no cell dies.
 DEADLY, STILL = "bs", "bs012345678"
 
 # The most samples of a code.

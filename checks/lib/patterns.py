@@ -60,8 +60,8 @@ SPACESHIPS = [
     drawing("...O..", ".O...O", "O.....", "O....O", "OOOOO."),
     drawing("...OO..", ".O....O", "O......", "O.....O", "OOOOOO."),
 ]
-# These two patterns grow without end. One lays blocks, and the other flies at half the speed of
-# light.
+# These two patterns grow without end. The first lays blocks, and the second flies at half the speed
+# of light.
 SWITCH_ENGINE = drawing("......O.", "....O.OO", "....O.O.", "....O...", "..O.....", "O.O.....")
 PUFFER = drawing(
     ".OOO......O.....O......OOO.",

@@ -1,4 +1,5 @@
-"""A plain program of the definitions. It uses sets of cells, and none of the census's shortcuts.
+"""A plain program that follows the definitions. It uses sets of cells, and none of the census's
+shortcuts.
 
 It was written from docs/PROFILE.md and docs/FORMATS.md, and is deliberately independent of `haul/`
 and of the crates.

@@ -10,9 +10,10 @@ from pathlib import Path
 
 from checks.lib.program import TOP
 
-# A folder that git ignores.
+# The folder of the programs, which git ignores.
 PROGRAMS = TOP / "crates" / "census" / "out" / "programs"
-# The file with the output of `rt ci`, if there is one. The libraries that it has proved are used.
+# The file with the output of `rt ci`, if there is one. The libraries that `rt ci` has proved are
+# used.
 CI_LOG = os.environ.get("CI_LOG", "")
 
 

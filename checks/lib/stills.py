@@ -24,7 +24,7 @@ def objects_of_still_soup(number: int) -> dict[str, int]:
 
 
 class StillSoups:
-    """The haul of the first soups."""
+    """The haul of soups 0 to `soups - 1` under the rule `STILL`."""
 
     def __init__(self) -> None:
         self.soups = 0

@@ -11,8 +11,8 @@ from checks.lib.program import LAUNCHER
 from checks.program.recipes import Recipes, census
 
 SEED = ["--seed", "NAME{}"]
-# The number of calls of the program for the four parts of ten soups: one for each part, and one for
-# the words.
+# The number of calls of the program for the four parts of ten soups: one for each part, and one
+# that checks the arguments.
 CALLS_OF_PARTS = 5
 OPTIONS = [
     "--first 1",
@@ -27,7 +27,7 @@ OPTIONS = [
     "--progress",
 ]
 COUNTS = ["0", "3", "9", "11", "16777216", "16777217", "x", "+10", ""]
-# Other words for the soups of whole parts.
+# Other arguments for the soups of whole parts.
 SETS = ["8 --also 8+2", "0 --also=0+4,4+6", "9 --first=1 --also 0+1"]
 # A program that writes its words to a file, and then calls another program.
 NOTES = '#!/bin/sh\necho "$*" >> "%s"\nexec "%s" "$@"\n'
@@ -46,7 +46,8 @@ class Gathered:
 
     def try_alone(self, name: str, *words: str) -> Ended:
         """Checks that `gather` prints the same and ends with the same status, whether it can join
-        hauls or not. It can't if the program that joins them fails. Returns how it ended."""
+        hauls or not. In one call it can't, since the program that joins hauls fails. Returns how
+        the other call ended."""
         alone = self.recipes.call_with("gather", self.out, *words, HAUL="/bin/false")
         together = self.recipes.call("gather", self.out, *words)
         self.count.equal(f"gather, {name}: the same status", together.status, alone.status)

@@ -26,7 +26,7 @@ from checks.program.recipes import (
 MOST_SECONDS = 60
 # A file's old date, in seconds since 1970.
 OLD = 978_307_200
-# The checks of hauls with Slurm. Each of two refusals is three checks.
+# The number of checks of hauls with Slurm. Each of the two refusals has three checks.
 CHECKS_WITH_SLURM = 10
 
 
@@ -118,8 +118,8 @@ def try_two_at_once(recipes: Recipes) -> None:
 
 
 def try_hauls(recipes: Recipes) -> None:
-    """Takes hauls in parts. Together they are the haul of `take`. A complete part isn't taken again,
-    and a part that has grown is."""
+    """Takes hauls in parts. Together they are the haul of `take`. A complete part isn't taken
+    again, but a part that has grown is taken again."""
     count, out = recipes.count, recipes.room / "hauls"
     recipes.well("hauls: one part", recipes.call("take-part", out, "7", "3", "1"))
     haul = census("take", "--first=3", "--count=3")

@@ -43,7 +43,8 @@ SEEDS = [
 
 def numbers(most: int, dense: int = 300) -> list[int]:
     """Returns all numbers up to `dense`. Above that and up to `most`, returns the powers of two,
-    round numbers, numbers that repeat a digit (such as 777), and their neighbours.
+    three times these, round numbers, numbers that repeat a digit (such as 777), and the neighbours
+    of all these.
     """
     special = {2**k for k in range(41)} | {
         digit * 10**k for digit in range(1, 10) for k in range(13)
@@ -70,7 +71,7 @@ def text(rows: list[str]) -> bytes:
 
 
 def drawn(cells: Cells) -> bytes:
-    """Returns the text of a pattern, from the corner on."""
+    """Returns the text of a pattern, with columns from x = 0 and rows from y = 0."""
     return plaintext(cells).encode()
 
 
@@ -104,7 +105,7 @@ def generations() -> Iterator[Call]:
 
 
 def live_cells() -> Iterator[Call]:
-    """Yields calls of `run` with many cells of which none dies, in rows of 1,000."""
+    """Yields calls of `run` with many cells, in rows of 1,000, for no generations."""
     for count in numbers(10**6):
         rows = ["O" * 1000] * (count // 1000) + ["O" * (count % 1000)] * (count % 1000 > 0)
         shown = [row.ljust(min(count, 1000), ".") for row in rows]
@@ -129,7 +130,7 @@ def places() -> Iterator[Call]:
 
 
 def rules() -> Iterator[Call]:
-    """Yields calls of `run` with a pattern under many rules."""
+    """Yields calls of `run` with random patterns under random rules."""
     draw = random.Random("rules")
     for _ in range(400):
         rule = (
@@ -305,8 +306,8 @@ def periods() -> Iterator[Call]:
 
 
 def fleet() -> list[Cells]:
-    """Returns gliders that fly away from the middle of the largest pattern in the four
-    directions.
+    """Returns gliders that fly away, in the four directions, from the middle of a pattern of the
+    largest size.
     """
     spots = [
         (120 + 24 * row + 12 * step, 120 + 24 * row - 12 * step)
@@ -379,8 +380,8 @@ def soups_by_number() -> Iterator[Call]:
 
 
 def codes() -> Iterator[Call]:
-    """Yields calls of `show` with codes of many bytes. All but two bytes are columns or strips
-    without live cells.
+    """Yields calls of `show` with codes of many bytes. All bytes except two stand for columns or
+    strips without live cells.
     """
     for length in numbers(10_002):
         if length < 2:

@@ -1,4 +1,4 @@
-"""A plain program of `gather`: what it prints for lines in any order. It was written from
+"""A plain program that does what `gather` does for lines in any order. It was written from
 docs/FORMATS.md and docs/COMMANDS.md.
 """
 
@@ -110,7 +110,7 @@ def fault_in(line: bytes) -> int | None:
 
 @functools.cache
 def finding_of(job: Job, number: int) -> tuple[bytes, ...]:
-    """Returns the fields of a soup's line of `work`, without the fields before the findings."""
+    """Returns the findings of a soup: the fields of its line of `work` from the eighth field on."""
     asked = [CENSUS, "work", "--worker", "1", "--first", str(number), "--count", "1", *job.words()]
     line = subprocess.run(asked, stdin=subprocess.DEVNULL, capture_output=True, check=True).stdout
     return tuple(line.removesuffix(b"\n").split(b" ")[7:])

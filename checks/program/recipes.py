@@ -12,8 +12,8 @@ from checks.lib.count import Count
 from checks.lib.program import CENSUS, LAUNCHER, TOP
 
 WORKER = re.compile(rb" worker=[0-9]+ ")
-# A script in place of the program. It takes no time to say that the words of a call are right,
-# which a recipe asks before it takes a part.
+# The first lines of a script in place of the program. They say at once that the arguments of a call
+# are right, which a recipe asks before it takes a part.
 STUB = '#!/bin/sh\ncase "$*" in *"--count 0"*) exit 0 ;; esac\n'
 
 
@@ -71,7 +71,7 @@ class Recipes:
         self.count.holds(f"{name}: nothing is written", is_unchanged, said)
 
 
-# ---- The program, and what is in folders
+# ---- The program, and the contents of folders
 
 
 def census(*words: str) -> bytes:
@@ -80,7 +80,7 @@ def census(*words: str) -> bytes:
 
 
 def work(*words: str) -> bytes:
-    """Returns the lines of worker 1."""
+    """Returns the report lines of `work` with worker 1."""
     return census("work", "--worker=1", *words)
 
 
@@ -89,8 +89,8 @@ def as_of_one_worker(lines: bytes) -> bytes:
 
 
 def read_lines(folder: Path) -> bytes:
-    """Returns the lines of all parts in a folder, in the order of the parts, as those of
-    worker 1."""
+    """Returns the lines of all parts in a folder, in the order of the parts, as if worker 1 had
+    written them all."""
     parts = sorted(folder.rglob("*.lines"), key=lambda path: int(path.stem))
     return as_of_one_worker(b"".join(part.read_bytes() for part in parts))
 

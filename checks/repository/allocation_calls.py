@@ -1,5 +1,5 @@
-"""Searches the code for calls that may take memory, and compares those that request it by a number
-with the table of allocations.md.
+"""Searches the code for calls that may take memory. Compares the calls in which a number says how
+much memory is requested with the table of allocations.md.
 
 The calls that may allocate are read from the toolchain's sources, and each call that the code uses
 must be known to this module.
@@ -21,8 +21,8 @@ from checks.repository.product_code import OPEN, Code, File
 
 LIST = TOP / "checks" / "repository" / "allocations.md"
 
-# The calls that the code uses, and whether they request memory by a number. A function of the
-# repository may have the same name.
+# The calls that the code uses, and whether a number says how much memory they request. A function
+# of the repository may have the same name.
 KNOWN = {
     "with_capacity": True,
     "reserve": True,
@@ -157,13 +157,13 @@ def listed() -> Counter[tuple[str, str]]:
     return rows
 
 
-# A file, and one of its lines that requests memory by a number.
+# A file, and one of its lines in which a number says how much memory is requested.
 Row = tuple[str, str]
 
 
 def look_for_calls(file: File, own: set[str], takers: set[str], asked: Counter[Row]) -> list[str]:
-    """Returns the calls of a file that may take memory and aren't known here. Counts its lines that
-    request memory by a number.
+    """Returns the calls of a file that may take memory and aren't known here. Counts, in `asked`,
+    the lines of the file in which a number says how much memory is requested.
     """
     faults = []
     for token in calls_in(file.code, own):
@@ -177,7 +177,9 @@ def look_for_calls(file: File, own: set[str], takers: set[str], asked: Counter[R
 
 
 def compare_list(asked: Counter[Row], known: Counter[Row], count: Count) -> None:
-    """Compares the lines that request memory by a number with checks/repository/allocations.md."""
+    """Compares the lines in which a number says how much memory is requested with
+    checks/repository/allocations.md.
+    """
     for file, line in sorted((asked - known).elements()):
         count.check(
             "not in checks/repository/allocations.md",
@@ -192,7 +194,7 @@ def compare_list(asked: Counter[Row], known: Counter[Row], count: Count) -> None
 def compare_calls(files: Iterable[File], count: Count) -> None:
     """Compares the calls of all files with allocations.md."""
     takers, asked = memory_takers(), Counter[Row]()
-    # All of these belong to the libraries. If one isn't found, others aren't found either.
+    # All these calls belong to the libraries. If one isn't found there, others may be missed too.
     count.check(
         "calls that may take memory",
         ", ".join(

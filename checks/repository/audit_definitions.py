@@ -11,7 +11,7 @@ from pathlib import Path
 
 from checks.lib.program import TOP
 
-# From the lowest crate up, which is the best order for reading. The first crate is the toolchain's.
+# The crates from the lowest up, which is the best order for reading. The first is the toolchain's.
 CRATES = [
     "clap",
     "memory",
@@ -89,7 +89,8 @@ class Names:
             return
         module, own = f"{found[1]}.{found[2]}", ""
         if ".declared." in module:
-            # A declared type is a type of the code. Its variants and its view name it.
+            # A module of `declared` stands for a type of the code, as do the modules of its
+            # variants and its view.
             parts = (
                 module.replace(".declared.", ".")
                 .removesuffix(".TheVariants")
@@ -174,8 +175,8 @@ def read_file(path: Path, module: str, found: dict[Key, Definition]) -> None:
             found[module, head[1]] = now
             comment = 0
         else:
-            # This is an equation, or the rest of a definition. After an empty line, it begins with
-            # the name.
+            # The line is an equation, or goes on with a definition. After an empty line, an
+            # equation begins with the name that it defines.
             now = now or found.get((module, line.split(" ")[0]))
             if now:
                 now.lines, now.text = now.lines + 1, f"{now.text}\n{line}"
@@ -252,7 +253,7 @@ def named(text: str, names: Names, module: str, definitions: dict[Key, Definitio
             (module, first),
             (names.modules.get(first, ""), rest.split(".")[0]),
         ):
-            # If a module only re-exports it, continue with the place of the definition.
+            # If a module only re-exports the name, continue with the place of the definition.
             while key in definitions and not definitions[key].line:
                 key = definitions[key].names.single[key[1]]
             if key in definitions:

@@ -4,8 +4,8 @@ places.md.
 A contract says what a call returns, but not that it ends soon, that it leaks nothing, or that a
 sleeping thread is woken. So these places are listed, each with a reason: loops that may not end and
 numbers of 2^32 or more, which could be the bound of a loop; the witnesses of failures that are
-made; the steps on memory that threads share, in the order of the source; the fields that a written
-`drop` leaves; and the lines of `main`.
+made; the steps on memory that threads share, in the order of the source; the fields that a
+hand-written `drop` doesn't drop; and the lines of `main`.
 """
 
 from __future__ import annotations
@@ -52,7 +52,7 @@ def value_of(token: str) -> int | None:
 
 
 def is_large(code: Code, place: int) -> bool:
-    """Checks whether a number begins here that is 2^32 or more, or whether here is the `MAX` or the
+    """Checks whether the token at `place` begins a number of 2^32 or more, or is the `MAX` or the
     `BITS` of a type of more than 16 bits."""
     if code[place] in ("MAX", "BITS") and code[place - 1] == "::":
         return code[place - 2] not in ("u8", "i8", "u16", "i16")
@@ -91,7 +91,7 @@ def witnesses_in(file: File) -> Iterator[Token]:
 
 # ---- Threads
 
-# The calls of handover that are steps on shared memory, or that wait or wake.
+# The calls of the crate `handover` that are steps on shared memory, or that wait or wake.
 CALLS = {
     "load",
     "store",
@@ -156,8 +156,8 @@ def written_drops(code: Code) -> Iterator[tuple[int, Code]]:
 
 
 def fields_of_drop(body: Code) -> list[list[Token]] | None:
-    """Returns the parts of the pattern with which a body takes its value apart, or `None` if it
-    doesn't begin with that.
+    """Returns the parts of the pattern with which a body takes its value apart, or `None` if the
+    body doesn't begin with such a pattern.
     """
     if body[:1] != ["let"] or "{" not in body or body[:3][2:] != ["{"]:
         return None
@@ -174,8 +174,8 @@ def fields_of_drop(body: Code) -> list[list[Token]] | None:
 
 
 def fault_of_drop(body: Code) -> str:
-    """Returns what is wrong with a written `drop`. It must take the value apart, and then drop each
-    field that has a name, once.
+    """Returns what is wrong with a hand-written `drop`. It must take the value apart, and then drop
+    each field that has a name, once.
     """
     fields = fields_of_drop(body)
     if fields is None or any(len(field) != 1 and field[1:] != [":", "_"] for field in fields):
@@ -187,7 +187,7 @@ def fault_of_drop(body: Code) -> str:
 
 
 def left_in(file: File) -> Iterator[Token]:
-    """Yields the fields that a written `drop` leaves, because they are plain data."""
+    """Yields the fields that a hand-written `drop` doesn't drop, because they are plain data."""
     for _, body in written_drops(file.code):
         for field in fields_of_drop(body) or []:
             if len(field) > 1:

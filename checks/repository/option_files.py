@@ -194,7 +194,9 @@ def grouped(commands: list[Command]) -> list[tuple[Option, list[str]]]:
 
 
 def sentences(option: Option) -> list[str]:
-    """Returns the sentences of the help, and then the default, or that it must be given."""
+    """Returns the sentences of an option's help, and a last sentence if the option has a default or
+    must be given.
+    """
     said = upper(option.help) + ("" if option.help.endswith(".") else ".")
     found = re.split(r"(?<=[a-z0-9`)]\.) (?=[A-Z])", said)
     if option.default is not None:

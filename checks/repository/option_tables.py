@@ -30,11 +30,11 @@ class Option:
     flag: bool = True
     choices: tuple[str, ...] = ()
     is_file: bool = False
-    # Whether there may be several values, for a positional argument.
+    # Whether a positional argument may have several values.
     several: bool = False
     # The options that can't be given together with this one.
     excludes: tuple[str, ...] = ()
-    # Whether it may be left out although it has a value and no default.
+    # Whether the option may be left out although it has a value and no default.
     optional: bool = False
 
     @property

@@ -21,13 +21,14 @@ FIND = "find"
 # mutant: equal because the size of a read doesn't change what is printed
 BYTES_AT_A_TIME = 65_536
 # The most bytes that a program may print, and the further bytes for each soup that it takes; and
-# the most bytes that it may write to standard error, apart from progress lines.
+# the most bytes that it may write to standard error, apart from progress lines and report lines.
 MOST_PRINTED, BYTES_OF_A_SOUP, MOST_COMPLAINED = 2**26, 4096, 2**20
 # How long to wait at a time for a program that has closed its streams.
 SECONDS_TO_END = 0.05
 # The progress line of `census take`.
 PROGRESS = re.compile(rb"([0-9]{1,8}) of [0-9]{1,8} soups")
-# The report lines of `census take`, and how many of them are kept.
+# How the report lines of `census take` begin, how many of them are kept, and the number of the soup
+# in one.
 REPORT_BEGINS = b"report "
 MOST_REPORTS = 100_000
 REPORT_OF = re.compile(rb"report [^\n]*? soup=([0-9]{1,13}) ")
@@ -47,7 +48,8 @@ class StreamWaiter:
         self.selector.unregister(stream)
 
     def wait(self, seconds: float) -> None:
-        """Waits until something can be read, but at most `seconds` seconds."""
+        """Waits until something can be read, but at most `seconds` seconds, and calls the functions
+        of the streams that can be read."""
         for key, _ in self.selector.select(seconds):
             key.data()
 
@@ -55,7 +57,7 @@ class StreamWaiter:
 class BackgroundProgram:
     """A running program, with the text that it has printed to a pipe so far."""
 
-    # The most bytes that the program may print, and the most unread bytes on its standard error.
+    # The most bytes that `printed` and `complained` may have.
     most_printed = MOST_PRINTED
     most_complained = MOST_COMPLAINED
 

@@ -14,8 +14,8 @@ from typing import Protocol, TypeVar
 
 from haul.census.starters import list_starter_words
 
-# The reasons that mean that there is no such program, or none for this machine. If starting fails
-# for any other reason, there may be such a program.
+# The reasons for which starting fails if there is no program at the path, or none for this machine.
+# If starting fails for any other reason, there may be one.
 NOT_THERE = (
     errno.ENOENT,
     errno.ENOTDIR,
@@ -47,8 +47,8 @@ def start_thread(thread: threading.Thread) -> None:
 class SignalHandler(Protocol):
     """Work that ends by itself after a signal."""
 
-    # The signal that must end this process after the work, or `None` as long as no signal must. A
-    # signal that only makes the work finish isn't noted here.
+    # The signal that must end this process after the work, or `None` if there was none. A signal
+    # that only makes the work finish isn't noted here.
     number: int | None
 
     def came(self, number: int) -> bool:
@@ -101,7 +101,7 @@ class Children:
             )
 
     def add(self, start: Callable[[], Started]) -> Started:
-        """Calls a function that starts a process, and returns the process."""
+        """Calls a function that starts a process, adds the process to the list, and returns it."""
         with self.starts:
             process = start()
             self.running.append(process)
@@ -151,8 +151,9 @@ def block_interrupts() -> Iterator[None]:
 
 
 def kill_apart(program: subprocess.Popen[bytes]) -> None:
-    """Kills all processes that a program in a session of its own has started. Its starter does this,
-    and is then killed itself."""
+    """Kills a program that `launcher.py` runs in a session of its own, and all processes that the
+    program has started. `program` is the launcher, which does this after SIGTERM, and is then
+    killed itself."""
     if program.poll() is None:
         program.terminate()
         with suppress(subprocess.TimeoutExpired):
@@ -196,9 +197,9 @@ def start_child(
     stdin: int = subprocess.DEVNULL,
     apart: str | None = None,
 ) -> Iterator[subprocess.Popen[bytes]]:
-    """Starts a program like `Children.start`. It has ended when the context is left. If `stderr` is
-    `None`, the program writes to this process's standard error. Raises `NoCensus` if there is no
-    such program."""
+    """Starts a program with `Children.start`. The program has ended when the context is left. If
+    `stderr` is `None`, the program writes to this process's standard error. Raises `NoCensus` if
+    there is no program at the path."""
     try:
         program = children.start(words, stdout, stderr, stdin, apart)
     except OSError as error:

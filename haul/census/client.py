@@ -17,11 +17,12 @@ from haul.census.locate import find_beside
 from haul.formats.haul import Job, Range
 from haul.terminal import Terminal
 
-# The program's exit statuses that are passed on. Every other status counts as a failed read.
+# The program's exit statuses that are passed on. Every other status becomes `FAILED`, the status of
+# a failed read or write.
 PASSED_ON = (2, 3, 4, 5)
 FAILED = 5
 
-# How much of a pattern that isn't kept is read at a time, and the byte of a live cell in it.
+# How many bytes of a printed pattern are read at a time, and the byte of a live cell in it.
 # mutant: equal because the size of a read doesn't change what is printed
 BYTES_AT_A_TIME = 2**20
 LIVE = b"O"
@@ -34,8 +35,8 @@ Said = TypeVar("Said")
 
 
 class Ended(Exception):
-    """Raised if the program ended with a status other than 0. Has the line that the program
-    wrote."""
+    """Raised if the program ended with a status other than 0. Has the last line that the program
+    wrote to standard error."""
 
     def __init__(self, status: int, line: str) -> None:
         super().__init__(line)
@@ -50,7 +51,7 @@ class Census:
         if found is None:
             raise NoCensus("no census beside this program or on the PATH")
         self.path = found
-        # The terminal on which the program shows its progress.
+        # The terminal on which progress is shown.
         self.terminal = terminal
 
     def ask(self, words: list[str], pattern: bytes = b"") -> bytes:
@@ -143,7 +144,8 @@ class Census:
 def ask_all(
     pool: ThreadPoolExecutor, ask: Callable[[list[Asked]], Said], parts: list[list[Asked]]
 ) -> Iterator[Said]:
-    """Asks about all parts, in threads that are started at once."""
+    """Asks about all parts in the threads of a pool. Raises `NoThread` if a thread can't be
+    started."""
     try:
         return pool.map(ask, parts)
     except RuntimeError as error:

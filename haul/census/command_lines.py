@@ -15,7 +15,7 @@ NUMBERS_IN_A_CALL = 2**24
 # The most ranges in one call: on Linux an argument has at most 131,071 bytes, and a range takes up
 # to 31.
 RANGES_IN_A_CALL = 2000
-# The most ranges in a command to copy. A longer command would be too long for a reader to copy.
+# The most ranges in a command to copy. With more ranges, it would be too long to copy.
 RANGES_TO_COPY = 12
 
 # ---- Arguments of calls
@@ -118,7 +118,8 @@ def format_soup_commands(job: Job) -> tuple[str, str]:
 
 
 def format_unsettled_command(haul: Haul) -> str:
-    """Returns the command that lists the unsettled soups of a haul."""
+    """Returns the command that lists the unsettled soups of a haul. If the haul has more than
+    `RANGES_TO_COPY` ranges, `..` stands for the others."""
     options = [*list_quoted_seed(haul.job), *list_changed_options(haul.job)]
     ranges = [range_ for piece in split_ranges(haul.ranges) for range_ in piece]
     calls = [
@@ -137,6 +138,6 @@ def list_quoted_seed(job: Job) -> list[str]:
 
 
 def list_changed_options(job: Job) -> list[str]:
-    """Returns the options for the rule and the profile whose values differ from the defaults."""
+    """Returns those options for the rule and the profile that differ from the defaults."""
     rule = [f"--rule={job.rule}"] if job.rule != LIFE else []
     return rule + [f"{option}={number}" for option, number in job.profile.list_changed_options()]

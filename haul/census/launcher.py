@@ -25,7 +25,8 @@ SIGKILL = 9
 PR_SET_PDEATHSIG = 1
 # With this option, orphaned descendants of the process become its children.
 PR_SET_CHILD_SUBREAPER = 36
-# The reasons that mean that there is no such program. FAILED is the status for any other reason.
+# The reasons for which a program can't be started if there is none at the path. FAILED is the
+# status for any other reason.
 NOT_THERE = (
     "No such file or directory",
     "Not a directory",

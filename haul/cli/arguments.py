@@ -16,8 +16,8 @@ class Argument:
 
     name: str
     help: str
-    # The placeholder for the value in the help, or `None` for the argument's name. A flag has no
-    # value.
+    # The placeholder for the value in the help, or `None` if it is the argument's name. A flag has
+    # no value.
     value: str | None = None
     # Reads the value. Raises `argparse.ArgumentTypeError` if it is invalid.
     read: Callable[[str], Any] = str
@@ -26,7 +26,8 @@ class Argument:
     is_flag: bool = False
     # The number of values: `?`, `*` or `+` as in a regular expression, or empty for exactly one.
     repeats: str = ""
-    # The most hauls, including those that other arguments give.
+    # The most hauls that a call may have, or `None` if the argument isn't a list of hauls; and how
+    # many of them other arguments give.
     most_hauls: int | None = None
     other_hauls: int = 0
 

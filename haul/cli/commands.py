@@ -92,7 +92,8 @@ def run_compare(asked: argparse.Namespace, streams: Streams) -> int:
 
 
 def read_counted_haul(streams: Streams, name: str | None, counts_parts: bool) -> Haul:
-    """Reads a haul. If `counts_parts` is set, its objects are replaced by their parts."""
+    """Reads a haul. Raises `Refused` for a haul of apgsearch unless `counts_parts` is set, since
+    the totals of apgsearch are by parts already."""
     haul = streams.read_haul(name)
     if haul.apgsearch and not counts_parts:
         raise Refused(
@@ -211,7 +212,8 @@ def open_files(asked: argparse.Namespace, terminal: Terminal) -> Kept:
 def run_search(asked: argparse.Namespace, streams: Streams) -> int:
     try:
         kept = open_files(asked, streams.terminal)
-        # The file of this program may be replaced while the search is running.
+        # The names are loaded now, since the file of this program may be replaced while the search
+        # is running.
         load_names()
         plan = Plan(
             find_next_soup(asked, kept.haul),

@@ -19,7 +19,7 @@ from haul.terminal import Terminal
 
 # The signals that end this program, except for those that were ignored when it was started.
 ENDING = (signal.SIGINT, signal.SIGTERM, signal.SIGHUP)
-# Takes the place of a signal when the work is done. No signal has this number.
+# The number that takes the place of a signal when the work is done. No signal has this number.
 IS_DONE = 0
 # The number that takes the place of a signal when the work begins, and how many seconds it may take
 # to begin. It begins in time if there is enough memory.
@@ -68,9 +68,9 @@ def run_heeding_signals(work: Callable[[], int]) -> int:
 
 
 def begin_thread(do: Callable[[], None], reading: int) -> None:
-    """Starts a thread whose first action is to write a byte to a pipe. Raises `MemoryError` if it
-    doesn't. If there is no memory for a thread, it ends silently, and `threading` would wait for
-    its start forever."""
+    """Starts a thread whose first action is to write a byte to a pipe. Raises `MemoryError` if no
+    byte comes in time. A thread that has no memory to begin ends silently, and `threading` would
+    wait for its start forever."""
     try:
         _thread.start_new_thread(do, ())
     except RuntimeError as error:
@@ -90,8 +90,8 @@ def open_streams() -> None:
     fail, and no file that is opened later takes its place."""
     for number, stream in enumerate((sys.stdin, sys.stdout, sys.stderr)):
         if stream is None:
-            # The lowest free number is this one. A file opened for reading can't be written, and
-            # vice versa.
+            # `os.open` takes the lowest free number, which is this one. A file opened for reading
+            # can't be written, and vice versa.
             os.open(os.devnull, os.O_WRONLY if number == 0 else os.O_RDONLY)
     if sys.stdin is None:
         sys.stdin = open(0, encoding="utf-8", closefd=False)

@@ -66,9 +66,9 @@ class Streams:
 
     @contextmanager
     def open_pattern(self, name: str | None) -> Iterator[tuple[bytes, Iterator[bytes]]]:
-        """Opens a pattern, and yields its text. If the text is coordinates, which may have any
-        number of cells, also yields its lines. Raises `OSError` if any other pattern is too
-        long."""
+        """Opens a pattern. Yields its text and no lines, or, for coordinates, which may have any
+        number of cells, the beginning of the text and all lines. Raises `OSError` if any other
+        pattern is too long."""
         with self.open_input(name) as stream:
             # mutant: equal because what is longer is refused, however much of it is read
             text = stream.read(PATTERN_LIMIT + 1)

@@ -62,7 +62,7 @@ def read_as_census(least: int, most: int) -> Callable[[str], int]:
 
 
 def read_subject(text: str) -> int | str:
-    """Reads the number of a soup or, if it isn't a number, the name of a file."""
+    """Reads the number of a soup, or the name of a file if the text isn't a number."""
     if text.removeprefix("+").isascii() and text.removeprefix("+").isdigit():
         return read_as_census(0, NUMBER_LIMIT - 1)(text)
     return read_path(text)
@@ -111,7 +111,7 @@ def read_code(text: str) -> str:
 
 
 class RuleValue(str):
-    """A rule in the form that `census` accepts, which remembers the form in which it was given."""
+    """A rule in the form that `census` accepts, with the text in which it was given."""
 
     given: str
 

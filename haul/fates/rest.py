@@ -42,7 +42,7 @@ class Rest:
 
 @dataclass
 class Recurring:
-    """A group that recurs: its phases, and how far it has moved when the first one recurs."""
+    """A group that recurs: its phases, and how far it has moved when the first phase recurs."""
 
     phases: list[set[int]]
     move: int
@@ -133,8 +133,8 @@ def pass_on(owners: dict[int, int], change: Change) -> bool:
 
 def is_recognised(rule: Rule, one: Recurring, most: int) -> bool:
     """Checks whether a census would recognise a group as objects. It does if, in one of the group's
-    phases, each cluster recurs soon enough when it is run alone, and does what it does in the
-    group."""
+    phases, each cluster recurs soon enough when it is run alone, and evolves alone as it does in
+    the group."""
     phases = one.phases
     for place in range(min(one.period(), PERIOD)):
         wanted = [*phases[place:], *({c + one.move for c in phase} for phase in phases[:place])]

@@ -25,8 +25,8 @@ class BadHaul(Exception):
 
 
 class FieldReader:
-    """Reads an input line by line, and each line field by field. Keeps the current line, its
-    fields, and how many of these have been read."""
+    """Reads an input line by line, and each line field by field. Keeps the number of the current
+    line, its fields, and how many of these have been read."""
 
     def __init__(self, stream: IO[bytes]) -> None:
         self.stream = stream

@@ -7,7 +7,7 @@ from dataclasses import KW_ONLY, dataclass, field
 
 from haul.formats.profile import Profile
 
-# The symmetry of asymmetric soups. `census` runs no others.
+# The symmetry of asymmetric soups. `census` runs no other soups.
 SYMMETRY = "C1"
 # Every soup has a number below this.
 NUMBER_LIMIT = 2**40

@@ -1,4 +1,4 @@
-"""Indexes: the SHA-256 of each haul of a census in parts, so that anyone can check some of the
+"""Indexes: the SHA-256 of the haul of each part of a census, so that anyone can check some of the
 parts."""
 
 from __future__ import annotations

@@ -1,5 +1,5 @@
-"""Checks a haul of apgsearch: either its samples, one by one, or its totals, with a census of as
-many soups."""
+"""Checks a haul of apgsearch: either its samples, one by one, or its totals, by comparing them with
+a census of the same number of soups."""
 
 from __future__ import annotations
 
@@ -43,7 +43,7 @@ class ApgsearchCheck:
         self.rule = read_rule(haul.job.rule)
 
     def find_wrong_samples(self) -> Iterator[str]:
-        """Yields the samples whose soup leaves no part with the code."""
+        """Yields a message for each sample whose soup leaves no part with the sample's code."""
         samples = {
             code: numbers for code, numbers in self.haul.samples.items() if self.is_known(code)
         }
@@ -59,13 +59,14 @@ class ApgsearchCheck:
                     yield f"{code}: soup {number} leaves no such part"
 
     def list_unchecked(self) -> list[str]:
-        """Returns the codes whose samples aren't checked, because `census` doesn't count such
+        """Returns the codes whose samples aren't checked, because `census` doesn't count their
         objects."""
         return [code for code in self.haul.samples if not self.is_known(code)]
 
     def find_other_totals(self, first: int, workers: int) -> Iterator[str]:
-        """Takes the census of as many soups as the haul has, from soup `first` on. Yields each code
-        whose total by parts differs, with the reason if it is known."""
+        """Takes the census of as many soups as the haul has, from soup `first` on. Yields a message
+        for each code whose total by parts differs, with the reason if it is known. Raises
+        `CantCheck` if `census` can't run soups with such high numbers."""
         if first + self.haul.soups > NUMBER_LIMIT:
             raise CantCheck("census can't run so many soups")
         job = self.haul.job

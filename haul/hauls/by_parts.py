@@ -20,8 +20,8 @@ from haul.terminal import Terminal
 
 # The progress line is updated after this many objects.
 OBJECTS_BETWEEN_PROGRESS = 500
-# If there are at least `MANY_OBJECTS` objects, they are separated in processes of their own, each
-# of which separates about `OBJECTS_IN_A_SHARE`. With fewer objects, this wouldn't save time.
+# If there are at least `MANY_OBJECTS` objects, child processes separate them, in shares of about
+# `OBJECTS_IN_A_SHARE` objects. With fewer objects, this wouldn't save time.
 MANY_OBJECTS, OBJECTS_IN_A_SHARE = 6000, 3000
 
 
@@ -56,13 +56,13 @@ class Objects:
     def separate_here(self, codes: list[str]) -> None:
         for done in range(0, len(codes), OBJECTS_BETWEEN_PROGRESS):
             self.show_progress(done, codes)
-            # 2 mutants: equal because each object is separated once
+            # 2 mutants: equal because no object is separated twice
             for code in codes[done : done + OBJECTS_BETWEEN_PROGRESS]:
                 self.separate(code)
 
     def separate_apart(self, codes: list[str]) -> None:
         """Separates objects with all processors. Neighbours in the list are often alike and take a
-        similar time, so each share has some from everywhere."""
+        similar time, so each share has objects from all places of the list."""
         number = -(-len(codes) // OBJECTS_IN_A_SHARE)
         shares = [codes[place::number] for place in range(number)]
         self.show_progress(0, codes)
@@ -76,7 +76,7 @@ class Objects:
                 self.show_progress(done, codes)
 
     def separate_share(self, codes: list[str]) -> list[Separation]:
-        """Separates objects in a process of its own, or in this one if there can't be another."""
+        """Separates objects in a child process, or in this process if no child can be started."""
         with suppress(OSError):
             return work_apart(partial(self.separate_list, codes))
         return self.separate_list(codes)

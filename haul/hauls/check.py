@@ -43,7 +43,8 @@ def take_set(census: Census, job: Job, ranges: list[Range], workers: int) -> Hau
 
 
 def list_differences(haul: Haul, right: Haul) -> Iterator[str]:
-    """Yields what is wrong in a haul, in the order of its lines. `right` is the correct haul."""
+    """Yields a message about each fault of a haul, in the order of its lines. `right` is the
+    correct haul."""
     for line, (is_so, should_be) in enumerate(
         zip(format_header(haul), format_header(right), strict=True), haul.line
     ):
@@ -71,7 +72,8 @@ def describe_difference(line: int, is_so: str, should_be: str) -> str:
 
 
 def find_wrong_samples(census: Census, haul: Haul) -> Iterator[str]:
-    """Yields the samples whose soup leaves no object with the code, in the order of the haul."""
+    """Yields a message for each sample whose soup leaves no object with the sample's code, in the
+    order of the haul."""
     left = find_codes_left(census, haul)
     for line, (code, numbers) in enumerate(haul.samples.items(), haul.first_sample_line()):
         for number in numbers:

@@ -1,5 +1,5 @@
-"""A random choice of files to check, which anyone can repeat, with a measure of how much it
-shows."""
+"""A random choice of files to check, which anyone can repeat, and the probability that it misses
+all wrong files."""
 
 from __future__ import annotations
 
@@ -11,21 +11,20 @@ from math import comb
 from haul.plurals import pluralize, write_count
 
 CHOICE_LENGTH = 12
-# The line about a choice assumes that one file in this number is wrong.
+# The probability is computed for the case that one file in this many is wrong.
 FILES_FOR_ONE_WRONG = 100
 
 
 class FileChoice:
-    """A choice of `number` files or parts. It consists of those with the lowest SHA-256 of the text
+    """A choice of `number` files or parts: those with the lowest SHA-256 digests of the text
     `choice`, a space and the name."""
 
     def __init__(
         self, files: list[str], number: int, choice: str | None, thing: str = "file"
     ) -> None:
-        """Chooses `number` of the files, of which there are at least as many. If `choice` is
-        `None`, it is drawn at random."""
+        """Prepares a choice among the files, of which there must be at least `number`. If `choice`
+        is `None`, a random text is drawn. `thing` is the noun for a file in messages."""
         self.files = files
-        # The noun for what is chosen.
         self.thing = thing
         self.number = number
         self.choice = choice or "".join(
@@ -55,10 +54,11 @@ class FileChoice:
 
 
 def count_wrong_files(files: int) -> int:
-    """Returns how many files are wrong if one file in `FILES_FOR_ONE_WRONG` is, rounded up."""
+    """Returns how many files are wrong if one in `FILES_FOR_ONE_WRONG` is, rounded up."""
     return -(-files // FILES_FOR_ONE_WRONG)
 
 
 def compute_chance_to_miss(files: int, number: int) -> float:
-    """Returns the probability that no chosen file is wrong (hypergeometric distribution)."""
+    """Returns the probability that none of `number` chosen files is wrong, if
+    `count_wrong_files(files)` of the files are (hypergeometric distribution)."""
     return comb(files - count_wrong_files(files), number) / comb(files, number)

@@ -1,4 +1,4 @@
-"""Makes the index of a census in parts from its hauls."""
+"""Makes the index of a census in parts from the hauls of the parts."""
 
 from __future__ import annotations
 
@@ -18,7 +18,8 @@ class Indexing:
         self.parts: dict[Range, str] = {}
 
     def add(self, haul: Haul) -> None:
-        """Adds a haul. Raises `CantIndex` if it isn't a part of this job."""
+        """Adds a haul. Raises `CantIndex` if it has another job than the hauls before it, isn't the
+        complete haul of one range, or shares a soup with another haul."""
         if self.job is not None and haul.job != self.job:
             raise CantIndex("other job")
         if haul.apgsearch:

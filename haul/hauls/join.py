@@ -1,7 +1,7 @@
 """Joins hauls of one job whose sets have no soup in common into the haul of the union of the sets.
 
 If each haul is right, so is the joined one. Its totals are the sums of the totals of disjoint sets,
-and the three lowest samples of a code in the union are among the three lowest of each set.
+and each of the three lowest samples of a code in the union is one of the three lowest in its set.
 """
 
 from __future__ import annotations
@@ -18,8 +18,8 @@ class CantJoin(Exception):
 class Joining:
     """The hauls that have been joined so far.
 
-    If a haul can't be joined, only its line is noted at first, since a later text may not be a haul
-    at all, and that fault is reported first.
+    If a haul can't be joined, `add` only notes a message, since a later text may not be a haul at
+    all, and then that fault is reported instead.
     """
 
     def __init__(self) -> None:
@@ -31,15 +31,15 @@ class Joining:
         self.for_good = 0
         self.totals: dict[str, int] = {}
         self.samples: dict[str, list[int]] = {}
-        # Messages about the first haul that has another job, lacks soups, or shares a soup with a
-        # haul before it.
+        # Messages about the first haul that has another job, the first haul that lacks soups, and
+        # the first haul that shares a soup with a haul before it.
         self.other_job: str | None = None
         self.missing: str | None = None
         self.overlap: str | None = None
 
     def add(self, haul: Haul, place: str = "") -> None:
-        """Joins a haul to those so far. `place` is written before the haul's line in messages if
-        the haul is in a file."""
+        """Joins a haul to those so far. Messages about the haul begin with `place`, which names its
+        file."""
         if self.job is None:
             self.job = haul.job
         elif haul.job != self.job:
@@ -62,8 +62,8 @@ class Joining:
         first, end = range_[0], range_[0] + range_[1]
         # mutant: equal because a range with the same first number overlaps on either side
         place = bisect_right(self.ranges, (first, 0))
-        # The range before `place` begins before `first`. Those from `place` on begin at `first` or
-        # later.
+        # The range before `place` begins before `first`. The ranges from `place` on begin at
+        # `first` or later.
         if (
             place > 0
             and sum(self.ranges[place - 1]) > first

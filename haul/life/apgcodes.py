@@ -14,7 +14,7 @@ from haul.life.generations import Recurrence
 SIDE_OF_TEXT = 40
 
 # The characters of the extended Wechsler format. Each of the first 32 is a column of a strip, which
-# is five rows high. The lists are the column's live rows.
+# is five rows high. `ROWS_OF_COLUMN` has the live rows of each column.
 CHARACTERS = "0123456789abcdefghijklmnopqrstuvwxyz"
 STRIP = 5
 ROWS_OF_COLUMN = {
@@ -28,8 +28,8 @@ LEAST_LONG_RUN = 4
 
 
 def read_wechsler(text: str) -> Cells | None:
-    """Reads a text in extended Wechsler format. Returns `None` if it isn't one, has no live cells,
-    or is larger than `SIDE`."""
+    """Reads a text in extended Wechsler format. Returns `None` if it isn't in this format, has no
+    live cells, or has more than `SIDE` columns or rows."""
     cells: list[Cell] = []
     x = top = 0
     characters = iter(text)

@@ -28,8 +28,8 @@ CORNER = MARGIN * STRIDE + MARGIN
 ROW = (1 << STRIDE) - 1
 # Half of the rows that a room may have, half of these, and so on.
 HALVES = (32, 16, 8, 4, 2, 1)
-# The cells in a column of a code.
-# mutant: equal because what is read is moved to the corner
+# The live cells of each column in a code, as bits.
+# mutant: equal because a pattern that is read is moved to the corner
 COLUMNS = {
     character: sum(1 << STRIDE * row for row in rows) for character, rows in ROWS_OF_COLUMN.items()
 }
@@ -63,8 +63,9 @@ def read_bitmap(text: str) -> int | None:
 
 
 def list_cells(bits: int) -> Cells:
-    """Returns the cells of a pattern at the corner. Their bounding box begins at (0, 0)."""
-    # mutant: equal because the letter in front of the digits isn't a 1
+    """Returns the cells of a pattern at the corner, moved so that their bounding box begins at
+    (0, 0)."""
+    # mutant: equal because the prefix `0b` has no 1
     return frozenset(
         [
             (place % STRIDE - MARGIN, place // STRIDE - MARGIN)
@@ -75,7 +76,7 @@ def list_cells(bits: int) -> Cells:
 
 
 def find_corner(bits: int) -> int:
-    """Returns the number of the cell at the top left corner of a pattern's bounding box."""
+    """Returns the place of the bit for the top left corner of a pattern's bounding box."""
     top = find_lowest(bits) // STRIDE * STRIDE
     return top + find_lowest(join_rows(bits))
 
@@ -86,14 +87,14 @@ def find_lowest(bits: int) -> int:
 
 
 def join_rows(bits: int) -> int:
-    """Returns the columns that have a live cell."""
+    """Returns the columns that have a live cell, as the bits of one row."""
     for rows in HALVES:
         bits |= bits >> STRIDE * rows
     return bits & ROW
 
 
 def shift(bits: int, move: int) -> int:
-    # 2 mutants: equal because a move by nothing is the same to both sides
+    # 2 mutants: equal because a shift by 0 bits is the same in both directions
     return bits << move if move >= 0 else bits >> -move
 
 
@@ -102,8 +103,8 @@ def shift_to_corner(bits: int) -> int:
 
 
 def find_move(one: int, other: int) -> int | None:
-    """Returns the number of bits by which a pattern has moved to become the other one, or `None` if
-    the other one isn't the same pattern moved."""
+    """Returns the number of bits by which the pattern `one` must be shifted to become `other`, or
+    `None` if no shift does that."""
     if one == other:
         return 0
     if one.bit_count() != other.bit_count():
@@ -126,14 +127,14 @@ def make_room(columns: int, rows: int) -> int:
 
 
 def advance(rule: Rule, bits: int) -> int:
-    """Returns the next generation of a pattern in its room. It may have cells one step outside of
-    the room.
+    """Returns the next generation of a pattern in its room. The next generation may have cells one
+    step outside of the room.
 
     Each bit of the numbers below is about the neighbours of one cell. The bits at the cell's place
     in `ones`, `twos`, `fours` and `eights` are the binary digits of its number of live neighbours.
     """
     beside, both = bits << 1 ^ bits >> 1, bits << 1 & bits >> 1
-    # The counts of rows of three: the cell and those beside it.
+    # The number of live cells in each row of three: a cell and the two cells beside it.
     row_ones, row_twos = beside ^ bits, both | beside & bits
     above, below = row_ones << STRIDE, row_ones >> STRIDE
     odd = above ^ below
@@ -149,7 +150,7 @@ def advance(rule: Rule, bits: int) -> int:
 
 def select(digits: tuple[int, ...], counts: frozenset[int]) -> int:
     """Returns the places at which the number with these binary digits is one of the counts. If 0 is
-    a count, the result is a negative number, which has all places from some place on."""
+    a count, the result is a negative number: all its bits from some place on are 1."""
     found = 0
     for count in counts:
         # mutant: equal because the cell (0, 0), which is bit 0, is dead in each pattern
@@ -167,8 +168,8 @@ def grow(bits: int) -> int:
 
 
 def find_islands(phases: list[int]) -> list[int]:
-    """Returns the islands of an object by their cells in phase 0, as `clusters.find_islands`
-    does."""
+    """Returns the islands of an object, each given by its cells in phase 0, as
+    `clusters.find_islands` does."""
     left, islands = phases[0], []
     while left:
         # mutant: equal because the cell (0, 0), which is bit 0, is dead in each pattern

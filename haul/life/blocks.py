@@ -12,7 +12,7 @@ from haul.life.generations import Recurrence, Rule, advance
 # For an object with more islands than this, only the separation into single islands is tried, since
 # there are too many others.
 MOST_ISLANDS = 10
-# Islands of an object, by their places in its list of islands.
+# A set of islands, given by their places in the object's list of islands.
 Block = frozenset[int]
 
 
@@ -71,14 +71,14 @@ class Blocks:
         of the islands in `left`."""
         if not left:
             if self.is_separation(runs):
-                # mutant: equal because a part has its code in each phase
+                # mutant: equal because every phase of a part has the same code
                 yield [run[0] for run in runs]
             return
         first, *others = sorted(left)
         for size in range(len(left)):
             for more in combinations(others, size):
                 block = frozenset((first, *more))
-                # mutant: equal because the whole object counts as a separation all the same
+                # mutant: equal because the whole object counts as a separation anyway
                 run = self.run(block) if len(block) < len(self.islands) else None
                 if run is not None:
                     yield from self.completed([*runs, run], left - block)
@@ -117,12 +117,12 @@ class Blocks:
         )
 
     def checked(self, run: Run, placed: Iterator[Cells]) -> list[Cells] | None:
-        """Returns the generations of a block, which are in their true place in `placed`. Returns
-        `None` if the block has a live cell that the object doesn't have, doesn't recur with the
-        object, or is a cluster in no phase."""
+        """Returns the generations of a block as a list. `placed` yields them at the block's place
+        in the object. Returns `None` if the block has a live cell that the object doesn't have,
+        doesn't recur with the object, or is a cluster in no phase."""
         generations: list[Cells] = []
         for together, alone in zip(self.generations, placed, strict=True):
-            # mutant: equal because a block that is the whole object leaves no cell to others
+            # mutant: equal because a block that is the whole object leaves no cell for other blocks
             if not alone <= together:
                 return None
             generations.append(alone)

@@ -45,8 +45,8 @@ class Sample:
 
 
 def read_sample(name: str) -> Sample:
-    """Reads the name of a sample, or the address of its page. Raises `BadSample` if it can't be
-    shown."""
+    """Reads the name of a sample, or the address of its page. Raises `BadSample` if the sample
+    can't be shown."""
     address = ADDRESS.match(name)
     words = unquote(name[address.end() :]).rstrip("/") if address else name
     sample, rule = split_rule(words)
@@ -60,8 +60,8 @@ def read_sample(name: str) -> Sample:
 
 
 def split_rule(words: str) -> tuple[str, str | None]:
-    """Returns a sample and the rule that follows it as the third of three words, or `None` if there
-    is no rule."""
+    """Splits a sample from the rule that may follow it. A rule is the third of three words between
+    slashes. Returns the sample, and the rule or `None`."""
     parts = words.split("/")
     rule = parse_rule(parts[2]) if len(parts) == 3 else None
     return ("/".join(parts[:2]), rule) if rule is not None else (words, None)

@@ -30,14 +30,14 @@ def find_islands(phases: list[Cells]) -> list[Cells]:
 
 
 def is_cluster(cells: Cells) -> bool:
-    """Checks whether steps of at most two cells in any direction connect all live cells. There must
-    be at least one live cell."""
+    """Checks whether steps of at most two cells in any direction connect all live cells. Returns
+    `False` if there are no live cells."""
     left, edge = set(cells), list(cells)[:1]
     left.difference_update(edge)
     while edge and left:
         x, y = edge.pop()
         reached = left.intersection(
-            # 2 mutants: equal because it goes to both sides
+            # 2 mutants: equal because the offsets are symmetric
             [(x + dx, y + dy) for dx in (-2, -1, 0, 1, 2) for dy in (-2, -1, 0, 1, 2)]
         )
         left -= reached

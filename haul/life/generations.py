@@ -1,7 +1,7 @@
 """Life-like rules on sets of cells: generations, and patterns that recur.
 
-These are the definitions of docs/PROFILE.md in plain code. They aren't proved. The tests compare
-each function with `census`.
+These are the definitions of docs/PROFILE.md in plain code. They aren't proved, but the tests
+compare them with `census`.
 """
 
 from __future__ import annotations

@@ -3,7 +3,7 @@ docs/HAUL-DETAILS.md.
 
 Two cells are in the same group if they are near one another in the same generation or in successive
 generations, or if a chain of such cells links them. A stay is an unbroken range of generations in
-which a cell is alive. All of it belongs to the same group.
+which a cell is alive. A whole stay belongs to one group.
 """
 
 from __future__ import annotations
@@ -17,7 +17,7 @@ from haul.life.generations import Rule
 
 # The first and the last generation of a stay.
 Stay = tuple[int, int]
-# Half of the offsets to cells nearby, since each pair of cells is looked at only once.
+# Half of the offsets to cells nearby, so that each pair of cells is compared only once.
 HALF_OF_NEAR = tuple(step for step in NEAR if step > 0)
 
 

@@ -26,7 +26,8 @@ class Separation:
 
     # The codes of the parts, in ASCII order.
     parts: tuple[str, ...]
-    # An object that isn't separated counts as its only part, though it may have several.
+    # `False` if the object couldn't be separated. Then `parts` has the object itself, though it may
+    # have several parts.
     is_separated: bool = True
 
     def is_strict(self) -> bool:
@@ -44,7 +45,7 @@ class Separator:
         # islands.
         self.runs: dict[Cells, Run] = {}
         self.quick = QuickSeparator(rule)
-        # The codes of parts that were found quickly.
+        # The codes of parts that `QuickSeparator` found, by their bits.
         self.quickly_known: dict[int, str] = {}
 
     def count_runs(self) -> int:
@@ -62,8 +63,7 @@ class Separator:
         return self.separate_quickly(code) or self.separate_by_definition(code)
 
     def separate_quickly(self, code: str) -> Separation | None:
-        """Returns the parts of a small object, or `None` if it isn't small, or isn't what its code
-        says."""
+        """Returns the parts of an object, or `None` if `QuickSeparator` gives up on it."""
         found = self.quick.separate(code)
         return None if found is None else Separation(min(map(self.quick_codes, found)))
 
@@ -86,7 +86,8 @@ class Separator:
 
     def most_parts(self, blocks: Blocks) -> list[Cells] | None:
         """Returns the parts of the separation with the most blocks, or `None` if there are too many
-        islands to search for it."""
+        islands to try all separations. If several separations have the most blocks, the one with
+        the lowest codes is chosen."""
         if len(blocks.islands) > MOST_ISLANDS:
             return None
         found = [*blocks.list_separations(), [blocks.object]]
@@ -106,16 +107,15 @@ class Separator:
 
 
 def is_counted(rule: Rule, code: str) -> bool:
-    """Checks whether `census` counts objects of a code. It does if the code draws an object whose
-    cells are one cluster in some phase."""
+    """Checks whether `census` counts objects with this code. It does if the code draws an object
+    whose cells are one cluster in some phase."""
     recurrence = read_object(rule, code)
     return recurrence is not None and any(map(is_cluster, recurrence.phases))
 
 
 def read_object(rule: Rule, code: str) -> Recurrence | None:
-    """Returns the phases of the object that a code draws. The drawing is phase 0. Returns `None` if
-    the code draws nothing, or if the pattern doesn't recur with the kind and the number of the
-    prefix."""
+    """Returns how the object that a code draws recurs. The drawing is phase 0. Returns `None` if
+    the code draws nothing, or if the drawn pattern doesn't recur as the code's prefix says."""
     text, known = read_drawing(code), read_kind(code)
     cells = read_wechsler(text) if text is not None else None
     if known is None or cells is None or known.period() > MOST_PERIOD:

@@ -1,6 +1,6 @@
-"""A quick way to separate small objects, with patterns as bits of numbers. It follows the definition
-as `Blocks` does, and finds the same parts. It gives up on large objects, and on those that aren't
-what their codes say."""
+"""A quick way to separate small objects, with patterns as bits of numbers. It follows the
+definition as `Blocks` does, and finds the same parts. It gives up on large objects, and on objects
+that don't recur as their codes say."""
 
 from __future__ import annotations
 
@@ -41,8 +41,8 @@ class QuickSeparator:
 
     def separate(self, code: str) -> list[list[int]] | None:
         """Returns those separations of an object that have the most parts, each part moved to the
-        corner. If the object's islands are its parts, there is no other separation. Returns `None`
-        if it gives up."""
+        corner. If each island is a part, only that separation is returned. Returns `None` if it
+        gives up."""
         text, kind = read_drawing(code), read_kind(code)
         bits = read_bitmap(text) if text is not None else None
         if bits is None or kind is None or not 1 <= kind.period() <= MOST_PERIOD:
@@ -83,7 +83,7 @@ class QuickSeparator:
             if alone is None or alone[1] != move:
                 return None
             shapes.append(shape)
-            # An island isn't above or to the left of the object's corner.
+            # The shift isn't negative, since no island begins before the object's corner.
             runs.append([phase << corner - CORNER for phase in alone[0]])
         return shapes if is_separation(generations, runs) else None
 
@@ -118,21 +118,22 @@ class QuickBlocks:
         of the islands in `left`."""
         if not left:
             if is_separation(self.generations, runs):
-                # mutant: equal because a part has its code in each phase
+                # mutant: equal because every phase of a part has the same code
                 yield [run[0] for run in runs]
             return
         first, *others = sorted(left)
         for size in range(len(left)):
             for more in combinations(others, size):
                 block = frozenset((first, *more))
-                # mutant: equal because the whole object counts as a separation all the same
+                # mutant: equal because the whole object counts as a separation anyway
                 run = self.run(block) if len(block) < len(self.islands) else None
                 if run is not None:
                     yield from self.completed([*runs, run], left - block)
 
     def run(self, block: Block) -> Generations | None:
-        """Returns a block in each generation. Returns `None` if it has a live cell that the object
-        doesn't have, doesn't recur with the object, or is a cluster in no phase."""
+        """Returns the generations of a block that is run by itself. Returns `None` if it has a live
+        cell that the object doesn't have, doesn't recur with the object, or is a cluster in no
+        phase."""
         if block not in self.known:
             self.known[block] = self.run_alone(reduce(or_, (self.islands[at] for at in block)))
         return self.known[block]
@@ -151,8 +152,9 @@ class QuickBlocks:
 
 
 def is_separation(generations: Generations, runs: list[Generations]) -> bool:
-    """Checks whether blocks never have a cell in common, and together make up the object in each
-    generation. If the sum of the blocks equals their union, no two blocks have a cell in common."""
+    """Checks whether the blocks with these `runs` never have a cell in common, and together make up
+    the object in each generation. If the sum of their numbers equals their union, no two blocks
+    have a cell in common."""
     return all(
         sum(live) == together == reduce(or_, live)
         for together, *live in zip(generations, *runs, strict=True)
@@ -160,8 +162,8 @@ def is_separation(generations: Generations, runs: list[Generations]) -> bool:
 
 
 def is_of_kind(generations: Generations, kind: Kind) -> bool:
-    """Checks whether a pattern recurs after these generations, and not earlier, as its code
-    says."""
+    """Checks whether a pattern recurs in the last of these generations but not earlier, and is of
+    this kind."""
     first, *between, last = generations
     move = find_move(first, last)
     if move is None or any(find_move(first, phase) is not None for phase in between):

@@ -23,7 +23,7 @@ def find_label(code: str, separation: Separation) -> str:
 
 
 def mark_label(label: str, separation: Separation) -> str:
-    """Returns a label for a reader, with a note if the object isn't separated."""
+    """Returns a label as it is shown, with a note if the object isn't separated."""
     return (
         label
         if separation.is_separated

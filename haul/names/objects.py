@@ -1,7 +1,7 @@
 """Names of objects on LifeWiki (conwaylife.com/wiki), from the file names.tsv.
 
 The file has only names that are certain. haul/tests/pictures.txt has a picture for each of them,
-and a test has `census` name the picture.
+and a test checks that the object in the picture has the code in the file.
 """
 
 from __future__ import annotations
@@ -27,7 +27,7 @@ class Names:
     shown: dict[str, str]
     # The other names and abbreviations of each code.
     others: dict[str, tuple[str, ...]]
-    # The code of each name. The names are in the form in which they are compared.
+    # The code of each name. The names are in the form that `simplify` returns.
     codes: dict[str, str]
 
 

@@ -25,7 +25,7 @@ from haul.rarity.reference import SOUPS
 from haul.terminal import Terminal
 from haul.views.rarity import list_part_words
 
-# The words that take the place of the parts of an object that is strict or isn't separated.
+# These words replace the parts of an object that is strict, and of an object that isn't separated.
 STRICT, NOT_SEPARATED = "strict", "not separated"
 BITS = str.maketrans(".O", "01")
 # The progress line is updated after this many objects.
@@ -44,8 +44,8 @@ def describe_objects(sides: Sides, terminal: Terminal) -> list[str]:
 
 
 def write_data(sides: Sides, objects: list[str], lives: Lives | None) -> Iterator[str]:
-    """Yields the JSON, piece by piece. `objects` has the JSON of each object. No text in it can end
-    the HTML element that contains it."""
+    """Yields the JSON, piece by piece. `objects` has the JSON of each object. No text in the JSON
+    can end the HTML element that contains the JSON."""
     yield f'{{"least": {sides.least}, "play": {sides.play}, "kinds": {len(sides.kinds())}, '
     yield f'"kindsOfParts": {len(sides.kinds_of_parts())}, '
     yield f'"reference": {SOUPS if sides.has_rarity else 0}, "hauls": '
@@ -87,7 +87,8 @@ def describe_haul(side: Side) -> dict[str, object]:
 
 
 def describe_object(sides: Sides, code: str) -> dict[str, object]:
-    """Returns the data about an object. Each list has a value for each haul."""
+    """Returns the data about an object. Each list except `also` and `rarity` has a value for each
+    haul."""
     separation = sides.first_with(code).separate(code)
     of_objects = [list_counts(side.haul, code) for side in sides.all]
     of_parts = [list_counts(side.by_parts, code) for side in sides.all]
@@ -123,7 +124,7 @@ def describe_rates(sides: Sides, code: str) -> dict[str, object]:
 
 
 def shorten(number: float) -> float:
-    """Returns a number with six digits, which are more than a page shows."""
+    """Returns a number rounded to six digits, which are more than a page shows."""
     return float(f"{number:.6g}")
 
 
@@ -183,7 +184,7 @@ def encode_soup(text: str) -> str:
 
 
 def list_intervals(sides: Sides) -> dict[int, tuple[float, float]]:
-    """Returns the intervals of the totals on a page that compares hauls, by total."""
+    """Returns the interval of each total if the page compares hauls, otherwise no intervals."""
     if len(sides.all) == 1:
         return {}
     totals = {side.haul.totals.get(code, 0) for side in sides.all for code in sides.known}

@@ -20,7 +20,7 @@ from haul.page.object_table import write_table
 from haul.page.sides import make_sides
 from haul.page.summary import write_foot, write_title, write_top
 
-# In this order, since a file uses definitions of the files before it.
+# The files of the script. Each file uses definitions of the files before it.
 SCRIPTS = (
     "cells",
     "objects",
@@ -43,7 +43,7 @@ def make_page(
     census: Census, hauls: list[Haul], least: int, play: int, lives: Lives | None = None
 ) -> Iterator[str]:
     """Yields the page, piece by piece. Codes with fewer than `least` objects in each haul are left
-    out. `census` is asked when the sample soups of the first `play` objects settle. Only the page
+    out. `census` finds out when the sample soups of the first `play` objects settle. Only the page
     of a single haul may have `lives`, the section *Long lives*."""
     sides = make_sides(hauls, least, play, census.terminal)
     # All data is computed before the first byte is written, so a page is either complete or
@@ -63,5 +63,5 @@ def make_page(
 
 
 def read_file(name: str) -> str:
-    """Returns the text of a file in this file's folder."""
+    """Returns the text of a file in the folder of this module."""
     return files("haul.page").joinpath(name).read_text("utf-8")

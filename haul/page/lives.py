@@ -16,7 +16,7 @@ from haul.search.late_file import ONLY_UNSETTLED, Late, LateLine
 from haul.formats.report_lines import read_report_line
 from haul.life.drawing import draw_path
 from haul.life.soups import SOUP_SIDE, make_soup
-from haul.plurals import write_count
+from haul.plurals import pluralize, write_count
 
 # The most soups in each list: the longest-lived soups, and the unsettled soups.
 MOST_SHOWN = 20
@@ -49,7 +49,7 @@ class LongLife:
 
 @dataclass
 class Lives:
-    """The contents of the section."""
+    """The contents of the section *Long lives*."""
 
     job: Job
     late: Late
@@ -78,7 +78,7 @@ class Lives:
 
 def find_lives(census: Census, haul: Haul, late: Late) -> tuple[Lives, list[str]]:
     """Returns the contents of the section for the late soups of a haul, and messages about wrong
-    lines."""
+    lines of `late`."""
     lives = Lives(haul.job, late)
     settled = sorted(
         (line for line in late.lines if line.settled is not None),
@@ -104,8 +104,8 @@ def read_life(line: LateLine) -> LongLife:
 
 
 def find_exact_ends(fates: Fates, lives: list[LongLife]) -> Iterator[str]:
-    """Finds the exact generations in which the soups settled, and yields messages about wrong
-    lines."""
+    """Sets the exact generations in which the soups settled, and yields messages about soups whose
+    line in FILE.late is wrong."""
     census, job = fates.census, fates.job
 
     def find_end(soups: list[int]) -> tuple[int, int] | None:
@@ -148,7 +148,7 @@ def describe_life(life: LongLife) -> str:
     return f"settled in {exact} (checkpoint {life.checkpoint:,}), {objects}"
 
 
-# ---- The section
+# ---- The HTML of the section
 
 
 def write_lives(lives: Lives) -> Iterator[str]:
@@ -184,7 +184,8 @@ def write_summary(lives: Lives) -> str:
     if lives.count_unsettled() > len(lives.unsettled):
         text += f" The first {len(lives.unsettled)} of these are shown."
     if late.left_out:
-        text += f" {write_count(late.left_out, 'further soup')} of both kinds were left out."
+        were = pluralize(late.left_out, "was", "were")
+        text += f" {write_count(late.left_out, 'further soup')} of both kinds {were} left out."
     return text + " What unsettled soups leave isn’t counted among the objects below."
 
 

@@ -20,14 +20,14 @@ KINDS = {"s": "still life", "p": "oscillator of period", "q": "spaceship of peri
 CATAGOLUE = "https://catagolue.hatsya.com"
 # The most rows of the table. Browsers are slow with more.
 MOST_ROWS = 1000
-# The head of the column with what the reference says.
+# The head of the column that shows how often the reference has a part.
 IN_REFERENCE = "In the reference"
 
 
 def write_table(sides: Sides) -> Iterator[str]:
-    """Yields the table, row by row. It has the first parts that are on the page. If the reference
-    has the rarity of parts, this is shown instead of how often a single haul has a part. If there
-    are several hauls, the rarity is in a column of its own."""
+    """Yields the table, row by row. It has the first `MOST_ROWS` parts that are on the page. If the
+    reference has the rarity of the parts, the page of a single haul shows the rarity instead of how
+    often the haul has a part. The page of several hauls shows it in a column of its own."""
     is_single = len(sides.all) == 1
     style = "all" if is_single else "all compared"
     heads = ["Picture", "Name and code", "What it is", "Cells"]
@@ -85,7 +85,7 @@ def write_occurrence(code: str) -> str:
 
 
 def write_counts(side: Side, code: str, reference: str = "") -> str:
-    """Returns the cells with a haul's counts of a part. If `reference` is given, it is shown
+    """Returns the table cells with a haul's counts of a part. If `reference` is given, it is shown
     instead of how often the haul has the part."""
     haul = side.by_parts
     if code not in haul.totals:
@@ -127,7 +127,7 @@ def draw_object(code: str) -> str:
     cells = read_wechsler(text) if text is not None else None
     if cells is not None:
         return draw_picture(cells, find_name(code) or code)
-    # A haul may have a code that doesn't name an object.
+    # A haul may have a code that isn't the code of an object.
     return "too large to draw" if is_large(code) else "can't be drawn"
 
 

@@ -25,7 +25,7 @@ class Side:
     objects: Objects
     # The same haul with each object replaced by its parts.
     by_parts: Haul
-    # The sample soups about which `census` was asked, with `None` for a soup whose end isn't known.
+    # The ends of the sample soups about which `census` was asked, or `None` for an unknown end.
     ends: dict[int, End | None] = field(default_factory=dict)
 
     @property
@@ -44,8 +44,8 @@ class Side:
         return sorted({*self.haul.samples.get(code, []), *self.by_parts.samples.get(code, [])})
 
     def soups(self, codes: list[str]) -> list[int]:
-        """Returns the samples of several codes. There are none if the symmetry isn't C1, since such
-        soups can't be made."""
+        """Returns the samples of several codes, or no samples if the symmetry isn't C1, since
+        `haul` can't make the soups of another symmetry."""
         if self.haul.job.symmetry != SYMMETRY:
             return []
         return sorted({number for code in codes for number in self.samples(code)})
@@ -56,9 +56,9 @@ class Sides:
     """All hauls of a page, and the codes on it."""
 
     all: list[Side]
-    # An object is on the page if at least one haul has this many of it or more.
+    # A code is on the page if some haul has at least this many objects or parts with the code.
     least: int
-    # The number of parts and objects with sample soups about which `census` is asked.
+    # The number of parts and objects about whose sample soups `census` is asked.
     play: int
     # The objects on the page, and the parts on it, the most frequent first.
     codes: list[str]
@@ -70,8 +70,8 @@ class Sides:
         return list(dict.fromkeys([*self.codes, *self.parts]))
 
     def ask(self, census: Census) -> None:
-        """Asks `census` when the soups of the first parts settle, and then of the first objects,
-        since the page begins with parts."""
+        """Asks `census` at which checkpoints the sample soups of the first `play` codes settle. The
+        codes of parts come before the codes of objects, since the page begins with parts."""
         asked = list(dict.fromkeys([*self.parts, *self.codes]))[: self.play]
         for side in self.all:
             numbers = side.soups(asked)

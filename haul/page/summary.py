@@ -1,5 +1,5 @@
-"""The top of a page: what the page shows, as a sentence and as tiles for each haul, and how to
-verify it. Also the foot: what made the page."""
+"""The top of a page: what the page shows (a sentence and tiles about a single haul, or a table of
+several hauls) and how to verify it. Also the foot: what made the page."""
 
 from __future__ import annotations
 
@@ -19,7 +19,7 @@ MOST_RANGES = 12
 NO_NUMBER = "–"
 COUNTED = "the formally verified program <code>census</code> counted the objects that they left"
 
-# Explanations of facts about hauls that are compared, which don't depend on their profiles.
+# Explanations of facts in the table of compared hauls. They don't depend on the hauls' profiles.
 MEANINGS = {
     "of these strict": "not made of smaller objects",
     "settled for good": "proved to be at rest forever",
@@ -58,7 +58,7 @@ def write_title(sides: Sides) -> str:
 
 
 def write_top(sides: Sides) -> str:
-    """Returns the top, from the line below the title on."""
+    """Returns the top without the title."""
     is_compared = len(sides.all) > 1
     about = (
         write_comparison(sides)
@@ -89,7 +89,7 @@ def fold(summary: str, words: str) -> str:
 
 def write_comparison(sides: Sides) -> str:
     """Returns the facts about hauls that are compared, as a table with a row for each haul."""
-    # mutant: equal because all have facts of the same names
+    # mutant: equal because the facts of all hauls have the same names
     first = sides.all[0]
     heads = [
         "Haul",
@@ -119,7 +119,7 @@ def write_comparison(sides: Sides) -> str:
 
 
 def describe_counting(sides: Sides) -> str:
-    """Returns a sentence that says what counted the objects of all hauls."""
+    """Returns the end of a sentence, which says what counted the objects of each haul."""
     others = [side for side in sides.all if side.haul.apgsearch]
     words = [] if len(others) == len(sides.all) else [COUNTED]
     words += [f"{describe_apgsearch(side.haul)} ({side.letter})" for side in others]
@@ -151,7 +151,7 @@ def write_sentence(haul: Haul) -> str:
 
 
 def describe_apgsearch(haul: Haul) -> str:
-    """Returns a sentence that says what counted the objects of a haul of apgsearch."""
+    """Returns the end of a sentence, which says what counted the objects of a haul of apgsearch."""
     symmetry = (
         "" if haul.job.symmetry == SYMMETRY else f" with the symmetry {escape(haul.job.symmetry)}"
     )
@@ -182,8 +182,8 @@ def write_tiles(side: Side) -> str:
 
 
 def list_tiles(side: Side) -> list[tuple[str, str, str]]:
-    """Returns the facts about all objects of a haul, on the page or not: their names, their values,
-    and explanations where needed."""
+    """Returns the facts about a haul, each with its name, its value and an explanation or an empty
+    text. They are about all objects of the haul, on the page or not."""
     haul = side.haul
     strict = sum(side.separate(code).is_strict() for code in haul.totals)
     return [
@@ -243,7 +243,7 @@ def write_unsettled(side: Side, is_compared: bool) -> str:
 
 def write_verification(sides: Sides) -> str:
     """Returns the instructions for verifying the hauls. A haul with missing soups doesn't say which
-    ones are missing, so it can't be run again."""
+    soups are missing, so its census can't be run again."""
     hauls = [side.haul for side in sides.all]
     name, these = (
         ("all.haul", "the haul of this page")

@@ -5,8 +5,8 @@ from __future__ import annotations
 import re
 from typing import NamedTuple
 
-# The prefixes `xs4`, `xp2` and `xq4`. If an object is too large to be drawn by its code, the prefix
-# begins with `ov_` instead of `x`, and is the whole code.
+# A prefix, such as `xs4`, `xp2` or `xq4`. If an object is too large to be drawn by its code, the
+# prefix begins with `ov_` instead of `x`, and is the whole code.
 PREFIX = re.compile(r"(?:x|ov_)([spq])([0-9]+)")
 DRAWN_CODE = re.compile(r"x[spq][0-9]+_([0-9a-z]+)")
 

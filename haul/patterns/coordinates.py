@@ -13,7 +13,7 @@ Columns = dict[int, set[int]]
 # A number has at most 15 digits.
 NUMBER = rb"(0|-?[1-9][0-9]{0,14})"
 LINE = re.compile(NUMBER + rb" " + NUMBER + rb"\r?\n?")
-# The form of the first line. RLE without a header may begin with a digit, too.
+# The form of the whole first line, since RLE without a header may begin with a digit, too.
 FIRST_LINE = re.compile(rb"[\r\n]*[-0-9][-0-9 ]*(?:\r?\n|$)")
 
 
@@ -25,7 +25,7 @@ class BadCoordinates(Exception):
 
 
 def is_coordinates(text: bytes) -> bool:
-    """Checks whether the first line that isn't empty is a line of coordinates."""
+    """Checks whether the first line that isn't empty looks like a line of coordinates."""
     return FIRST_LINE.match(text) is not None
 
 
@@ -53,7 +53,7 @@ def find_column(line: bytes) -> int:
 
 def format_rle_of_cells(rows: Columns, option: str) -> Iterator[str]:
     """Yields the lines of a pattern's RLE. The first line says where the pattern is. A line never
-    ends between a count and its tag."""
+    ends between a count and its tag. The pattern must have a live cell."""
     left, right = min(min(row) for row in rows.values()), max(max(row) for row in rows.values())
     top, bottom = min(rows), max(rows)
     yield f"#CXRLE Pos={left},{top}"

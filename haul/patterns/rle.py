@@ -15,7 +15,7 @@ from haul.patterns.rules import format_rule, parse_rule
 LINE_LENGTH = 70
 # A longer count is cut to this many digits. It is still too large for live cells, and dead cells
 # are only skipped.
-# mutant: equal because what is longer is refused, however much of it is read
+# mutant: equal because a longer count is too large, however many of its digits are read
 COUNT_DIGITS = 20
 
 HEADER = re.compile(
@@ -64,7 +64,7 @@ class RleReader:
 
     def end_of_line(self) -> int:
         end = self.text.find(b"\n", self.place)
-        # 2 mutants: equal because another byte stands before that line feed
+        # 2 mutants: equal because the line feed is never the first byte of the text
         return end if end >= 0 else len(self.text)
 
     def header(self) -> str | None:
@@ -141,7 +141,7 @@ def read_rle(text: bytes) -> tuple[Rows, str | None]:
     rule = reading.header()
     while reading.run():
         pass
-    # mutant: equal because without a row, none is filled up
+    # mutant: equal because if there are no rows, no row is padded
     width = max(map(len, reading.rows), default=0)
     return [row.decode("ascii").ljust(width, ".") for row in reading.rows], rule
 

@@ -28,7 +28,7 @@ def compute_p_value(one: float, soups: int, other: float, other_soups: int) -> f
 def compute_tail(more: float, fewer: float, share: float) -> float:
     """Returns the probability of more than `more` successes in `more + fewer` trials that succeed
     with probability `share`, plus half of the probability of exactly `more`."""
-    # mutant: equal because the other tail is the smaller one if there are no more
+    # mutant: equal because the other tail is the smaller one if `more` is 0
     at_least = compute_beta(more, fewer + 1, share) if more else 1.0
     above = compute_beta(more + 1, fewer, share) if fewer else 0.0
     return (at_least + above) / 2

@@ -19,13 +19,13 @@ TINY = 1e-300
 
 
 def compute_beta(a: float, b: float, x: float) -> float:
-    """Returns the regularized incomplete beta function. The parameters are above 0. If they are
-    whole numbers, it is the probability of at least `a` successes in `a + b - 1` trials that
-    succeed with probability `x`."""
+    """Returns the regularized incomplete beta function. The parameters `a` and `b` are above 0. If
+    they are whole numbers, the result is the probability of at least `a` successes in `a + b - 1`
+    trials that succeed with probability `x`."""
     if x <= 0 or x >= 1:
         return 0.0 if x <= 0 else 1.0
-    # The fraction converges quickly only on this side of the mean.
-    # 3 mutants: equal because near the mean it converges on both sides
+    # The fraction converges quickly only below the mean.
+    # 3 mutants: equal because near the mean it converges quickly on both sides
     if x > (a + 1) / (a + b + 2):
         return 1 - compute_beta_below(b, a, 1 - x)
     return compute_beta_below(a, b, x)
@@ -64,7 +64,8 @@ def compute_gamma_tail(a: float, x: float) -> float:
 
 
 def sum_gamma_series(a: float, x: float) -> float:
-    """Returns the lower incomplete gamma function divided by its factor (8.7.1)."""
+    """Returns the regularized lower incomplete gamma function (8.7.1), divided by
+    `x**a * exp(-x) / gamma(a)`."""
     term = total = 1 / a
     for n in count(1):
         term *= x / (a + n)
@@ -81,7 +82,8 @@ def list_gamma_terms(a: float, x: float) -> Iterator[tuple[float, float]]:
 
 
 def evaluate(terms: Iterator[tuple[float, float]], first: float = 1.0) -> float:
-    """Returns the value of a continued fraction, with Lentz's algorithm."""
+    """Returns the value of a continued fraction with Lentz's algorithm. `first` is the number in
+    front of the first fraction."""
     value = above = first or TINY
     below = 0.0
     for numerator, denominator in terms:

@@ -71,7 +71,8 @@ def find_share_low(having: int, soups: int) -> float:
 @cache
 def find_beta_quantile(a: int, b: int, chance: float, deviations: float) -> float:
     """Returns the argument at which the incomplete beta function has the value `chance`, with
-    Newton's method in a shrinking interval."""
+    Newton's method in a shrinking interval. The search starts `deviations` standard deviations
+    above the mean."""
     low, high, mean = 0.0, 1.0, a / (a + b)
     # 5 mutants: equal because the search finds the same value from any start
     x = mean + deviations * sqrt(mean * (1 - mean) / (a + b + 1))

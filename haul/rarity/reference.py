@@ -29,14 +29,16 @@ DIGEST = "ec1175e92f017a496bd5884bd95b6e0bb70dcfe76f5d134a51f04095f6542149"
 class Entry:
     """The row of a part in the reference."""
 
-    # The number of objects in all soups, and the sum of the squares of the numbers in each soup.
+    # The number of these parts in all soups, and the sum of the squares of their number in each
+    # soup.
     total: int
     squares: int
-    # The number of soups that have at least one.
+    # The number of soups that have the part.
     soups: int
 
     def dispersion(self) -> float:
-        """Returns the variance of the number in a soup divided by its mean, but at least 1."""
+        """Returns the variance of the part's number in a soup divided by the mean, but at least
+        1."""
         return max(1.0, self.squares / self.total - self.total / SOUPS)
 
 

@@ -17,8 +17,8 @@ from haul.search.late_soups import BatchLines
 
 # The most workers of one call of `census take`, and of a search.
 WORKERS_OF_A_CALL, MOST_WORKERS = 16, 1024
-# If several batches run at once, up to this number of batches per running batch may have been
-# started. Finished batches wait for the batches before them.
+# If several batches run at once, the queue has at most this many batches per running batch.
+# Finished batches wait in the queue for the batches before them.
 BATCHES_FOR_EACH = 4
 
 
@@ -45,7 +45,7 @@ class Plan:
 
 @dataclass
 class Batch:
-    """A running batch: the numbers of its soups, and the call that takes them."""
+    """A batch that was started: the numbers of its soups, and the call that takes them."""
 
     first: int
     count: int
@@ -93,7 +93,7 @@ class Batches:
         return any(not batch.workers and batch.call.process.returncode for batch in self.queue)
 
     def begin(self, workers: int) -> bool:
-        """Starts the next batch. Returns `False` if there is none."""
+        """Starts the next batch. Returns `False` if no soups remain."""
         plan = self.plan
         most = plan.until - self.begun if plan.until is not None else plan.batch_size
         count = min(plan.batch_size, most, NUMBER_LIMIT - self.next)
@@ -111,7 +111,7 @@ class Batches:
 
     def take_first(self) -> Taken:
         """Removes the first batch, which must have ended, and returns its result. Raises `Ended` if
-        its call failed."""
+        its call failed, or `NoCensus` if the result isn't the haul of the batch."""
         batch = self.queue.popleft()
         if batch.workers:
             self.free.append(batch.workers)

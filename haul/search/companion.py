@@ -32,9 +32,9 @@ class Companion:
         complain: Callable[[str], None],
         is_always_there: bool = False,
     ) -> None:
-        """`path` is the path of FILE, and `name` its name in messages. Problems with this file are
-        passed to `complain` as lines. `is_always_there` means that a search always has this file,
-        whatever is in it."""
+        """`path` is the path of FILE, and `name` its name in messages. Problems with the companion
+        are passed to `complain` as lines. `is_always_there` means that a search has the companion
+        even if it has nothing to keep there."""
         self.suffix = suffix
         self.complain = complain
         self.is_always_there = is_always_there

@@ -46,7 +46,8 @@ class FindCalls:
         return [*([self.arguments] if self.running is not None else []), *self.waiting]
 
     def step(self) -> None:
-        """Starts the next call, or checks whether the running one has ended."""
+        """Starts the next call if none is running. Otherwise checks whether the running call has
+        ended, and ends it after `MOST_SECONDS`."""
         if self.running is None and self.waiting:
             self.begin(self.waiting.popleft())
         elif self.running is not None and self.running.is_ended():

@@ -23,8 +23,8 @@ from haul.life.parts import Separator
 from haul.names.objects import find_name
 from haul.rarity.reference import SOUPS, find_occurrence, is_covered, load_reference
 
-# The separator remembers the islands that it has run. After this many, it forgets them and the
-# codes of parts, since a search may go on for weeks.
+# The separator remembers the islands that it has run. After this many islands, it forgets them and
+# the codes of parts to save memory, since a search may go on for weeks.
 # mutant: equal because one more remembered run doesn't change what is printed
 MOST_RUNS = 20_000
 
@@ -43,7 +43,7 @@ class Find:
 
     def fields(self, job: Job) -> list[str]:
         """Returns the fields of the line about a find: the time, the code, the name or `-`, the
-        soup, a command that shows it, and its rarity in the reference or `-`."""
+        soup, a command that shows the soup, and the rarity of the part in the reference or `-`."""
         return [
             format_time(),
             self.code,
@@ -56,7 +56,7 @@ class Find:
 
 @dataclass
 class NewCodes:
-    """The codes that a batch brought for the first time, until their finds are known."""
+    """The codes that were new in a batch, until the finds among their parts are known."""
 
     # The first soup of the batch.
     first: int
@@ -85,8 +85,8 @@ class Unread:
         return kind in self.codes and code in self.codes[kind]
 
     def holders(self, parts: Iterable[str]) -> list[set[str]]:
-        """Returns the nonempty sets of all objects that can have one of these parts beside other
-        parts."""
+        """Returns the objects that can have one of these parts beside other parts, as one nonempty
+        set for each kind of object."""
         kinds = {kind for part in parts if (kind := read_kind(part)) is not None}
         return [
             codes
@@ -118,19 +118,19 @@ def list_common_parts(rarer: int) -> frozenset[str]:
 class Finder:
     """Looks for finds, one object at a time, so that the search can do other things in between.
 
-    Objects that were in the file at first are separated only when one of them might have a part
-    that looks new. A part that is itself an object of the file isn't new, which is known without
-    separating anything. Most parts are such objects.
+    Objects that were in the file at the start are separated only if one of them might have a part
+    that looks new. Most parts are themselves objects of the file, so they aren't new, and nothing
+    has to be separated.
     """
 
     def __init__(self, job: Job, haul: Haul, rarer: int, first: int = NUMBER_LIMIT) -> None:
-        """Looks for parts that, under Life, fewer than one in `rarer` soups of the reference has.
-        The objects of the haul that no soup before `first` left haven't been examined yet."""
+        """Under Life, a part isn't common if fewer than one in `rarer` soups of the reference has
+        it. The objects of the haul that no soup before `first` left haven't been examined yet."""
         new = [(code, soups[0]) for code, soups in haul.samples.items() if soups[0] >= first]
         self.separator = Separator(read_rule(job.rule))
         self.common = list_common_parts(rarer) if job.rule == LIFE else frozenset()
         # Under another rule or profile, the finds of the first batch aren't reported, since almost
-        # every part in it would be one.
+        # every part in that batch would be a find.
         self.is_silent = (job.rule != LIFE or job.profile != STANDARD) and haul.soups == 0
         # Objects that aren't new, and whose parts aren't known yet.
         self.unread = Unread(haul.totals.keys() - {code for code, _ in new})
@@ -162,8 +162,8 @@ class Finder:
         return not self.queue
 
     def step(self) -> list[Find]:
-        """Separates one object. Returns the finds of a batch if this was its last object, otherwise
-        an empty list. The queue mustn't be empty."""
+        """Separates at most two objects. Returns the finds of a batch if nothing more has to be
+        separated for the batch, otherwise an empty list. The queue mustn't be empty."""
         first = self.queue[0]
         if first.codes:
             code, soup = first.codes.popleft()
@@ -184,8 +184,9 @@ class Finder:
         )
 
     def is_new(self, part: str) -> bool:
-        """Checks whether a part is neither common nor known, and isn't an object that was there
-        before. Such an object has no parts but itself, since a part has no further parts."""
+        """Checks whether a part is neither common nor known, and isn't itself an unread object. An
+        unread object with the part's code is its own only part, since a part can't be separated
+        further."""
         return part not in self.common and part not in self.known and part not in self.unread
 
     def parts_of(self, code: str) -> tuple[str, ...]:

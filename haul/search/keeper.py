@@ -35,7 +35,8 @@ class CantKeep(Exception):
 
 
 class Displaced(OSError):
-    """Raised if another program has changed the file. The haul has been written beside it."""
+    """Raised if another program has changed the file. The haul has been written to another file
+    beside it."""
 
 
 class Beside(NamedTuple):
@@ -57,7 +58,7 @@ class Keeper:
     def __init__(self, name: str) -> None:
         """Locks the file. Raises `CantKeep` if it is locked or isn't a regular file."""
         self.name = name
-        # Links are resolved, so that a file with two names is locked only once.
+        # Symbolic links are resolved, so that a file and a link to it have the same lock.
         self.path = os.path.realpath(name) if os.path.islink(name) else name
         self.refuse_other_files()
         # Identifies the file as it was last read or written here. `None` if there was no file.
@@ -97,9 +98,9 @@ class Keeper:
         return haul
 
     def write(self, haul: Haul, beside: Sequence[Beside] = ()) -> None:
-        """Replaces the file, after the files beside it that have changed. The file keeps its old
-        text until the new text is safely on disk, even if this fails with `OSError`. Raises
-        `Displaced` if another program has changed the file since it was last read or written
+        """Replaces the files beside the file that have changed, and then the file itself. The file
+        keeps its old text until the new text is safely on disk, even if this fails with `OSError`.
+        Raises `Displaced` if another program has changed the file since it was last read or written
         here."""
         self.refuse_changes(haul, beside)
         with write_new_text(self.path, write_lines(haul), self.path) as stamp:
@@ -119,8 +120,9 @@ class Keeper:
             raise Displaced(errno.ESTALE, reason, self.name)
 
     def write_mine(self, haul: Haul, beside: Sequence[Beside]) -> str:
-        """Writes a haul to FILE.mine (or if that exists, to FILE.mine.2 and so on), and also the
-        files beside it, which are kept there from now on. Returns the name of the file."""
+        """Writes a haul to FILE.mine (or if that exists, to FILE.mine.2 and so on). The files in
+        `beside` are written beside that file, where they are kept from now on. Returns the path of
+        the haul."""
         for number in itertools.count(1):
             end = ".mine" + (f".{number}" if number > 1 else "")
             name = self.path + end

@@ -39,7 +39,7 @@ class Late:
 
     # The first generation that is late.
     generation: int
-    # The first soup that is covered.
+    # The first soup that the file covers.
     since: int
     # The number of lines that were left out.
     left_out: int = 0

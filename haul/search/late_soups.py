@@ -16,9 +16,9 @@ from haul.search.finds import format_time
 from haul.search.keeper import CantKeep
 from haul.search.untold import is_in
 
-# The value of `--late` that means that no late soups are kept.
+# Stands for `--late never`: no late soups are kept.
 NEVER = -1
-# The default first generation that is late, under Life.
+# The default of `--late` under Life: the first generation that is late.
 USUAL_LATE = 12_000
 UNSETTLED, SETTLED = "unsettled", "settled"
 
@@ -54,8 +54,8 @@ def open_late(
 
 
 def find_other_file(late: Late, job: Job | None, haul: Haul, next_soup: int) -> str | None:
-    """Returns why the lines can't be about soups of a haul, or `None` if they can be. A search that
-    was killed may have written lines of soups that follow the haul's."""
+    """Returns why the lines can't be about soups of a haul, or `None` if they can be. There may be
+    lines of soups after the haul, since a search that was killed may have written them."""
     if job not in (None, haul.job):
         return "other job"
     for line in late.lines:

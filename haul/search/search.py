@@ -54,7 +54,7 @@ NewOfBatch = tuple[int, list[tuple[str, int]]]
 
 
 class Dropped(Exception):
-    """Raised if a signal ends the search without the running batches."""
+    """Raised if a signal ends the search at once, so that the running batches are lost."""
 
 
 @dataclass
@@ -88,10 +88,10 @@ class Search:
         self.joining = Joining()
         self.joining.add(haul)
         self.objects = haul.objects()
-        # The number of soups in finished batches.
+        # The number of soups in the batches that this search has finished.
         self.run_soups = 0
-        # The new codes of the batches that aren't in the file yet, and the fields of the lines to
-        # report about their late soups.
+        # The new codes of the batches that aren't in the file yet, and the fields of the lines
+        # about the late soups of these batches.
         self.unkept: list[NewOfBatch] = []
         self.unkept_late: list[list[str]] = []
         self.waiter = StreamWaiter()
@@ -171,7 +171,8 @@ class Search:
     # ---- The files
 
     def may_keep(self) -> bool:
-        """Checks whether there is time to write the file."""
+        """Checks whether the file may be written now without spending too much time on writing, or
+        must be written anyway."""
         running = time.monotonic() - self.began
         return (
             self.writing + self.latest_writing
@@ -184,8 +185,8 @@ class Search:
         )
 
     def keep(self) -> None:
-        """Writes the finished batches that aren't in the file yet. Then has their objects examined
-        for finds."""
+        """Writes the finished batches that aren't in the file yet. Then queues their objects to be
+        examined for finds."""
         if not self.unkept:
             return
         began = time.monotonic()
@@ -221,7 +222,8 @@ class Search:
         return Untold(self.job, min(since, default=NUMBER_LIMIT), self.telling.list_untold() + late)
 
     def keep_untold(self) -> None:
-        """Writes down what hasn't been reported, for the next search."""
+        """Writes what hasn't been reported to FILE.finds, for the next search. Removes FILE.finds
+        if everything has been reported."""
         untold = self.list_untold([], [])
         if untold.is_empty():
             if self.kept.finds_file.known is not None:
@@ -259,8 +261,8 @@ class Search:
                 self.waiter.wait(0)
 
     def has_told(self) -> bool:
-        """Checks whether all finds have been reported, apart from calls of the program for
-        finds."""
+        """Checks whether all finds have been found and printed, or can't be printed. Calls of the
+        program for finds may remain."""
         return self.telling.is_done() and (self.finder.is_done() or self.telling.has_failed)
 
     def find_for(self, seconds: float) -> None:

@@ -1,4 +1,4 @@
-"""Signals to work that can end by itself: either finish the running part, or end at once."""
+"""Signals that end long work. The work either finishes its running part, or ends at once."""
 
 from __future__ import annotations
 
@@ -14,11 +14,12 @@ SECONDS_TO_END = 10.0
 
 class Stopping:
     """The signals so far. The first Ctrl-C asks the work to finish what is running. Any other
-    signal asks it to drop that and end, and then ends the program."""
+    signal asks the work to drop what is running. When the work has ended, that signal ends the
+    program."""
 
     def __init__(self) -> None:
         self.finishes = False
-        # The signal that ends the program, or `None`, and when the signal came.
+        # The signal that ends the program, or `None`, and when the signal came, in seconds.
         self.number: int | None = None
         self.since: float
         # Whether the work is doing something that must be completed before the program ends.
@@ -37,7 +38,7 @@ class Stopping:
             self.number, self.since = number, time.monotonic()
         elif time.monotonic() - self.since >= SECONDS_TO_END and not self.is_writing:
             return False
-        # If the pipe is full, it wakes the work anyway.
+        # If the pipe is full, its earlier bytes wake the work.
         with suppress(BlockingIOError):
             os.write(self.writing, b"\0")
         return True

@@ -1,4 +1,4 @@
-"""Reports finds: prints each one, and has the program for finds called."""
+"""Reports finds: prints each one, and queues a call of the program for finds."""
 
 from __future__ import annotations
 
@@ -20,7 +20,7 @@ class Telling:
     def __init__(
         self, output: TextIO, terminal: Terminal, calls: FindCalls, finds: list[list[str]]
     ) -> None:
-        """Begins with the finds that the previous search hadn't reported."""
+        """`finds` are the finds that the previous search hadn't reported."""
         self.output = output
         self.terminal = terminal
         self.calls = calls

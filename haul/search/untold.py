@@ -10,6 +10,7 @@ from dataclasses import dataclass, field
 from haul.formats.haul import NUMBER_LIMIT, Haul, Job, Range
 from haul.formats.report_lines import PROFILE_TEXT, read_profile
 from haul.formats.syntax import RULE, SEED
+from haul.plurals import pluralize, write_count
 from haul.search.companion import Companion
 
 # The most lines that are kept.
@@ -40,7 +41,7 @@ class Untold:
     """The fields of the finds that weren't reported, and which objects weren't examined."""
 
     job: Job
-    # Objects that no soup before this one left haven't been examined.
+    # Objects that no soup before the soup `since` left haven't been examined.
     since: int = NUMBER_LIMIT
     finds: list[list[str]] = field(default_factory=list)
     # The number of finds that were left out.
@@ -85,7 +86,9 @@ def open_untold(haul: Haul, kept: Companion) -> Untold:
     if untold is None:
         return Untold(haul.job)
     if untold.left_out:
-        kept.complain(f"{kept.name}: {untold.left_out} finds were left out")
+        count = write_count(untold.left_out, "find")
+        were = pluralize(untold.left_out, "was", "were")
+        kept.complain(f"{kept.name}: {count} {were} left out")
     finds = [fields for fields in untold.finds if is_in(int(fields[SOUP_FIELD]), haul.ranges)]
     return Untold(haul.job, untold.since, finds)
 

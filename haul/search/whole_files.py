@@ -58,7 +58,7 @@ def removed_on_failure(path: str) -> Iterator[None]:
 
 @contextmanager
 def named_in_faults(path: str) -> Iterator[None]:
-    """Adds the name of this file to each `OSError`."""
+    """Raises each `OSError` again with `path` as the name of the file."""
     try:
         yield
     except OSError as error:
@@ -103,8 +103,8 @@ def move_aside(path: str) -> str:
 
 
 def sync_folder(path: str) -> None:
-    """Makes sure that a new name in a folder is on disk. Some file systems can't do that for a
-    folder."""
+    """Makes sure that a new name in a folder is on disk, except on file systems that can't do that
+    for a folder."""
     folder = os.open(path, os.O_RDONLY | os.O_DIRECTORY | os.O_CLOEXEC)
     try:
         os.fsync(folder)

@@ -26,10 +26,10 @@ from haul.tests.forked import go_on
 TOP = Path(__file__).resolve().parents[2]
 CENSUS = str(TOP / "crates" / "census" / "out" / "census")
 HAUL = str(TOP / "bin" / "haul")
-# The companion as if it were installed beside the built program, so that no launcher checks at each
-# call whether the program must be built.
+# The path that the companion would have if it were installed beside the built program. When it is
+# called by this path, no launcher checks whether the program must be built.
 INSTALLED_HAUL = str(Path(CENSUS).with_name("haul"))
-# Where output is discarded.
+# A terminal that discards its output.
 QUIET = Terminal(io.StringIO())
 
 
@@ -113,8 +113,8 @@ def read_terminal(write: Callable[[TextIO], object]) -> bytes:
 
 def as_haul(*words: str) -> Callable[[], None]:
     """Returns a `preexec_fn` that turns a process forked by `subprocess` into `haul` with these
-    arguments. Tests of signals and of open files use this, because a start of Python would take
-    longer than most of them."""
+    arguments. Tests of signals and of open files use this, because starting Python takes longer
+    than most of these tests."""
     # Another thread could hold a lock, which nobody would release in the new process.
     assert threading.active_count() == 1 and not children.running and children.stopping is None
 

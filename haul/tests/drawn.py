@@ -1,5 +1,5 @@
-"""Random hauls, which are the same in each call. What they say about soups isn't right, but their
-form is valid."""
+"""Random hauls, the same in each run of the tests. Their form is valid, but the totals and samples
+aren't those of their soups."""
 
 from __future__ import annotations
 

@@ -1,4 +1,4 @@
-"""Calls of the operating system that fail, in processes that are forked from the tests."""
+"""Makes calls of the operating system fail in processes that are forked from the tests."""
 
 from __future__ import annotations
 
@@ -28,7 +28,7 @@ def is_there(path: Path) -> bool:
 
 
 class FailingCalls:
-    """Lets calls fail in each forked process."""
+    """Makes calls fail in each forked process."""
 
     def __init__(
         self, number: int, error: int | None, is_single: bool, failed: Path, begins: Path | None
@@ -62,10 +62,10 @@ class FailingCalls:
 def failing_calls(
     number: int, error: int | None, is_single: bool, failed: Path, begins: Path | None = None
 ) -> Iterator[None]:
-    """Lets the call with this number fail with this error in each process that is forked meanwhile,
-    and all later calls too unless `is_single` is set. If the error is `None`, the process is killed
-    instead. The calls are counted from the moment when the file `begins` exists, or from the fork
-    if `begins` is `None`. The file `failed` is made when a call fails."""
+    """In each process that is forked in this context, makes the call with this number fail with
+    this error, and all later calls too unless `is_single` is set. If the error is `None`, the
+    process is killed instead. The calls are counted from the moment when the file `begins` exists,
+    or from the fork if `begins` is `None`. The file `failed` is made when a call fails."""
     failing = FailingCalls(number, error, is_single, failed, begins)
     with ExitStack() as stack:
         for name in CALLS:

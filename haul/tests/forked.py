@@ -1,4 +1,4 @@
-"""A process that is forked by `subprocess` and continues with code of this process instead of
+"""Processes that `subprocess` forks, and that go on with code of their parent instead of starting
 another program."""
 
 from __future__ import annotations
@@ -11,7 +11,7 @@ import traceback
 from collections.abc import Callable
 from typing import NoReturn
 
-# Files with lower numbers are closed.
+# Files with numbers from 3 up to this number are closed.
 FILES = 100
 
 
@@ -26,7 +26,7 @@ def go_on(work: Callable[[], int]) -> NoReturn:
         # other files.
         gc.freeze()
         gc.enable()
-        # `subprocess` waits for the start of the program with one of these files.
+        # `subprocess` waits until one of these files is closed, as when a program has started.
         os.closerange(3, FILES)
         for number in (signal.SIGPIPE, signal.SIGXFSZ):
             signal.signal(number, signal.SIG_IGN)

@@ -72,9 +72,9 @@ class Searches(unittest.TestCase):
         most_memory: int | None = None,
         is_forked: bool = False,
     ) -> subprocess.Popen[bytes]:
-        """Starts a search in its own process group, in which no file may be longer than
-        `most_bytes`, and each process may use at most `most_memory` bytes. If `is_forked` is set,
-        it is forked from this process."""
+        """Starts a search in a session of its own. The search can't write a file that is longer
+        than `most_bytes`, and each of its processes may use at most `most_memory` bytes. If
+        `is_forked` is set, the search is forked from this process instead of starting Python."""
         words = ("search", *words, "--census", program, file)
         become = as_haul(*words)
 
@@ -146,7 +146,7 @@ class Searches(unittest.TestCase):
         self.assertEqual(sorted(os.listdir(self.folder)), sorted(names))
 
     def running_here(self) -> list[int]:
-        """Returns the processes whose folder is that of the test."""
+        """Returns the processes that run in the folder of the test."""
         found = []
         for process in Path("/proc").glob("[0-9]*"):
             with suppress(OSError):

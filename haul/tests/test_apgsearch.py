@@ -175,10 +175,10 @@ class Apgsearch(unittest.TestCase):
         self.assertIn("PATHOLOGICAL: 2, and 0 here (census has no such code)", lines)
         self.assertIn(f"{GROWTH}: 1, and 0 here (linear growth isn't counted here)", lines)
         self.assertIn(f"xs4_33: 665, and {totals['xs4_33']} here", lines)
-        # The soups may be counted from 1.
+        # With `--first 1`, other soups are run, so the totals differ.
         status, printed, _ = run("check", "--totals", "--first", "1", self.write("same", same))
         self.assertEqual(status, 7)
-        # The last soups that there are, and one soup more.
+        # The soups up to the highest number, and one soup more.
         status, _, told = run("check", "--totals", "--first", str(2**40 - 100), self.file)
         self.assertEqual((status, told), (7, ""))
         status, printed, told = run("check", "--totals", "--first", str(2**40 - 99), self.file)
@@ -198,7 +198,7 @@ class Apgsearch(unittest.TestCase):
         )
 
     def test_the_sum(self) -> None:
-        """A total that doesn't fit the number of objects is reported."""
+        """`haul` reports that the totals don't add up to the number of objects."""
         text = TEXT.replace("xp2_7 716", "xp2_7 717")
         path = self.write("sum", text)
         status, _, told = run("table", path)

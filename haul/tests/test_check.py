@@ -23,7 +23,7 @@ MISSING = "haul with missing soups, which can't be taken again; --samples runs i
 
 
 class Several(unittest.TestCase):
-    """Three right hauls, a wrong one, a text that isn't a haul, and a haul with missing soups."""
+    """Four right hauls, a wrong one, a text that isn't a haul, and a haul with missing soups."""
 
     def setUp(self) -> None:
         folder = tempfile.TemporaryDirectory()

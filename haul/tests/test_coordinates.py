@@ -72,7 +72,7 @@ class Written(unittest.TestCase):
         self.assertEqual(rle("\n1 2\r\n\r\n1 2\n0 2"), rle("0 2\n1 2\n"))
 
     def test_no_cell(self) -> None:
-        """A text without cells has no position, so it is read as plaintext without cells."""
+        """An empty text isn't read as coordinates, but as plaintext without cells."""
         self.assertEqual(rle(""), (0, "x = 0, y = 0, rule = B3/S23\n!\n", ""))
 
 

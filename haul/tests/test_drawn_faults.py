@@ -1,5 +1,5 @@
-"""`haul search` with drawn faults. Whatever fails, FILE is a right haul, no find is lost, a file of
-another program isn't overwritten, and nothing is left running."""
+"""`haul search` with random faults. Whatever fails, FILE is a right haul, no find is lost, a file
+of another program isn't overwritten, and nothing is left running."""
 
 from __future__ import annotations
 
@@ -19,13 +19,13 @@ from haul.tests.called import CENSUS, HAUL, TOP, census, run
 from haul.tests.failing import failing_calls
 from haul.tests.searching import CLOCK, Searches
 
-# The soups from here on leave these three finds.
+# The 700 soups from 23000 on leave these three finds.
 WORDS = ["--seed=", "--first=23000", "--rarer=10000", "--part=350"]
 FINDS = {"xs12_330f96", CLOCK, "xs20_3lkkl3z32w23"}
-# What happens instead of a call. `None` means that the process is killed.
+# The error with which a call fails. `None` means that the process is killed instead.
 ERRORS = (errno.EIO, errno.ENOSPC, errno.EMFILE, errno.ENOMEM, None, None, None)
-# A search of two batches makes about this many calls that can fail. At least this part of the drawn
-# calls must be made.
+# A search of two batches makes about this many calls that can fail. At least this share of the
+# trials must get as far as the call that was drawn.
 MOST_CALLS, SHARE_MADE = 220, 0.5
 
 
@@ -61,8 +61,8 @@ class DrawnFaults(Searches):
         return {line.split("\t")[1] for line in output.splitlines()}
 
     def assert_ended(self, status: int | None, errors: str) -> None:
-        """Checks that a search was killed, or has ended with a status for faults, and with lines
-        about them."""
+        """Checks that a search was killed, has succeeded, or has ended with a status for faults and
+        with lines about them."""
         self.assertIn(status, (0, 4, 5, -signal.SIGKILL), errors)
         self.assertNotIn("Traceback", errors)
         for line in errors.splitlines():
@@ -71,8 +71,8 @@ class DrawnFaults(Searches):
         self.assert_nothing_runs()
 
     def assert_complete(self, words: Sequence[str], output: str, errors: str) -> None:
-        """Runs the search again. Then each find has been printed, and given to the program for
-        finds unless a line says why not."""
+        """Runs the search again. Then checks that each find has been printed, and given to the
+        program for finds unless a line says why not."""
         if self.file.exists():
             self.assert_right()
         status, again, complaints = self.search(*words)
@@ -138,7 +138,7 @@ class Calls(DrawnFaults):
         self.assert_most_are_made()
 
     def test_beside_a_file_of_another_program(self) -> None:
-        """FILE.mine is a right haul if it is there, even if `haul` is killed while it writes it."""
+        """FILE.mine is a right haul if it exists, even if `haul` is killed while writing."""
         draw = random.Random("calls with FILE.mine")
         other, begins = census("take", "--seed=other", "--count=3"), self.folder / "begins"
         for _ in range(6):
@@ -160,14 +160,14 @@ class Calls(DrawnFaults):
         self.assert_most_are_made()
 
     def assert_mine_is_right(self) -> None:
-        """Checks each FILE.mine that is there."""
+        """Checks that each FILE.mine is a right haul."""
         for path in self.folder.glob("mine.haul.mine*"):
             if not path.name.endswith((".late", ".finds", ".new")):
                 self.assertEqual(run("check", text=path.read_bytes())[1], "right\n")
 
     def test_files_that_cant_grow(self) -> None:
-        """A limit on the size of files stands in for a full disk, beside a file of another
-        program too."""
+        """A limit on the size of files stands in for a full disk. Another program also changes
+        FILE."""
         draw = random.Random("files")
         other = census("take", "--seed=other", "--count=3")
         for _ in range(3):
@@ -204,7 +204,7 @@ class Memory(DrawnFaults):
 
 
 class Descendants(DrawnFaults):
-    """The program for finds starts processes in several ways, and `haul` ends, or is ended."""
+    """The program for finds starts processes in several ways, and a signal ends `haul`."""
 
     WAYS = (
         "setsid -f sleep 79.5 < /dev/null > /dev/null 2>&1",
@@ -232,7 +232,7 @@ class Descendants(DrawnFaults):
 
 
 class Floods(DrawnFaults):
-    """A census program prints more than it may, or just as much."""
+    """A census program prints more than it may, or exactly as much as it may."""
 
     def test_at_the_limit(self) -> None:
         draw = random.Random("floods")
@@ -285,7 +285,7 @@ class Threads(DrawnFaults):
     def test_a_signal_at_any_time(self) -> None:
         draw = random.Random("threads")
         begins = self.folder / "begins"
-        # The first signal comes before the thread begins.
+        # In the first trial, the signal comes before the thread begins.
         times = [(1.0, 0.0), *((draw.uniform(0, 0.3), draw.uniform(0, 0.6)) for _ in range(3))]
         for late, before in times:
             self.clear()

@@ -1,5 +1,5 @@
-"""How `haul` ends: its statuses and messages if a stream, the census program or the user fails it,
-and what it leaves running."""
+"""How `haul` ends: its statuses and messages for faults of a stream, of the census program or of
+the user, and what it leaves running."""
 
 from __future__ import annotations
 
@@ -110,7 +110,7 @@ class Streams(unittest.TestCase):
             with self.subTest(words=words):
                 self.assertEqual(in_shell(f"haul {words} <&-"), (5, "", bad))
         self.assertEqual(in_shell("haul check small <&-"), (0, "right\n", ""))
-        # No other stream is read in its place, even if it can be.
+        # No other stream is read instead of the input, even if that stream can be read.
         self.assertEqual(in_shell("haul join <&- 1<> other"), (5, "", bad))
 
     def test_closed_output(self) -> None:
@@ -124,7 +124,7 @@ class Streams(unittest.TestCase):
         ):
             with self.subTest(words=words):
                 self.assertEqual(in_shell(f"haul {words} >&-"), (5, "", bad))
-        # The files that are read don't get the output's number.
+        # A file that is read doesn't get the number of the closed output.
         self.assertEqual(
             in_shell("haul join small nowhere >&-"),
             (5, "", "haul: nowhere: No such file or directory\n"),
@@ -166,7 +166,7 @@ class Progress(unittest.TestCase):
         return read_terminal(lambda stderr: call(words, io.BytesIO(text), io.StringIO(), stderr))
 
     def test_objects_that_are_separated(self) -> None:
-        """Progress is shown after each five hundred objects."""
+        """Progress is shown after every five hundred objects."""
         codes = [f"xs4_{number}" for number in range(1000, 1600)]
         text = text_of(
             Haul(
@@ -318,7 +318,7 @@ class Usage(unittest.TestCase):
 
 
 class Starter(unittest.TestCase):
-    """What Python itself would print before this program begins, such as a traceback."""
+    """`haul` prevents what Python itself would print before `haul` begins, such as a traceback."""
 
     def test_a_folder_as_input(self) -> None:
         ended = subprocess.run(
@@ -340,7 +340,7 @@ class Starter(unittest.TestCase):
             ) as program:
                 time.sleep(moment * 0.003)
                 program.send_signal(signal.SIGINT)
-                # The input stays open until then, since an empty haul would be reported as a fault.
+                # The input stays open until `haul` has ended, since an empty haul is a fault.
                 program.wait(60)
                 errors = program.communicate()[1]
             self.assertEqual((program.returncode, errors), (-signal.SIGINT, b""))
@@ -396,7 +396,8 @@ class Unforeseen(unittest.TestCase):
 
 class LittleMemory(unittest.TestCase):
     def test_room_for_nothing(self) -> None:
-        """Python has room to start, but not for all modules: a line, and no traceback."""
+        """If Python has memory to start, but not to load all modules, `haul` prints a line and no
+        traceback."""
         for megabytes in range(16, 37, 4):
             limit = megabytes * 2**20
             ended = subprocess.run(
@@ -416,7 +417,8 @@ class OtherPrograms(unittest.TestCase):
     """The program at the path isn't the census program."""
 
     # Programs that end successfully, and print nothing, their arguments, bytes that aren't text, a
-    # haul that wasn't asked for, a line of another job, or something like a pattern.
+    # haul that wasn't asked for, a line of another job, something like a pattern, an empty line, or
+    # something like report lines.
     ANSWERS = [
         "true",
         'echo "$@"',
@@ -444,7 +446,7 @@ class OtherPrograms(unittest.TestCase):
             )
 
     def test_an_empty_path(self) -> None:
-        """It doesn't name a program, but no other program is called instead."""
+        """An empty path doesn't name a program, and no other program is called instead."""
         for command in self.COMMANDS:
             status, output, errors = self.answer("", command, "")
             self.assertEqual((status, output), (2, ""))
@@ -504,7 +506,7 @@ class Calls(unittest.TestCase):
     """The calls of the census program by a page, a check and the other commands. In these scripts
     `real` is the census program."""
 
-    # Records the words of the call, and answers like the program.
+    # Records the arguments of the call, and defines `real`.
     NOTES = f'echo "$*" >> calls; real() {{ "{CENSUS}" "$@"; }}; '
 
     def ended(self, command: str, script: str) -> tuple[int, str, str, list[str]]:
@@ -647,7 +649,7 @@ class Signals(unittest.TestCase):
                     self.ended_by(number, [*words, "--census", "./sleeps", "many"], least)
 
     def test_a_signal_that_is_ignored(self) -> None:
-        """`nohup` ignores a signal in this way."""
+        """A signal that is ignored, as under `nohup`, doesn't end `haul`."""
         with tempfile.TemporaryDirectory() as folder:
             Path(folder, "slow").write_text("#!/bin/sh\nkill -HUP $PPID\nexit 4\n")
             Path(folder, "slow").chmod(0o755)

@@ -22,7 +22,7 @@ NO_FIELDS = ["", "*", "\x01", "\xff", "@", "-1", "x.y"]
 
 
 class Fields:
-    """The lines of a haul, each split into its fields, and where its parts begin."""
+    """The lines of a haul, each split into its fields, and the lines where its sections begin."""
 
     def __init__(self, haul: Haul) -> None:
         self.lines = [line.split(" ") if line else [] for line in format_haul(haul)]
@@ -48,7 +48,8 @@ class Fields:
 
 
 def wrong_fields(haul: Haul, at: Fields) -> Iterator[tuple[str, Place]]:
-    """Yields hauls with a field that is wrong, whatever the other fields are."""
+    """Yields hauls with a field that is wrong in any haul, a field too many, or a field too few,
+    each with the place of the fault."""
     for line, fields in enumerate(at.lines):
         for field in range(len(fields)):
             for word in NO_FIELDS:
@@ -91,7 +92,7 @@ def wrong_numbers(haul: Haul, at: Fields) -> Iterator[tuple[int, int, int]]:
 
 
 def wrong_writing(haul: Haul, at: Fields) -> Iterator[tuple[str, Place]]:
-    """Yields hauls with numbers that are written wrongly or out of range."""
+    """Yields hauls with a number that is written wrongly or is out of range."""
     for line, field, number in wrong_numbers(haul, at):
         if number >= 0:
             yield at.with_field(line, field, str(number)), at.place(line, field)
@@ -157,7 +158,7 @@ class Faults(unittest.TestCase):
 
 
 def place_of(text: str) -> Place | None:
-    """Returns the place at which a text isn't a haul, or `None` if it is one."""
+    """Returns the place of the fault that is reported for a text, or `None` if it is a haul."""
     try:
         read_one_haul(io.BytesIO(text.encode("latin-1")))
     except BadHaul as bad:

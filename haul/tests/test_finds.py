@@ -44,7 +44,7 @@ LIFE, OTHER_RULE, OTHER_PROFILE = (
     Job("a", "b36s23", STANDARD),
     Job("a", "b3s23", Profile(4, 8, 10, 30)),
 )
-# The last object is two blocks. Under Life the bipole isn't common, and the others are.
+# The bi-block is two blocks. Under Life the bipole isn't common, but blinkers and blocks are.
 RARER = 10_000
 RARE = [f"--rarer={RARER}"]
 BIPOLE, BLINKER, BLOCK, BI_BLOCK = "xp2_31ago", "xp2_7", "xs4_33", "xs8_rr"
@@ -84,7 +84,8 @@ class Common(unittest.TestCase):
         self.assertEqual(list_common_parts(1), frozenset())
 
     def test_rarity(self) -> None:
-        """The sixth field is the rarity in the reference under Life with the standard profile."""
+        """The sixth field is the rarity in the reference under Life with the standard profile,
+        otherwise `-`."""
         self.assertEqual(Find(BIPOLE, 1).fields(LIFE)[5], find_occurrence(BIPOLE).describe())
         self.assertEqual(Find("xs99_0", 1).fields(LIFE)[5], "none in 100000000")
         for job in (OTHER_PROFILE, OTHER_RULE):
@@ -186,8 +187,8 @@ class Finds(unittest.TestCase):
         ) as separated:
             self.assertEqual(found(finder, [(BIPOLE, 200), (BLOCK, 201)]), [])
             self.assertEqual(separated.call_count, 2)
-            # An oscillator of period 3 is a part of none of the three. A still life of seven cells
-            # may be a part of each of them.
+            # An oscillator of period 3 is a part of none of the three objects of the file. A still
+            # life of seven cells may be a part of each of them.
             self.assertEqual(found(finder, [("xp3_695qc8zx33", 11)]), [Find("xp3_695qc8zx33", 11)])
             self.assertEqual(separated.call_count, 3)
             finder.add([("xs7_2552", 11)])
@@ -198,7 +199,7 @@ class Finds(unittest.TestCase):
             self.assertEqual(separated.call_count, 7)
 
     def test_how_many_are_left(self) -> None:
-        """Objects of the file count once the objects of the batch are separated."""
+        """Objects of the file are counted only after the objects of the batch are separated."""
         finder = Finder(LIFE, haul_of(LIFE, BI_BLOCK), RARER)
         self.assertEqual(finder.left(), 0)
         finder.add([("xs7_2552", 11), (BIPOLE, 12)])
@@ -422,7 +423,7 @@ class Calls(Searches):
         )
 
     def test_what_is_left_is_told(self) -> None:
-        """A line says what is left if that takes over five seconds."""
+        """A line says what remains to be done if reporting takes over five seconds."""
         program = self.stub("sleep 5.5; touch done")
         self.assertEqual(
             self.search(*self.ONE, "--finds", program)[::2],
@@ -431,7 +432,7 @@ class Calls(Searches):
         self.assertTrue((self.folder / "done").exists())
 
     def test_what_it_leaves_running(self) -> None:
-        """Processes that it leaves running are killed, even if they ignore signals."""
+        """Processes that the program leaves running are killed, even if they ignore signals."""
         self.search(
             *self.ONE, "--finds", self.stub("trap '' HUP INT USR1 TERM; sleep 1000 & exit 0")
         )
@@ -460,8 +461,8 @@ class Calls(Searches):
         self.assert_nothing_runs()
 
     def test_an_interrupt_before_it_has_its_session(self) -> None:
-        """A Ctrl-C for `haul` that comes then is dropped. Later, the program is ended by that
-        signal as usual."""
+        """A Ctrl-C for `haul` that comes before the program has its own session is dropped. After
+        that, the signal ends the program as usual."""
 
         def interrupted() -> None:
             signal.signal(signal.SIGINT, signal.SIG_DFL)
@@ -511,7 +512,8 @@ class Calls(Searches):
         self.assert_nothing_runs()
 
     def test_signals_while_it_runs(self) -> None:
-        """Ctrl-C doesn't reach the program. A second Ctrl-C ends it, and so does a kill."""
+        """Ctrl-C doesn't reach the program. A second Ctrl-C ends the program, and so does a signal
+        that ends `haul`."""
         program = self.stub("touch runs; sleep 1000 & sleep 1000")
         for numbers in ([signal.SIGINT, signal.SIGINT], [signal.SIGTERM], [signal.SIGKILL]):
             for name in ("runs", "mine.haul"):
@@ -558,7 +560,7 @@ class Telling(Searches):
         self.assertTrue(Status(1, 0, 1, 1, 0, 0.0, None).text().endswith("running for 0:00:00"))
 
     def test_a_search_that_goes_on(self) -> None:
-        """The rate is for the soups that this call has run."""
+        """The rate counts only the soups that this search has run."""
         with patch("time.monotonic", return_value=1000.0) as now:
             keeper = Keeper(str(self.file))
             search = make_search(
@@ -690,7 +692,7 @@ class Telling(Searches):
                 for other in range(9)
             )
         }
-        # A terminal that doesn't say how wide it is counts as 80 columns wide.
+        # A terminal that doesn't say its width is taken to have 80 columns.
         for columns in (0, 80):
             self.assertEqual(self.shown(by_length[79], columns), by_length[79].text())
             self.assertEqual(self.shown(by_length[80], columns), by_length[80].short_text())
@@ -778,7 +780,8 @@ class Pace(Searches):
             for at, may in ((1099.0, False), (1100.0, True)):
                 now.return_value = at
                 self.assertEqual(search.may_keep(), may)
-            # Ten minutes after the latest writing, minus the time that writing takes.
+            # The file must be written ten minutes after it was last written, minus the time that
+            # writing takes.
             search.writing, search.unkept, search.kept_at = 500.0, [(0, [])], 1200.0
             for at, must in ((1798.9, False), (1799.0, True)):
                 now.return_value = at
@@ -856,7 +859,7 @@ class Pace(Searches):
         os.close(keeper.lock)
 
     def test_when_it_says_what_is_left(self) -> None:
-        """A line says so after five seconds, once."""
+        """After five seconds, a single line says what remains to be done."""
         keeper = Keeper(str(self.file))
         with patch("time.monotonic", return_value=1000.0) as now, redirect_stderr(
             io.StringIO()
@@ -888,7 +891,7 @@ class Pace(Searches):
         os.close(keeper.lock)
 
     def test_a_signal_while_batches_wait(self) -> None:
-        """The waiting batches are written, but not the running one."""
+        """The batches that wait to be written are written. The running batch is dropped."""
         keeper, stopping = Keeper(str(self.file)), Stopping()
         search = make_search(
             Plan(0, None, 10, 1, None, RARER),
@@ -915,7 +918,7 @@ class Pace(Searches):
         os.close(keeper.lock)
 
     def test_batches_that_wait_in_memory(self) -> None:
-        """They are written together, at the end at the latest."""
+        """Batches that wait in memory are written together, at the latest when the search ends."""
         keeper = Keeper(str(self.file))
         search = make_search(
             Plan(0, 60, 10, 2, None, RARER),

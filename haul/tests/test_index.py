@@ -113,7 +113,7 @@ class Indexes(unittest.TestCase):
         self.assertEqual(self.check("index", "--random", "2", "--choice", "x")[1], output)
 
     def test_a_choice_is_written_at_once(self) -> None:
-        """Its line comes before any soup is run."""
+        """The line about the choice is written before any soup is run."""
         done: list[str] = []
 
         class Output(io.StringIO):

@@ -1,4 +1,4 @@
-"""Joining of hauls."""
+"""Joined hauls, and hauls that can't be joined."""
 
 from __future__ import annotations
 

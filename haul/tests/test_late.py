@@ -27,7 +27,8 @@ class LateSearches(Searches):
         self.late = self.folder / "mine.haul.late"
 
     def lines_of_work(self, count: int, late: int, *words: str, first: int = 0) -> list[bytes]:
-        """Returns the lines of late and unsettled soups, as printed by `census work`."""
+        """Returns the lines of late and unsettled soups that `census work` prints, without their
+        workers."""
         job = words or ("--seed=a", *SHORT)
         lines = census("work", "--worker=1", f"--first={first}", f"--count={count}", *job)
         return [
@@ -77,7 +78,7 @@ class Kept(LateSearches):
         self.assert_kept(100001, 90, 30)
 
     def test_a_lower_generation_without_a_soup(self) -> None:
-        """FILE.late covers no soup of FILE, so it may begin anew."""
+        """If FILE.late covers no soup of FILE, it may begin anew at a lower generation."""
         self.search("--seed=a", *SHORT, "--late=606", "--until=30")
         self.file.unlink()
         self.assertEqual(self.search("--seed=a", *SHORT, "--late=303", "--until=40")[::2], (0, ""))
@@ -122,7 +123,8 @@ class Kept(LateSearches):
         self.assert_kept(505, 30)
 
     def test_a_full_disk(self) -> None:
-        """FILE fits but FILE.late doesn't. Neither is changed."""
+        """The new FILE would fit on the disk, but the new FILE.late doesn't. Neither file is
+        changed."""
         self.search("--seed=a", *QUICK, "--late=0", "--until=10")
         before = self.file.read_bytes(), self.late.read_bytes()
         status, _, errors = self.search("--until=4000", "--part=3990", most_bytes=20_000)
@@ -273,8 +275,8 @@ class Reports(LateSearches):
     """Report lines of a batch."""
 
     def test_wrong_lines(self) -> None:
-        """The lines are of other soups, of another job or of soups that aren't late; or one comes
-        twice, is malformed, or lines are missing."""
+        """A line is about a soup of another batch, about another job or about a soup that isn't
+        late, occurs twice, or is malformed; or lines are missing."""
         line = f"report 2 {JOB} worker=1"
         for said in (
             f"echo '{line} soup=900 unsettled' >&2",

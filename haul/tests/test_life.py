@@ -55,7 +55,8 @@ def plaintext(cells: Cells) -> str:
 
 
 def found(text: str) -> Counter[str]:
-    """Returns the objects that `census name` found."""
+    """Returns the objects that `census name` found, or none if the pattern hadn't settled in
+    generation 0."""
     settled, *lines = text.splitlines()
     return (
         Counter({code: int(count) for code, count in map(str.split, lines)})
@@ -90,8 +91,8 @@ def patterns() -> tuple[Cells, ...]:
 
 class Drawings(unittest.TestCase):
     def test_each_code_of_the_example(self) -> None:
-        """Each code is drawn as by `census show`, and its phases have the code that `census` gave
-        them."""
+        """Each code is drawn as `census show` draws it, and the phases of the drawn object have
+        this code."""
         codes, rule = list(example().totals), read_rule("b3s23")
         for code, shown in zip(codes, asked([(["show", code], "") for code in codes]), strict=True):
             cells = read_wechsler(code.partition("_")[2])
@@ -102,8 +103,8 @@ class Drawings(unittest.TestCase):
             self.assertEqual((find_code(recurrence), recurrence.phases[0]), (code, cells))
 
     def test_texts(self) -> None:
-        """A text that is written can be read again, by `census show` too, and there is no shorter
-        text."""
+        """A text that is written can be read again, by `census show` too. Runs of dead columns have
+        their shortest form."""
         written = [text for cells in patterns() if (text := write_wechsler(cells)) is not None]
         for cells, text, shown in zip(
             patterns(), written, asked([(["show", text], "") for text in written]), strict=True
@@ -139,8 +140,8 @@ class Drawings(unittest.TestCase):
 
 class Generations(unittest.TestCase):
     def test_drawn_patterns(self) -> None:
-        """After one, two and three generations, the patterns are the same as those of `census run`.
-        Each is in its place, beside a far cell that stays."""
+        """After one, two or three generations, each pattern is the same as that of `census run`,
+        moved to the corner."""
         calls, wanted = [], []
         for place, cells in enumerate(patterns()):
             name, later = RULES[place % len(RULES)], cells
@@ -152,7 +153,8 @@ class Generations(unittest.TestCase):
             self.assertEqual(drawn_cells(printed), move_to_corner(later) if later else frozenset())
 
     def test_a_generation_stays_in_its_place(self) -> None:
-        """According to the definition: the middle of a blinker, and the cells beside it."""
+        """A blinker turns around its middle. A single cell stays in the middle of its neighbours
+        under B1/S0, and dies under B/S."""
         self.assertEqual(
             advance(read_rule("b3s23"), frozenset([(-1, 7), (0, 7), (1, 7)])),
             {(0, 6), (0, 7), (0, 8)},
@@ -165,7 +167,7 @@ class Generations(unittest.TestCase):
 
     def test_how_patterns_recur(self) -> None:
         """A single cluster that recurs within eight generations has the code that `census name`
-        gives it. For any other pattern, `census name` doesn't print a single object."""
+        gives it. For any other pattern, `census name` prints no object or several."""
         most = ["--period=8", "--horizon=8"]
         calls = [
             (["name", "--limit=0", *most, f"--rule={RULES[place % len(RULES)]}"], plaintext(cells))
@@ -209,8 +211,8 @@ class Generations(unittest.TestCase):
             )
 
     def test_the_longest_period(self) -> None:
-        """A census looks for 64 generations, and a pulsar takes three. A pattern that dies or
-        becomes another pattern never recurs."""
+        """The longest period that a census finds is 64. A pulsar has period 3. A pattern that dies
+        or becomes another pattern never recurs."""
         self.assertEqual(MOST_PERIOD, 64)
         pulsar = read_wechsler("co9nas0san9oczgoldlo0oldlogz1047210127401")
         assert pulsar is not None
@@ -226,7 +228,7 @@ class Generations(unittest.TestCase):
         self.assertIsNone(find_recurrence(read_rule("b3s23"), frozenset()))
 
     def test_what_outgrows_the_plane(self) -> None:
-        """No pattern is larger than 1,000 by 1,000, in any phase."""
+        """A pattern that is larger than 1,000 by 1,000 cells doesn't count as recurring."""
         row = frozenset((x, 0) for x in range(0, SIDE))
         self.assertTrue(
             fits_in(row, SIDE)
@@ -241,7 +243,7 @@ class Clusters(unittest.TestCase):
     def test_clusters_and_islands(self) -> None:
         """Where all cells stay, `census` counts the clusters. If a pattern is stretched by two,
         cells that touched are two steps apart, and cells that were two steps apart are four steps
-        apart, so the clusters are the islands."""
+        apart, so the clusters of the stretched pattern are the islands of the pattern."""
         stretched = [frozenset((2 * x, 2 * y) for x, y in cells) for cells in patterns()]
         # A longer horizon makes no difference where all cells stay.
         short = ["--period=1", "--horizon=1"]
@@ -309,7 +311,7 @@ class Shapes(unittest.TestCase):
         self.assertIsNone(find_shift(one, frozenset([(2, 5), (3, 7), (6, 7)])))
 
     def test_no_text(self) -> None:
-        """An object without a phase of at most 40 by 40 is named only by its number."""
+        """The code of an object without a phase of at most 40 by 40 cells is only a prefix."""
         large = frozenset((x, 0) for x in range(41))
         recurrence = find_recurrence(read_rule(STILL), large)
         assert recurrence is not None

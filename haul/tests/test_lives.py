@@ -119,6 +119,9 @@ class Pages(unittest.TestCase):
         self.assertIn("From number 600 on, 30 soups had not settled by generation 3,030.", output)
         self.assertIn("The first 20 of these are shown.", output)
         self.assertIn("7 further soups of both kinds were left out.", output)
+        with patch("haul.fates.explain.Fates.find", return_value=Fate(Kind.GROWS, "+1 cell")):
+            one = self.page(*lines, header="# late 100001 since 600 left-out 1")[1]
+        self.assertIn("1 further soup of both kinds was left out.", one)
         self.assertNotIn("lifespans", output.partition("</style>")[2])
 
     def test_refused(self) -> None:

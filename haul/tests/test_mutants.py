@@ -24,7 +24,7 @@ class Sixty(unittest.TestCase):
         )
 
     def test_a_test_that_fails_anyway(self) -> None:
-        """Such a test would seem to notice every change."""
+        """A test that fails without a change would seem to notice every change."""
         text = (TOP / "haul" / "plurals.py").read_text()
         tests = {"haul.tests.test_layers.Layers.test_imports_go_down": 1.0, "haul.tests.none": 1.0}
         found = find_failing_tests(Trial("plurals.py", text, tests), 1)

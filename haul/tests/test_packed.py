@@ -18,7 +18,7 @@ from haul.tests.called import CENSUS, TOP, census, run
 from haul.tests.searching import Searches
 from release.zipped import is_packed, packed, paths_in
 
-# The part that the shell reads.
+# The beginning of the file, which the shell reads.
 HEAD = b"""#!/bin/sh
 # The companion `haul` of Gokzerd: these lines for the shell, and a zip archive for Python, which `unzip -l` lists.
 [ -d /dev/stdin ] && { echo 'haul: Is a directory' >&2; exit 5; }
@@ -115,7 +115,7 @@ class Packed(Searches):
         self, *words: str, text: bytes = b"", program: str | None = None, **more: str
     ) -> tuple[int, str, str]:
         """Calls the file. Returns its status and what it prints on both streams. Only `PATH` and
-        these variables are in the environment."""
+        the variables in `more` are in the environment."""
         ended = subprocess.run(
             [program or str(self.haul_file), *words],
             input=text,
@@ -191,8 +191,8 @@ class Packed(Searches):
         )
 
     def test_modules_of_others(self) -> None:
-        """A file with the name of a module isn't imported, neither from beside the file nor from
-        the working directory."""
+        """A file with the name of a module is imported neither from the folder of the packed file
+        nor from the working directory."""
         for folder in (self.folder, self.folder / "bin"):
             (folder / "argparse.py").write_text("raise SystemExit('another module')")
             (folder / "release").mkdir()
@@ -226,7 +226,7 @@ class Packed(Searches):
             ) as program:
                 time.sleep(moment * 0.01)
                 program.send_signal(signal.SIGINT)
-                # The input stays open until then, since an empty haul would be reported as a fault.
+                # The input stays open until `haul` has ended, since an empty haul is a fault.
                 program.wait(60)
                 errors = program.communicate()[1]
             self.assertEqual((program.returncode, errors), (-signal.SIGINT, b""))
@@ -269,7 +269,7 @@ class Packed(Searches):
         self.assert_nothing_runs()
 
     def test_a_search_that_is_killed(self) -> None:
-        """The program and the running call end with it."""
+        """The census program and the running call of the program for finds end with the search."""
         sleeps = self.stub('touch "$2"; sleep 1000', "sleeps")
         with subprocess.Popen(
             [

@@ -107,7 +107,7 @@ and <code>haul check --samples all.haul</code> runs only the sample soups.</p>
             self.assertIn("commands on this page need both programs", foot)
 
     def test_all_objects_count(self) -> None:
-        """Objects that aren't on the page count too."""
+        """Objects that aren't on the page are counted in the tiles, too."""
         self.assertEqual(tiles(compared(self.HAUL, least=50)), tiles(page(self.HAUL, 0)))
 
     def test_no_soup(self) -> None:
@@ -230,7 +230,7 @@ class Unsettled(unittest.TestCase):
         )
 
     def test_long_sets(self) -> None:
-        """No call takes more than 2^24 soups, and more than twelve calls aren't written."""
+        """No call runs more than 2^24 soups, and at most twelve calls are written."""
         self.assertEqual(
             format_unsettled_command(self.haul([(0, 2**24 + 1)])).count(
                 "--count=16777216 --worker=1; census work --first=16777216 --count=1 "
@@ -266,7 +266,7 @@ class Rows(unittest.TestCase):
 
     def test_each_cell(self) -> None:
         """Parts are counted: two blinkers in one object are two blinkers. The reference says
-        nothing about another profile."""
+        nothing about a census with another profile."""
         haul = made(
             {
                 "xs4_33": 1200,
@@ -385,8 +385,9 @@ class Rows(unittest.TestCase):
         )
 
     def test_pictures(self) -> None:
-        """Pictures match cell for cell, with a margin of one cell, also for objects of more than
-        ten rows. A cell has twelve pixels if there are fewer than ten cells."""
+        """Pictures match those of `census show` cell for cell, with a margin of one cell, also for
+        objects of more than ten rows. A cell is twelve pixels wide if there are fewer than ten
+        cells."""
         for code, scale in (
             (PULSAR, 4),
             ("xs4_1zzzz1zz1", 12),
@@ -429,7 +430,8 @@ class Rows(unittest.TestCase):
             self.assertIn(f"<p>{said}", compared(haul, least=least))
 
     def test_what_the_reference_says(self) -> None:
-        """The numbers are from reference/parts.tsv, and the intervals those of `haul rarity`."""
+        """The numbers are from reference/parts.tsv, and the intervals are those of `haul
+        rarity`."""
         haul = made({"xs4_33": 9, "xp5_idiidiz01w1": 1, "xs4_y": 1}, [(0, 9)])
         said = {
             "xs4_33": "one in 1.1095 %: 1.10 to 1.10",
@@ -554,7 +556,8 @@ class Data(unittest.TestCase):
 
     def test_least(self) -> None:
         """An object is on the page if a haul has at least `least` of it. A part is on the page if
-        there are that many by parts. Objects that are left out count by their parts."""
+        its total by parts is at least `least`. The parts of objects that are left out are
+        counted."""
         text = compared(self.HAUL, least=3)
         self.assertEqual(
             [
@@ -697,8 +700,8 @@ class Comparing(unittest.TestCase):
         )
 
     def test_each_under_its_rule(self) -> None:
-        """A table on table falls apart only under the rule of B, and each value has a place for
-        each haul."""
+        """A table on table falls apart only under the rule of B, and each list has a value for each
+        haul."""
         objects = objects_of(compared(self.LIFE, self.OTHER))
         self.assertEqual(
             without_rates(objects["xs12_raar"]),
@@ -827,7 +830,8 @@ class Comparing(unittest.TestCase):
 
 class Ends(unittest.TestCase):
     def test_when_soups_settle(self) -> None:
-        """The ends are the same as those of `census name`, and of `census run` up to then."""
+        """The checkpoints are those of `census name`. The numbers of cells agree with the pattern
+        that `census run` prints at the checkpoint."""
         haul, exact = read_one_haul(io.BytesIO(census("take", "--count", "12"))), 0
         soups = data_of(page(haul))["soups"][0]
         self.assertEqual(
@@ -872,8 +876,9 @@ class Ends(unittest.TestCase):
             self.assertEqual(read_end(life, fields), end)
 
     def test_which_have_one(self) -> None:
-        """The first objects have ends. Parts come first, the most frequent first: 16 blinkers in
-        pairs, 9 blocks, and 7 objects that couldn't be separated."""
+        """Only the sample soups of the first `play` objects have ends. Parts come first, the most
+        frequent first: 16 blinkers in pairs, 9 blocks, and 7 objects that couldn't be
+        separated."""
         haul = made(
             {"xp2_1110s": 8, "xs4_33": 7, "xs8_rr": 1, "ov_p3": 7},
             [(0, 9)],
@@ -893,7 +898,7 @@ class Ends(unittest.TestCase):
         )
 
     def test_a_soup_without_end(self) -> None:
-        """`census` was asked about it, and its end is 0."""
+        """`census` was asked about the soup, which doesn't settle, so its end is 0."""
         (end,) = data_of(page(made({"xs4_33": 8}, [(9, 1)], Profile(1, 1, 1, 0))))["soups"][
             0
         ].values()

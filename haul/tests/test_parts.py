@@ -201,8 +201,8 @@ class Parts(unittest.TestCase):
         self.assertTrue(strict("xs4_33").is_strict() and not parts("xs8_rr").is_strict())
 
     def test_many_islands(self) -> None:
-        """Where all cells stay, eleven cells two steps apart are eleven parts. In Life, no other
-        separation is tried for so many islands."""
+        """Where all cells stay, eleven cells two steps apart are eleven parts. For so many islands,
+        only the separation into single islands is tried."""
         for count in (MOST_ISLANDS, MOST_ISLANDS + 1, 30):
             row = "0".join("1" * count)
             self.assertEqual(parts(f"xs{count}_{row}", STILL), Separation(("xs1_1",) * count))
@@ -233,7 +233,8 @@ class Parts(unittest.TestCase):
                 )
 
     def test_each_condition_of_a_separation(self) -> None:
-        """The test uses the cells of a bi-block. Its runs needn't be the runs of a block."""
+        """The runs in this test have the cells of a bi-block, but needn't be runs under the
+        rule."""
         found = read_object(read_rule("b3s23"), "xs8_rr")
         assert found is not None
         blocks = Blocks(read_rule("b3s23"), {}, found)
@@ -241,14 +242,14 @@ class Parts(unittest.TestCase):
         self.assertEqual((len(left), len(right), left | right), (4, 4, found.phases[0]))
         one, other = [left, left], [right, right]
         self.assertTrue(blocks.is_separation([one, other]))
-        # They share a cell, although together they are the object; they have as many cells, but
-        # aren't the object; and one is missing.
+        # Two blocks that share a cell, although together they are the object; two blocks that have
+        # as many cells as the object, but aren't the object; and a single block.
         shared = left | {min(right)}
         self.assertFalse(blocks.is_separation([[shared, shared], other]))
         self.assertFalse(blocks.is_separation([one, one]))
         self.assertFalse(blocks.is_separation([one]))
-        # It is right; it is another block a period later; it isn't a cluster; and it has a cell
-        # that the object doesn't have.
+        # A run that is right; one that is the other block a period later; one that isn't a cluster;
+        # and one with a cell that the object doesn't have.
         run = Run(read_rule("b3s23"), left)
         self.assertEqual(blocks.checked(run, iter(one)), one)
         self.assertIsNone(blocks.checked(run, iter([left, right])))
@@ -258,7 +259,8 @@ class Parts(unittest.TestCase):
         self.assertIsNone(blocks.checked(run, iter([left | {(9, 9)}] * 2)))
 
     def test_codes_that_are_not_canonical(self) -> None:
-        """A part has its own code, whatever drawing of it a haul has."""
+        """A part has its canonical code, whatever code the haul has. An object that isn't what its
+        code says keeps that code."""
         self.assertEqual(
             (parts("xp2_111").parts, parts("xs6_4a4w").parts), (("xp2_7",), ("xs6_4a4w",))
         )
@@ -270,8 +272,8 @@ class Parts(unittest.TestCase):
         self.assertEqual(found.phases, [{(0, 0), (0, 1), (0, 2)}, {(-1, 1), (0, 1), (1, 1)}])
 
     def test_by_brute_force(self) -> None:
-        """Random objects of the example, except for long ones, which take too long; and objects of
-        two other rules."""
+        """Random objects of the example, except for objects with long codes, which take too long;
+        and objects of two other rules."""
         draw = random.Random("objects")
         tried = [("b3s23", draw.sample([code for code in example().totals if len(code) < 22], 250))]
         for rule, count in (("b36s23", 800), ("b3678s34678", 3000)):
@@ -371,7 +373,7 @@ SAMPLED = {
 
 
 def sampled(rule: str, totals: dict[str, int]) -> str:
-    """Returns the text of a haul with the samples above."""
+    """Returns the text of a haul with the samples in `SAMPLED`."""
     head, _, _ = haul(rule, 100, totals).partition("@SAMPLE_SOUPIDS\n")
     return (
         head
@@ -407,8 +409,8 @@ class Tables(unittest.TestCase):
         )
 
     def test_strict(self) -> None:
-        """Only objects of a single part are shown, with their ranks among all, and objects that
-        aren't separated, with a note."""
+        """Only objects of a single part and objects that aren't separated (with a note) are shown,
+        with their ranks among all objects."""
         strict = [
             ["1", "xs4_33", "block"],
             ["5", "xp2_7", "blinker"],
@@ -497,7 +499,7 @@ class Tables(unittest.TestCase):
         self.assertIn("not allowed with argument", errors)
 
     def test_an_enormous_code(self) -> None:
-        """Neither its row nor the other rows are lost."""
+        """Neither the row of an enormous code nor the other rows are lost."""
         code = "xp2_1" + "yz" * 30 + "1"
         with tempfile.TemporaryDirectory() as folder:
             Path(folder, "a").write_text(haul("b3s23", 100, {code: 2, "xs4_33": 1}))
@@ -550,8 +552,8 @@ class SideBySide(unittest.TestCase):
 
     def test_other_parts_under_another_rule(self) -> None:
         """Each table of a table on table dies in Life, and stays where nothing is born and one
-        neighbour is enough. Turned on its side, it is two columns of four cells, one of which lacks
-        the middle."""
+        neighbour is enough to survive. Turned on its side, a table is two columns of four cells,
+        one of which lacks the middle."""
         for name, rule in zip(self.names, ("b3s23", "bs123"), strict=True):
             Path(name).write_text(haul(rule, 100, {"xs12_raar": 4}))
         told = json.loads(run("compare", "--json", "--whole", *self.names)[1])
@@ -650,7 +652,7 @@ class Many(unittest.TestCase):
         self.assertEqual(worked.call_count, 0)
 
     def test_no_process(self) -> None:
-        """If there can't be another process, or if it is killed, this one does the work."""
+        """If no other process can be started, or if it is killed, this process does the work."""
         with patch("os.fork", side_effect=OSError):
             self.assert_right(self.separate())
         parent, separate = os.getpid(), Separator.separate

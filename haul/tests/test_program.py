@@ -61,7 +61,7 @@ def says_right(kept: Kept, text: bytes) -> bool:
 
 
 def is_printed(kept: Kept, text: bytes) -> bool:
-    """Checks whether `take` prints this text, given the job and the set in it."""
+    """Checks whether `take` prints this text for the job and the set in the text."""
     haul = read_one_haul(io.BytesIO(text))
     again = io.BytesIO()
     kept.take(haul.job, haul.ranges, 1, again)
@@ -83,7 +83,7 @@ class Checking(unittest.TestCase):
         self.assertTrue(says_right(kept, text))
         draw = random.Random("bytes")
         for at, byte in enumerate(text):
-            # One of three is a digit, since most other bytes are wrong everywhere.
+            # One of three new bytes is a digit, since most other bytes are wrong anywhere.
             digit = draw.choice([b for b in b"0123456789" if b != byte])
             for other in (
                 digit,

@@ -26,7 +26,7 @@ def read(lines: list[str]) -> Haul:
 
 class OneWrongThing(unittest.TestCase):
     """A right haul in which one row is changed, at each place. The expected message is composed
-    from its lines."""
+    from the lines of the haul."""
 
     def setUp(self) -> None:
         self.lines = census("take", "--count", "40").decode().splitlines()
@@ -56,7 +56,7 @@ class OneWrongThing(unittest.TestCase):
                 )
 
     def test_codes(self) -> None:
-        """A code is missing, or there is one too many, before each code."""
+        """Each code in turn is left out, or another code is added before it."""
         for place, row in zip(self.totals, self.samples, strict=True):
             code, total = self.lines[place].split()
             lines, told = self.with_objects(-int(total))
@@ -71,7 +71,7 @@ class OneWrongThing(unittest.TestCase):
                 )
 
     def test_samples(self) -> None:
-        """There is another number at each place, one number less, or one more."""
+        """A sample at each place is replaced, the last sample is left out, or one is added."""
         tried = 0
         for row in self.samples:
             code, *numbers = self.lines[row].split()
@@ -110,7 +110,7 @@ class OneWrongThing(unittest.TestCase):
                 )
 
     def test_sample_soups(self) -> None:
-        """A soup that doesn't leave the object is at each place, and by itself."""
+        """The sample at each place is replaced by a soup that doesn't leave the object."""
         left = {
             number: {field.partition("*")[0] for field in line.split()[9:]}
             for number, line in enumerate(

@@ -72,7 +72,8 @@ class Bitmaps(unittest.TestCase):
         for rule in map(read_rule, RULES):
             for cells in draw_patterns(60):
                 bits, later = bitmaps.advance(rule, bits_of(cells)), cells
-                # A cell outside of the corner isn't lost, since there is a margin.
+                # A cell that is born above or to the left of the corner isn't lost, since there is
+                # a margin.
                 later = generations.advance(rule, later)
                 self.assertEqual(bits, bits_of(later))
 
@@ -88,7 +89,7 @@ class Bitmaps(unittest.TestCase):
             width, height = (max(side) + 1 for side in zip(*cells, strict=True))
             room = {(x, y) for x in range(-3, width + 3) for y in range(-3, height + 3)}
             self.assertEqual(find_room(bits), bits_of(frozenset(room)))
-        # The row with the first column may be any row.
+        # The cell in the first column may be in any row.
         for row in range(MOST_SIDE):
             cells = frozenset([(1, 0), (1, MOST_SIDE - 1), (0, row)])
             self.assertEqual(bitmaps.find_corner(bits_of(cells)), CORNER)
@@ -109,7 +110,7 @@ class Bitmaps(unittest.TestCase):
 
 class Quick(unittest.TestCase):
     def test_all_objects_of_the_example(self) -> None:
-        """All are found quickly, and what is found is right."""
+        """The quick way separates all of them, and its separations are right."""
         separator, slow = Separator(LIFE), Separator(LIFE)
         codes = list(example().totals)
         found = {code: separator.separate_quickly(code) for code in codes}
@@ -157,7 +158,7 @@ class Quick(unittest.TestCase):
         quick = QuickSeparator(LIFE)
         self.assertIsNotNone(quick.run(bits, 12))
         self.assertIsNone(quick.run(bits, 16))
-        # The cells of both blocks in this object with two codes are at the ends of two rows.
+        # In this object, which has two codes here, the blocks are at both ends of two rows.
         for code in ("xs8_33yy33", "xs8_33yy33z0"):
             self.assertEqual(
                 Separator(LIFE).separate_quickly(code), Separator(LIFE).separate_by_definition(code)
@@ -198,8 +199,9 @@ class Quick(unittest.TestCase):
         self.assertIsNone(quick.run_part(bits, 8))
 
     def test_each_condition_of_a_block(self) -> None:
-        """A block of a bi-block is a part. Three of its cells become four, of which one isn't in
-        the object. Both blocks together don't recur with an object that moves."""
+        """A block of a bi-block meets the conditions, and so do both blocks together. Three cells
+        of a block become four, of which one isn't in the object. Two cells that die don't recur
+        with the object."""
         two = read_bitmap("rr") or 0
         blocks = QuickBlocks(LIFE, [two, two], bitmaps.find_islands([two]))
         one = blocks.islands[0]

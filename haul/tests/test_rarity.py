@@ -47,7 +47,8 @@ class Functions(unittest.TestCase):
                 )
 
     def test_beta_of_other_numbers(self) -> None:
-        """With both parameters 1/2 it is an arcsine, and with one parameter 1 it is a power."""
+        """With both parameters 1/2 the function is an arcsine, and with one parameter 1 it is a
+        power."""
         for x in (0.01, 0.3, 0.9):
             self.near(compute_beta(0.5, 0.5, x), 2 / math.pi * math.asin(math.sqrt(x)))
             self.near(compute_beta(2.7, 1, x), x**2.7)
@@ -74,8 +75,8 @@ class Functions(unittest.TestCase):
         self.near(evaluate(iter([(2.0, 1.0), (-1.0, 1.0), *rest])), 1 + 2 / (1 - 1 / golden))
 
     def test_clopper_and_pearson(self) -> None:
-        """The ends for 10 of 100 are those in statistical tables. At each end, the tail has 2.5
-        %."""
+        """The ends for 10 of 100 are those in statistical tables. At each end, the tail has a
+        probability of 2.5 %."""
         self.assertEqual(
             (round(find_share_low(10, 100), 4), round(find_share_high(10, 100), 4)),
             (0.0490, 0.1762),
@@ -175,7 +176,8 @@ xs4_33 (block): one in 1.10 soups (95 %: 1.10 to 1.10); 673827113 objects in 911
         )
 
     def test_a_pseudo_object(self) -> None:
-        """It has a line of its own, and a line for each of its parts. None of them says `none`."""
+        """A pseudo-object has a line of its own, and a line for each of its parts. No line says
+        `none`."""
         status, output, errors = run("rarity", "xp2_33ws")
         self.assertEqual((status, errors), (0, ""))
         first, *others = output.splitlines()

@@ -14,7 +14,7 @@ from haul.formats.report_files import split_lines
 from haul.formats.report_lines import BadLine, Report, read_report_line
 from haul.tests.called import CENSUS
 
-# There are 57 bytes, as in docs/FORMATS.md.
+# The beginning of a line, 57 bytes long, as in docs/FORMATS.md.
 START = "report 1 rule=b3s23 profile=1,1,1,0 seed= worker=1 soup=0"
 SMALL_JOB = Job("", "b3s23", Profile(1, 1, 1, 0))
 # Soup 101 of the empty seed.
@@ -95,7 +95,7 @@ class Reading(unittest.TestCase):
 
 class Faults(unittest.TestCase):
     def test_what_follows(self) -> None:
-        """These are the table of docs/FORMATS.md, and further cases."""
+        """These are the cases in the table of docs/FORMATS.md, and further cases."""
         for after, place in (
             ("", 57),
             (" unsettled x", 68),
@@ -162,8 +162,8 @@ class Faults(unittest.TestCase):
             self.assertEqual(fault(second + after), place, after)
 
     def test_a_line_that_lost_its_end(self) -> None:
-        """The line is bad where its last field begins, or at its length if that field is right,
-        unless it is a good line itself."""
+        """What is left of the line is bad where its last field begins, or at its end if that field
+        is right, unless it is a good line itself."""
         for end, place in (
             ("", 0),
             ("repor", 0),

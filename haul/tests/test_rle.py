@@ -1,4 +1,4 @@
-"""Patterns in RLE: they are read as plaintext, written from plaintext, and refused if they are
+"""Patterns in RLE: they are turned into plaintext, written from plaintext, and refused if they are
 wrong."""
 
 from __future__ import annotations
@@ -18,7 +18,7 @@ from haul.patterns.rules import RULES, find_named_rule, parse_rule
 from haul.formats.syntax import RULE
 from haul.tests.called import CENSUS, HAUL, census, run
 
-# The glider gun in LifeWiki's RLE, which is the gun of examples/glider-gun.cells.
+# LifeWiki's RLE of the glider gun that is also in examples/glider-gun.cells.
 GUN = """\
 #N Gosper glider gun
 #C This was the first gun discovered.
@@ -161,8 +161,8 @@ class Reading(unittest.TestCase):
 
 class NamedRules(unittest.TestCase):
     def test_each_can_be_run(self) -> None:
-        """Each rule is a value of `--rule` without birth on zero neighbours, and no name occurs
-        twice."""
+        """Each rule is a value of `--rule`, without birth on zero neighbours, and is found by its
+        name in capital letters."""
         for name, option in RULES.items():
             self.assertTrue(RULE.fullmatch(option.encode()), option)
             self.assertEqual(find_named_rule(name.upper()), option)

@@ -304,7 +304,7 @@ class Faults(Searches):
     """The file is always a right haul, whatever fails."""
 
     def test_a_program_that_fails(self) -> None:
-        """The program's status and message are passed on, and the batches before are in the
+        """The program's status and message are passed on, and the earlier batches are in the
         file."""
         for how, status, line in (
             ("echo census: because >&2; exit 4", 4, "because"),
@@ -352,7 +352,8 @@ class Faults(Searches):
         self.assert_nothing_runs()
 
     def test_a_full_disk(self) -> None:
-        """A limit on the size of files stands in for a full disk. The file grows beyond it."""
+        """A limit on the size of files stands in for a full disk. The new text is longer than the
+        limit."""
         self.assertEqual(self.search("--seed=a", "--until", "5")[0], 0)
         before = self.file.read_bytes()
         limit = len(before) + 1000
@@ -362,7 +363,7 @@ class Faults(Searches):
         )
         self.assertEqual(self.file.read_bytes(), before)
         self.assert_left("mine.haul", "mine.haul.late", "mine.haul.lock")
-        # A file that an earlier search has left behind makes no difference.
+        # A FILE.new that an earlier search has left behind makes no difference.
         (self.folder / "mine.haul.new").write_text("x" * 100000)
         self.assertEqual(self.search("--until", "400")[0], 0)
         self.assert_right()
@@ -388,7 +389,7 @@ class Faults(Searches):
         self.assert_nothing_runs()
 
     def test_killed_at_drawn_moments(self) -> None:
-        """The search is killed after it has begun to write, which it does again and again."""
+        """The search is killed at random moments, while it writes the file again and again."""
         draw = random.Random("kills")
         for _ in range(8):
             soups = self.soups()
@@ -467,7 +468,7 @@ class Signals(Searches):
         self.assert_right()
 
     def test_a_signal_that_is_ignored(self) -> None:
-        """`nohup` ignores a signal in this way."""
+        """A signal that is ignored, as under `nohup`, doesn't end the search."""
         program = self.stub('kill -HUP $(cut -d " " -f 4 /proc/$$/stat); sleep 0.3; real "$@"')
         self.has_nohup = True
         self.assertEqual(self.search("--seed=a", "--until", "20", program=program)[0], 0)
@@ -478,7 +479,8 @@ class Programs(Searches):
     """A program that runs in its own session."""
 
     def test_streams_that_are_closed_early(self) -> None:
-        """The program is then waited for, a moment at a time."""
+        """If the program closes its streams before it ends, each check waits for its end only for a
+        moment."""
         running = BackgroundProgram(
             StreamWaiter(), LAUNCH_CENSUS, [self.stub("exec 1>&-; exec sleep 1000")], None
         )
@@ -593,7 +595,8 @@ class Keeping(Searches):
         self.assertEqual(os.listdir(self.folder / "far"), ["link"])
 
     def test_steps_of_a_replacement(self) -> None:
-        """The new text is on disk before it gets the name, and afterwards the name is on disk."""
+        """The new text is on disk before it gets the name of the file. Afterwards the folder is
+        written to disk, too."""
         self.file.write_bytes(census("take", "--count", "3"))
         keeper = Keeper(str(self.file))
         haul = keeper.read()
@@ -619,7 +622,7 @@ class Keeping(Searches):
         os.close(keeper.lock)
 
     def test_rights_of_a_new_file(self) -> None:
-        """Everyone may read and write it, unless the mask says otherwise."""
+        """Everyone may read and write a new file, unless the mask says otherwise."""
         mask = os.umask(0)
         try:
             keeper = Keeper(str(self.file))
@@ -631,8 +634,8 @@ class Keeping(Searches):
         os.close(keeper.lock)
 
     def test_a_folder_that_cant_be_synced(self) -> None:
-        """Some file systems refuse this with `EINVAL`, which isn't a fault. Any other refusal
-        is."""
+        """Some file systems can't sync a folder and answer `EINVAL`, which isn't a fault. Any other
+        error is a fault."""
         keeper = Keeper(str(self.file))
         fsync = os.fsync
         for number, is_fault in ((errno.EINVAL, False), (errno.EIO, True)):

@@ -49,7 +49,7 @@ class Programs(Searches):
         return [line for line in found if line == f"sleep {seconds}"]
 
     def test_without_a_path(self) -> None:
-        """Without a PATH, Python may not know where it is."""
+        """Without a `PATH`, Python may not know the path of its interpreter."""
         ended = subprocess.run(
             [sys.executable, "-c", WITHOUT_EXECUTABLE, HAUL, CENSUS, str(self.file), *QUICK],
             stdout=subprocess.PIPE,
@@ -79,7 +79,7 @@ runpy.run_path(haul, run_name="__main__")"""
 
 
 class Files(Searches):
-    """Tests what others may do to FILE."""
+    """Tests what other programs may do to FILE and to its lock."""
 
     def test_lock_that_is_held_for_a_moment(self) -> None:
         with open(f"{self.file}.lock", "w", encoding="ascii") as lock:
@@ -116,7 +116,7 @@ class Files(Searches):
 
 
 class Arguments(Searches):
-    """Tests numbers and names of files."""
+    """Tests how numbers are written, and arguments with control characters."""
 
     def test_numbers_as_for_census(self) -> None:
         words = ["--seed=", "--first", "+5", "--limit", "+700"]
@@ -139,7 +139,7 @@ class Arguments(Searches):
 
 
 class Reports(Searches):
-    """Tests many bad lines."""
+    """Tests report lines: many bad lines, and the longest input."""
 
     def test_counts_lines_after_a_thousand(self) -> None:
         line = census("work", "--count=1", "--worker=1")
@@ -159,7 +159,7 @@ class Reports(Searches):
 
 
 class Memory(Searches):
-    """A thread without memory ends silently."""
+    """If there is no memory, the thread that does the work may silently never begin."""
 
     def test_thread_that_does_not_begin(self) -> None:
         script = (

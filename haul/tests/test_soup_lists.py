@@ -29,7 +29,7 @@ from haul.views.soup_lists import Longest
 
 JOB = "rule=b3s23 profile=64,512,101,30300 seed=abc"
 JOB_LINE = "seed=abc rule=b3s23 profile=64,512,101,30300"
-# Five settled soups and an unsettled one, in both versions.
+# Report lines of five settled soups and an unsettled one, in both versions of the format.
 LINES = [
     f"report 2 {JOB} worker=1 soup=7 at=499 good=yes xs4_33*2",
     f"report 2 {JOB} worker=1 soup=3 at=1200 good=no xp2_7*3 xq4_153*1 xs4_33*1",
@@ -47,7 +47,7 @@ def text_of(lines: list[str]) -> bytes:
 
 
 def rows(*words: str, lines: list[str] | bytes = LINES) -> list[list[str]]:
-    """Returns the rows of the printed table, without its heads."""
+    """Returns the rows of the printed table up to the column before `seed`, without the heads."""
     status, output, errors = run(
         "soups", "--csv", *words, text=lines if isinstance(lines, bytes) else text_of(lines)
     )
@@ -68,7 +68,7 @@ def program(script: str) -> Iterator[str]:
 
 class Together(unittest.TestCase):
     def test_for_a_reader(self) -> None:
-        """Of five soups, the second, the third and the fourth are the quartiles."""
+        """Of five settled soups, the second, the third and the fourth are the quartiles."""
         self.assertEqual(
             run("soups", text=text_of(LINES)),
             (
@@ -124,8 +124,8 @@ from    to  settled
         )
 
     def test_quartiles(self) -> None:
-        """The quartiles are the checkpoints at a quarter, a half and three quarters of all soups in
-        ascending order, rounded up."""
+        """The quartiles are the checkpoints at a quarter, a half and three quarters of the
+        ascending list, with each place rounded up."""
         for number, quartiles in (
             (1, [1, 1, 1]),
             (2, [1, 1, 2]),
@@ -243,7 +243,7 @@ class Lines(unittest.TestCase):
             self.assertEqual(run("soups", text=text_of(lines))[2], "haul: line 2: other job\n")
 
     def test_progress(self) -> None:
-        """The progress line is updated after each ten thousand lines of all inputs together."""
+        """The progress line is updated after every ten thousand lines of all inputs together."""
         terminal = Mock()
         reports, inputs = Reports(terminal), [
             text_of(LINES[:1] * number) for number in (6_000, 6_000, 7_999)
@@ -371,7 +371,7 @@ class TheLongest(unittest.TestCase):
         self.assertEqual(longest.kept, {498: [(996, 0), (997, 0)], 499: [(998, 0)]})
 
     def test_exact(self) -> None:
-        """The generations are those of a census with each generation as a checkpoint. They decide
+        """The generations are those of a census with a checkpoint in every generation. They decide
         between equal checkpoints."""
         lines = census("work", "--count=60", "--worker=1", "--seed=c")
         each = {
@@ -471,7 +471,7 @@ class UnsettledSoups(unittest.TestCase):
             self.assertEqual(Path(f"{path}.read").read_text().splitlines(), make_soup("a0"))
 
     def test_a_large_pattern(self) -> None:
-        """Nothing that `census run` prints is kept, which is 300 MB here."""
+        """`census run` prints 300 MB here, and nothing of it is kept in memory."""
         line = "report 2 rule=b3s23 profile=1,1,1,0 seed=a worker=1 soup=0 unsettled"
         with tempfile.NamedTemporaryFile() as cells, program(f"cat{f' {cells.name}' * 30}") as path:
             cells.write(b"O" * 10**7)

@@ -58,13 +58,13 @@ class Soups(unittest.TestCase):
         self.assertEqual(run("soup", sign), (0, census("soup", "--seed=~!", "1").decode(), ""))
 
     def test_several(self) -> None:
-        """In a single stream they would be one pattern, so they are refused."""
+        """In a single stream, several samples would be one pattern, so they are refused."""
         status, printed, told = run("soup", "C1/b2", "a1")
         self.assertEqual((status, printed), (2, ""))
         self.assertIn("several samples need --separate FOLDER or --rle", told)
 
     def test_rle(self) -> None:
-        """RLE includes the name and the rule, so a stream may contain several."""
+        """RLE includes the name and the rule, so a stream may contain several samples."""
         status, printed, told = run("soup", "--rle", "C1/b2/b36s23", "a1")
         self.assertEqual((status, told), (0, ""))
         first, second = printed.split("#N a1\n")
@@ -95,7 +95,8 @@ class Soups(unittest.TestCase):
             self.assertTrue(Path(soups, "a1.rle").read_text().startswith("#N a1\nx = "))
 
     def test_other_symmetries(self) -> None:
-        """They are refused by their names, and no soup before them is printed."""
+        """A sample with another symmetry is refused, the message names it, and no soup before it is
+        printed."""
         for name, symmetry in (
             ("D8_1/k_a1", "D8_1"),
             ("C2_4/k_a1", "C2_4"),

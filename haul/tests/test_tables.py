@@ -86,7 +86,7 @@ class Tables(unittest.TestCase):
             Path(self.folder.name, name).write_text(text)
 
     def printed(self, command: str, *words: str) -> str:
-        """Returns what a call prints. It counts whole objects unless its arguments say
+        """Returns what a call prints. Whole objects are counted unless the arguments say
         otherwise."""
         whole = [] if {"--parts", "--strict", "--default"} & {*words} else ["--whole"]
         words = tuple(word for word in words if word != "--default")
@@ -178,8 +178,8 @@ class Intervals(unittest.TestCase):
             self.assertAlmostEqual(high, quantile(total + 1, deviations), delta=near)
 
     def test_by_sums(self) -> None:
-        """The probabilities are sums of terms up to 30, and above that an expansion with four
-        digits after the point."""
+        """Up to a count of 30, the probabilities are exact. Above that, an expansion gives the ends
+        with four digits after the point."""
         for total in (*range(0, 12), 29, 30, 31, 32, 40, 60):
             for found, known in zip(find_interval(total), exact_ends(total), strict=True):
                 self.assertAlmostEqual(found, known, delta=1e-9 if total < 30 else 2e-5)
@@ -246,7 +246,7 @@ def lines_of(function: Callable[[int], object], number: int) -> int:
 
 
 class Rates(unittest.TestCase):
-    """Each rate is the double nearest to the exact quotient, which `Fraction` rounds to, and is
+    """Each rate is the double nearest to the exact quotient, as computed with `Fraction`, and is
     printed in the shortest form that reads back the same."""
 
     def test_each_is_the_nearest(self) -> None:
@@ -345,7 +345,7 @@ rank  code     total  per_million  one_in_at_most  samples  label
             self.assertEqual(run("table", *words)[0], 2, words)
 
     def test_codes_that_say_nothing(self) -> None:
-        """A code that names no kind has neither a kind nor a period."""
+        """A code without a known prefix has neither a kind nor a period."""
         text = haul("b3s23", 10, {"xs4_33": 3, "zz_1": 2, "y": 1}).encode()
         none: list[str] = []
         for words, codes in (
@@ -701,7 +701,7 @@ in A alone: xq4_153 xs8_rr; in B alone: xp15_4r4z4r4
         self.assertAlmostEqual(float(rows["xp2_7"]["low_a"]), 12216.5, places=0)
         self.assertAlmostEqual(float(rows["xp2_7"]["high_a"]), 30888.4, places=0)
         self.assertEqual(rows["ov_p123"]["ratio_c"], "")
-        # The output has everything that the text has.
+        # The CSV has everything that the text has.
         for letter, facts in (
             ("a", ["x", "b3s23", "64,512,101,30300", "1000", "1", "2", "524"]),
             ("b", ["x", "b36s23", "64,512,101,30300", "500", "1", "2", "1006"]),
@@ -837,8 +837,8 @@ class Terminals(Tables):
                 self.assertIn(self.CODE, self.printed(words[0], *words[1:]))
 
     def test_where_they_are_cut(self) -> None:
-        """Nothing is cut if everything fits. Each column less costs a character, but eight
-        characters always remain."""
+        """Nothing is cut if everything fits. A code loses a character for each column that the
+        terminal lacks, but eight characters always remain."""
         code = "xs40_" + "g" * 20
         Path(self.folder.name, "a").write_text(haul("b3s23", 10, {"xs4_33": 5, code: 7}))
         for words in (["table", "a"], ["compare", "a", "a"]):

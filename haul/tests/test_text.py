@@ -59,8 +59,8 @@ def read(text: str) -> Haul:
 
 
 def said_of(text: str) -> str:
-    """Returns the message about a text that isn't a haul: a place, and a reason if its words are
-    well formed."""
+    """Returns the message about a text that isn't a haul: a place, and a reason if the words of the
+    text are well formed."""
     try:
         list(read_hauls(io.BytesIO(text.encode("latin-1"))))
     except BadHaul as bad:
@@ -115,7 +115,7 @@ class Reading(unittest.TestCase):
 
     def test_places_and_reasons(self) -> None:
         """If the words are well formed, the message says why they are wrong, otherwise only where.
-        `None` means that the reason isn't checked."""
+        `None` means that the reason isn't checked, and `""` that the message has no reason."""
         for old, new, place, reason in [
             ("@VERSION 2", "", "line 1 column 1", None),
             ("@VERSION 2", "@VERSION", "line 1 column 9", None),
@@ -207,7 +207,8 @@ class Reading(unittest.TestCase):
                     self.assertEqual(said, f"{place}: {reason}" if reason else place)
 
     def test_what_comes_before_a_fault_is_right(self) -> None:
-        """The text has the largest total, and the lowest number of a soup."""
+        """The largest total and the lowest number of a soup are right, and the fault follows
+        them."""
         most = 2**64 - 1
         self.assertEqual(
             said_of(LARGER.replace("xs4_33 4\n", f"xs4_33 {most} x\n")),
@@ -261,9 +262,9 @@ class Drawn(unittest.TestCase):
             self.assertEqual(read(text_of(haul)), haul)
 
     def test_changed_bytes(self) -> None:
-        """A text in which a byte was changed, added or left out either is valid, and is then
-        written as it was read, or is refused at a place. The text before that place is refused only
-        at its end, and whatever follows the field at that place, the text is refused there."""
+        """A text in which a byte was changed or added either is valid, and is then written as it
+        was read, or is refused at a place. The text before that place is refused only at its end.
+        The text is refused at that place even if something else follows the wrong field."""
         draw = random.Random("mutations")
         refused = 0
         for _ in range(4000):
@@ -279,9 +280,9 @@ class Drawn(unittest.TestCase):
             line, column = (int(word) for word in place.split() if word.isdigit())
             lines = changed.split("\n")
             before = sum(len(one) + 1 for one in lines[: line - 1]) + column - 1
-            # Whether the number of objects is the sum is checked later.
+            # The number of objects is compared with the sum only after the table.
             if not lines[line - 1].startswith("@NUM_OBJECTS "):
-                # The text before it may be a whole haul.
+                # The text before the place may be a whole haul.
                 self.assertIn(fault(changed[:before]), (place, "none"))
                 field_and_after = re.match("[^ \n]*[ \n]", changed[before:])
                 if field_and_after:

@@ -14,7 +14,7 @@ from haul.search import untold
 from haul.tests.called import CENSUS, HAUL, census
 from haul.tests.searching import CLOCK, CLOCK_SOUP, Searches
 
-# The soups from here on leave three finds. The second is a clock.
+# The 700 soups from 23000 on leave three finds. The second find is a clock.
 WORDS = ["--seed=", "--first=23000", "--rarer=10000"]
 HEADER = "rule=b3s23 profile=64,512,101,30300 seed="
 
@@ -64,7 +64,7 @@ class NotPrinted(UntoldFinds):
         self.assertEqual(self.search(*words), (0, "", ""))
 
     def test_a_search_that_runs_no_soup(self) -> None:
-        """Such a search also prints the finds."""
+        """A search that runs no soup also prints the finds."""
         self.to_device(*WORDS, "--until=700")
         output = self.search("--until=700")[1]
         self.assertEqual(len(self.told(output)), 3)
@@ -117,9 +117,11 @@ class AfterAKill(UntoldFinds):
         self.assertEqual(self.search("--until=700")[1], "".join(lines[1:3]))
 
     def test_some_were_left_out(self) -> None:
-        self.finds.write_text(self.header(2**40, 3))
-        told = "haul: mine.haul.finds: 3 finds were left out\n"
-        self.assertEqual(self.search("--until=700"), (0, "", told))
+        for left_out, were in ((3, "3 finds were"), (1, "1 find was")):
+            with self.subTest(left_out=left_out):
+                self.finds.write_text(self.header(2**40, left_out))
+                told = f"haul: mine.haul.finds: {were} left out\n"
+                self.assertEqual(self.search("--until=700"), (0, "", told))
 
     def test_no_more_than_these(self) -> None:
         self.file.unlink()

@@ -69,15 +69,16 @@ def cells_of(plaintext: str) -> set[tuple[int, int]]:
 
 class Codes(unittest.TestCase):
     def test_each_length(self) -> None:
-        """Codes have 1 to 400 bytes, and up to three numbers of thirteen digits may follow one."""
+        """Codes have 1 to 400 bytes, and up to three numbers of thirteen digits may follow a
+        code."""
         numbers = [2**40 - 3, 2**40 - 2, 2**40 - 1]
         for length in (1, 2, 99, 100, 101, 255, 256, 299, 300, 301, 399, 400):
             with self.subTest(length=length):
                 code = "x" * length
                 text = text_of(made({code: 3}, [(2**40 - 3, 3)], samples={code: numbers}))
                 self.assertEqual(run("join", text=text.encode()), (0, text, ""))
-                # There is a large total, and another range, so that neither row is like nearly all
-                # others.
+                # A second haul has a large total and a further range, which nearly all others don't
+                # have.
                 text = text_of(
                     made({code: 2**63}, [(0, 1), (2**40 - 3, 3)], samples={code: numbers})
                 )
@@ -88,8 +89,10 @@ class Codes(unittest.TestCase):
         )
 
     def test_none_is_lost(self) -> None:
-        """Each code has its total and its number of cells. A column of a code has as many cells as
-        its number has ones in binary."""
+        """Each code has a row with its total and its number of live cells. Each character after
+        `xs4_`, except `z`, stands for a column, which has as many live cells as the character's
+        value has ones in binary.
+        """
         for count in (1, 99, 100, 101, 201):
             with self.subTest(count=count):
                 codes = [
@@ -143,8 +146,8 @@ class Checks(unittest.TestCase):
             )
 
     def test_each_sample(self) -> None:
-        """Only one of the forty soups leaves a beacon. It is the first, a middle or the last
-        one."""
+        """Only one of the forty soups leaves a beacon. It is the first, the middle or the last
+        sample."""
         haul = read_one_haul(io.BytesIO(self.TEXT.encode()))
         code = "xp2_318c"
         self.assertEqual(haul.samples[code], [37])
@@ -318,7 +321,7 @@ class Compares(unittest.TestCase):
         one = made({"xs4_33": 5, "xs5_253": 1, "xq4_153": 1}, [(0, 10)])
         other = made({"xs4_33": 30, "xp2_7": 4, "xs6_696": 3, "xs8_rr": 99}, [(0, 1000)])
         for pair in ([one, other], [other, one]):
-            # These are 5 in 10, then 1 in 10 twice, 99 in 1,000, 4 in 1,000, and 3 in 1,000.
+            # The rates are 5 in 10, then 1 in 10 twice, 99 in 1,000, 4 in 1,000, and 3 in 1,000.
             self.assertEqual(
                 rank_codes(pair, 1), ["xs4_33", "xq4_153", "xs5_253", "xs8_rr", "xp2_7", "xs6_696"]
             )
@@ -335,8 +338,8 @@ class Compares(unittest.TestCase):
             rows = [
                 line.split() for line in run("compare", "--whole", *names)[1].splitlines()[5:-1]
             ]
-        # 50 in 4,000 are 12,500 in a million, and 5 in 1,001 are 4,995.004995. 2 are 500, and 3 are
-        # 2,997.002997.
+        # 50 in 4,000 are 12,500 in a million, and 5 in 1,001 are 4,995.004995. 2 in 4,000 are 500
+        # in a million, and 3 in 1,001 are 2,997.002997.
         self.assertEqual(
             rows,
             [

@@ -70,7 +70,7 @@ def why_pattern(text: str, *words: str) -> str:
 
 
 class Fields(unittest.TestCase):
-    """Tests patterns that are run."""
+    """Tests `Field`, which runs patterns."""
 
     def test_as_the_model(self) -> None:
         """A field gives the same generations as the model, under several rules."""
@@ -160,8 +160,9 @@ class WiderRest(unittest.TestCase):
             self.assertEqual(look_for_rest(LIFE, field.live, STANDARD), Rest(), rle)
 
     def test_two_that_blink_by_themselves(self) -> None:
-        """Their cells are near only in successive generations, so they are one group. It doesn't
-        fall apart, since each of its clusters does the same by itself."""
+        """The cells of two blinkers are near one another only in successive generations, so the
+        blinkers are one group. The group isn't an object that falls apart, since each of its
+        clusters does the same by itself."""
         cells = cells_of_rows("OOO.....\n.....O..\n.....O..\n.....O..")
         groups = Watched(Field(LIFE, cells), 2).groups()
         self.assertEqual(len(groups), 1)

@@ -42,7 +42,8 @@ from haul.views.rates import MILLION, compute_rate
 LETTERS = "ABCDEFGHIJKLMNOP"
 MOST_HAULS = len(LETTERS)
 UNITS = {"million": MILLION, "soup": 1}
-# The columns about a haul in each row of CSV. The text has these facts before its table.
+# The columns that each row of CSV has about each haul. The text output has these facts before its
+# table.
 FACTS = ("seed", "rule", "profile", "soups", "unsettled", "for_good", "objects")
 EXPLAINED = "intervals: 95 %"
 SINGLY = "~: as if objects came singly"
@@ -55,9 +56,9 @@ def letter_hauls(hauls: list[Haul]) -> Iterator[tuple[str, Haul]]:
 
 
 def rank_codes(hauls: list[Haul], least: int, rare: bool = False) -> list[str]:
-    """Returns the codes by descending rate, without the codes of which every haul has fewer than
-    `least` objects. If `rare` is set, the rarest come first, and codes that all hauls have are left
-    out."""
+    """Returns the codes of which at least one haul has `least` or more objects, by descending rate.
+    The rate of a code is its highest rate in any haul. If `rare` is set, the rarest codes come
+    first, and codes that all hauls have are left out."""
     codes = [
         code
         for code in set().union(*(haul.totals for haul in hauls))
@@ -85,13 +86,14 @@ class Cell:
     rate: float
     # The ends of the rate's interval, or `None` if the haul has no soups.
     ends: tuple[float, float] | None
-    # The variance of the number in a soup divided by its mean, or `None` if it isn't known.
+    # The variance of the number of objects in a soup divided by the mean, or `None` if it isn't
+    # known.
     dispersion: float | None
-    # The rate divided by the rate in the first haul, or `None` if the first haul has no such
-    # object.
+    # The rate divided by the rate in the first haul. It is `None` in the first haul itself, and if
+    # the first haul has no such object.
     ratio: float | None = None
-    # The probability of a difference from the first haul at least as large as this one, if the
-    # rates are equal, or `None` if it can't be computed.
+    # The probability, if both rates are equal, that a haul differs from the first haul at least as
+    # much as this one. It is `None` if it can't be computed.
     p_value: float | None = None
 
     @property
@@ -101,10 +103,10 @@ class Cell:
 
 @dataclass
 class Comparison:
-    """A comparison of hauls, with one row for each of these codes."""
+    """A comparison of hauls, with one row for each code in `codes`."""
 
-    # If objects are counted by parts, these hauls have the parts, and `objects` has the original
-    # hauls.
+    # If objects are counted by parts, these hauls have the counts of parts, and `objects` has the
+    # original hauls.
     hauls: list[Haul]
     objects: list[Objects]
     codes: list[str]
@@ -148,7 +150,8 @@ class Comparison:
         return Cell(total, compute_rate(total, haul.soups, unit), ends, dispersion)
 
     def is_referred(self, haul: Haul) -> bool:
-        """Checks whether the reference has the dispersion of the haul's objects."""
+        """Checks whether the reference has the dispersions for a haul. It has them for Life with
+        the standard profile, if objects are counted by parts."""
         return self.by_parts and is_covered(haul.job)
 
     def has_rarity(self) -> bool:
@@ -162,7 +165,7 @@ class Comparison:
             yield describe_lettered_job(letter, haul)
             yield describe_soups(letter, haul, self.by_parts)
         heads = self.heads()
-        # Between the code and the name, each column is a number.
+        # All columns between the code and the name have numbers.
         texts = {0, len(heads) - 1}
         yield from align_columns([heads, *map(self.row, self.codes)], texts, 0, width)
         yield self.alone_line()
@@ -207,7 +210,7 @@ class Comparison:
         return find_label(code, self.separate(code))
 
     def separate(self, code: str) -> Separation:
-        """Returns the parts of an object under the rule of the first haul that has it."""
+        """Returns the parts of an object under the rule of the first haul that has the object."""
         objects = next(
             objects
             for objects, haul in zip(self.objects, self.hauls, strict=True)
@@ -236,8 +239,8 @@ class Comparison:
         )
 
     def csv(self) -> Iterator[str]:
-        """Yields the lines of CSV, which has everything that the text has. A missing value is
-        empty."""
+        """Yields the lines of CSV, which has everything that the text output has. A missing value
+        is empty."""
         heads = ["code", "name", "alone"]
         for letter in self.letters():
             heads += [
@@ -258,7 +261,7 @@ class Comparison:
 
     def p_heads(self) -> list[str]:
         """Returns the heads of the columns of p-values: `p` if there are two hauls, otherwise one
-        for each haul but A."""
+        head for each haul except A."""
         letters = self.letters()[1:]
         return ["p"] if len(letters) == 1 else [f"p_{letter}" for letter in letters]
 
@@ -285,7 +288,7 @@ class Comparison:
         return [*row, format_truth(self.by_parts), *p_values, *rarity]
 
     def json(self) -> Iterator[str]:
-        """Yields the lines of a JSON object, which has an object for each code."""
+        """Yields the lines of a JSON object that contains a JSON object for each code."""
         hauls: list[dict[str, object]] = [
             {
                 "haul": letter,

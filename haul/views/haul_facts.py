@@ -1,4 +1,4 @@
-"""The facts that a haul states before its table."""
+"""The facts about a haul that are shown with its table."""
 
 from __future__ import annotations
 
@@ -28,7 +28,7 @@ def describe_soups(letter: str, haul: Haul, by_parts: bool = False) -> str:
 
 
 def list_haul_facts(haul: Haul) -> dict[str, object]:
-    """Returns the facts as fields of JSON."""
+    """Returns the facts about a haul as fields of JSON."""
     return {
         "seed": haul.job.seed,
         "rule": haul.job.rule,
@@ -43,7 +43,8 @@ def list_haul_facts(haul: Haul) -> dict[str, object]:
 
 
 def list_csv_facts(haul: Haul) -> list[str]:
-    """Returns the facts as values of CSV. Facts that a haul of apgsearch doesn't have are empty."""
+    """Returns the facts about a haul as values of CSV. Facts that a haul of apgsearch doesn't have
+    are empty."""
     job = haul.job
     if haul.apgsearch:
         return [job.seed, job.rule, "", str(haul.soups), "", "", str(haul.objects())]

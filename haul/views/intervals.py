@@ -2,11 +2,12 @@
 
 A count has a Poisson distribution if events occur one by one. Objects don't: a soup often leaves
 several of the same kind. For Life with the standard profile, the reference has the dispersion,
-which is the variance of the number of objects in a soup divided by its mean. The interval allows
-for it.
+which is the variance of the number of objects in a soup divided by its mean. The interval takes the
+dispersion into account.
 
-The low end is the mean at which the count or more has a probability of 2.5 %. The high end is the
-mean at which the count or less has a probability of 2.5 %. Both are found by bisection.
+The low end is the mean for which a count at least this high has a probability of 2.5 %. The high
+end is the mean for which a count at most this high has a probability of 2.5 %. Both are found by
+bisection.
 """
 
 from __future__ import annotations
@@ -24,7 +25,7 @@ STEPS = 60
 # more than six digits.
 # mutant: equal because both ways have more digits than are shown
 MOST_TERMS = 30
-# Above `MOST_TERMS`, neither end is this many standard deviations away.
+# For counts above `MOST_TERMS`, both ends are within this many standard deviations of the count.
 # mutant: equal because the same value is found between other ends
 DEVIATIONS = 5
 
@@ -37,8 +38,8 @@ def find_interval(total: int) -> tuple[float, float]:
 
 def find_dispersed_interval(total: int, dispersion: float) -> tuple[float, float]:
     """Returns the ends of the interval for a count whose variance is `dispersion` times its mean.
-    These are the ends for the count divided by `dispersion`, which needn't be a whole number,
-    multiplied by `dispersion`."""
+    They are computed for the count divided by `dispersion`, which needn't be a whole number, and
+    then multiplied by `dispersion`."""
     count = total / dispersion
     low = find_mean(count, 1 - TAIL) if total else 0.0
     return low * dispersion, find_mean(count + 1, TAIL) * dispersion
@@ -50,14 +51,15 @@ def find_mean(count: float, chance: float) -> float:
     if count <= MOST_TERMS:
         # mutant: equal because the same value is found between other ends
         return bisect(lambda mean: find_chance(count, mean), chance, 0.0, 2.0 * MOST_TERMS)
-    # Bisects the relative distance from the count rather than the mean itself, since the distance
-    # has more digits.
+    # Bisects the relative distance from the count rather than the mean itself, because a double has
+    # more digits for the small distance.
     most = DEVIATIONS / sqrt(count)
     return count * (1 + bisect(lambda apart: expand(count, apart), chance, -most, most))
 
 
 def bisect(falls: Callable[[float], float], wanted: float, low: float, high: float) -> float:
-    """Returns the argument at which a decreasing function has the value `wanted`."""
+    """Returns the argument between `low` and `high` at which the decreasing function `falls` has
+    the value `wanted`."""
     for _ in range(STEPS):
         middle = (low + high) / 2
         # mutant: equal because a double changes no more
@@ -90,15 +92,15 @@ def expand(count: float, apart: float) -> float:
     Mathematical Functions, 8.12.4."""
     # mutant: equal because both forms agree there
     if abs(apart) < 1e-4:
-        # A difference would lose most of its digits here.
+        # The difference `apart - log1p(apart)` would lose most of its digits here.
         half_square = apart * apart * (1 / 2 - apart * (1 / 3 - apart / 4))
     else:
         half_square = apart - log1p(apart)
     # mutant: equal because 0 has one root
     eta = sqrt(2 * half_square) if apart > 0 else -sqrt(2 * half_square)
-    # 2 mutants: equal because it is smaller than the terms that are left out
+    # 2 mutants: equal because the change is smaller than the terms that are left out
     first = -1 / 3 + eta * (1 / 12 + eta * (-2 / 135 + eta * (1 / 864 + eta / 2835)))
-    # 2 mutants: equal because it is smaller than the terms that are left out
+    # 2 mutants: equal because the change is smaller than the terms that are left out
     second = (-1 / 540 - eta / 288) / count
     return erfc(eta * sqrt(count / 2)) / 2 + exp(-count * half_square) / sqrt(2 * pi * count) * (
         first + second

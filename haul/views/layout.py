@@ -18,11 +18,11 @@ def align_columns(
     rows: list[list[str]], texts: set[int], code: int, width: int | None
 ) -> Iterator[str]:
     """Yields lines with aligned columns: texts to the left, numbers to the right. If `width` is
-    given, codes in column `code` are cut so that no line is wider. `LEAST_OF_A_CODE` characters of
-    a code stay, even if a line is then wider."""
+    given, codes in column `code` are cut so that no line is wider. At least `LEAST_OF_A_CODE`
+    characters of a code stay, even if a line is then wider."""
     widths = [max(len(row[column]) for row in rows) for column in range(len(rows[0]))]
     over = sum(widths) + len(GAP) * (len(widths) - 1) - width if width is not None else 0
-    # mutant: equal because a column that is cut to its width is whole
+    # mutant: equal because a code is whole if it is cut to the width that it has
     if over > 0:
         widths[code] = min(widths[code], max(LEAST_OF_A_CODE, widths[code] - over))
     for row in rows:

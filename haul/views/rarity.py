@@ -1,4 +1,5 @@
-"""The output of `haul rarity`: an object occurs in one of how many soups of the reference."""
+"""The output of `haul rarity`: the N for which an object occurs in one of N soups of the
+reference."""
 
 from __future__ import annotations
 
@@ -13,7 +14,7 @@ from haul.rarity.counted import find_occurrence_of_counted
 from haul.rarity.occurrence import Occurrence, format_one_in
 from haul.rarity.reference import NONE, SOUPS, load_reference
 
-# The heads of the columns of rarity.
+# The columns of rarity: N if one of N soups has the object, and the ends of the 95 % interval of N.
 RARITY_HEADS = ["one_in", "one_in_low", "one_in_high"]
 ROUNDED = 3
 NOT_COUNTED = "no object that `census` counts, so the reference can't have it"
@@ -38,7 +39,7 @@ def name_object(code: str) -> str:
 
 
 def describe_part(code: str) -> str:
-    """Returns how often a part occurs, with the interval of 95 %."""
+    """Returns a text that says how often a part occurs in the reference, with the 95 % interval."""
     occurrence, entry = find_occurrence_of_counted(code), load_reference().get(code, NONE)
     if occurrence is None:
         return NOT_COUNTED
@@ -55,9 +56,9 @@ def describe_part(code: str) -> str:
 
 def list_part_words(code: str) -> list[str]:
     """Returns what the reference says about a part, as texts for a page: `one in N`, the 95 %
-    interval of N, and how many objects it has in how many soups. If it has none, the first two
-    are `none in ..` and `less than one in ..`, and the third is empty. If `census` doesn't count
-    such objects, there is only one text, which says so."""
+    interval of N, and the number of such parts with the number of soups that have them. If the
+    reference has no such part, the first two texts are `none in ..` and `95 %: less than one in
+    ..`, and the third is empty. If `census` doesn't count such objects, the only text says so."""
     occurrence, entry = find_occurrence_of_counted(code), load_reference().get(code, NONE)
     if occurrence is None:
         return [NOT_COUNTED.replace("`", "")]
@@ -79,14 +80,14 @@ def separate_thousands(one_in: float) -> str:
 
 
 def round_down(number: float) -> int:
-    """Returns a number rounded down to three digits, followed by zeros."""
+    """Returns a number of 100 or more, rounded down to three significant digits."""
     unit = int(10 ** (len(str(int(number))) - ROUNDED))
     return int(number) // unit * unit
 
 
 def list_rarity_words(occurrence: Occurrence | None) -> list[str]:
-    """Returns the three columns for a reader. `none` means that a number doesn't exist, and `-`
-    that `census` doesn't count such objects."""
+    """Returns the three columns of rarity for a reader. `none` means that a number doesn't exist,
+    and `-` that `census` doesn't count such objects."""
     if occurrence is None:
         return ["-"] * len(RARITY_HEADS)
     return [
@@ -95,14 +96,16 @@ def list_rarity_words(occurrence: Occurrence | None) -> list[str]:
 
 
 def list_rarity_values(occurrence: Occurrence | None) -> list[str]:
-    """Returns the three columns of CSV. They are empty if `census` doesn't count such objects."""
+    """Returns the three columns of rarity for CSV. They are empty if `census` doesn't count such
+    objects."""
     if occurrence is None:
         return [""] * len(RARITY_HEADS)
     return ["none" if number is None else str(number) for number in list_numbers(occurrence)]
 
 
 def list_rarity_facts(occurrence: Occurrence | None) -> dict[str, object]:
-    """Returns the three fields of JSON. They are null if `census` doesn't count such objects."""
+    """Returns the three fields of rarity for JSON. They are null if `census` doesn't count such
+    objects."""
     if occurrence is None:
         return dict.fromkeys(RARITY_HEADS)
     return dict(zip(RARITY_HEADS, list_numbers(occurrence), strict=True))

@@ -13,7 +13,7 @@ QUARTERS = 4
 
 
 class Settling:
-    """Counts soups according to their reports."""
+    """The number of unsettled soups, and of settled soups by checkpoint, according to reports."""
 
     def __init__(self) -> None:
         self.unsettled = 0
@@ -65,8 +65,8 @@ class Settling:
         )
 
     def bars(self) -> list[tuple[int, int, int]]:
-        """Returns the bars up to the last checkpoint. Each has its first and last generation, and
-        the number of soups that settled in between."""
+        """Returns the bars up to the last checkpoint. Each bar has its first and last generation,
+        and the number of soups that settled from the first to the last."""
         soups: Counter[int] = Counter()
         for checkpoint, number in self.checkpoints.items():
             soups[checkpoint // GENERATIONS_OF_A_BAR] += number

@@ -1,5 +1,5 @@
-"""The lists of `haul soups`. Each list keeps what it needs of the reports, and makes a table from
-it."""
+"""The lists of `haul soups`. Each list keeps what it needs from the reports, and makes a table of
+that."""
 
 from __future__ import annotations
 
@@ -22,10 +22,10 @@ class SoupList:
     together."""
 
     def add(self, report: Report) -> None:
-        """Keeps what the list needs of a report."""
+        """Keeps what the list needs from a report."""
 
     def table(self, _job: Job | None, settling: Settling) -> SoupTable:
-        """Returns the table of the added reports. The job is that of the reports, or `None` if
+        """Returns the table of the added reports. `_job` is the job of the reports, or `None` if
         there are no reports."""
         return SoupTable(
             "bars",
@@ -43,8 +43,9 @@ class Longest(SoupList):
     most: int
     # The program that finds exact generations, or `None` if checkpoints are enough.
     census: Census | None
-    # The numbers of soups, with their numbers of objects, by checkpoint. All soups of a checkpoint
-    # are kept, because exact generations may decide between them.
+    # For each checkpoint, the soups that settled there: the number of each soup, and its number of
+    # objects. All soups of a checkpoint are kept, because exact generations may decide between
+    # them.
     kept: dict[int, list[tuple[int, int]]] = field(default_factory=dict)
     count: int = 0
 
@@ -58,8 +59,8 @@ class Longest(SoupList):
             self.count -= len(self.kept.pop(first))
 
     def table(self, job: Job | None, _settling: Settling) -> SoupTable:
-        """Returns the table by descending generation. If generations are equal, lower numbers come
-        first."""
+        """Returns the table by descending generation. Among soups with the same generation, lower
+        soup numbers come first."""
         rows: list[Row] = [
             [soup, checkpoint, objects]
             for checkpoint, soups in self.kept.items()
@@ -82,7 +83,7 @@ class Longest(SoupList):
 @dataclass
 class Unsettled(SoupList):
     """The unsettled soups, each with its population at the last checkpoint and its growth before
-    that."""
+    that checkpoint."""
 
     census: Census
     # Whether the table has the fate of each soup.

@@ -45,7 +45,7 @@ class TableRow:
     code: str
     total: int
     per_million: float
-    # The bound that follows from the haul: at most one soup in this number has the object.
+    # The upper bound that follows from the haul: at most one in this many soups has the object.
     one_in_at_most: int
     samples: list[int]
     separation: Separation
@@ -183,8 +183,8 @@ def list_heads(has_rarity: bool) -> list[str]:
 
 
 def format_table_text(lines: list[TableRow], has_rarity: bool, width: int | None) -> Iterator[str]:
-    """Yields the lines for a reader. Each column except for the last one is a single word. Only
-    the samples may be empty, in a haul of apgsearch."""
+    """Yields the lines for a reader. Each value is a single word, except for the label in the last
+    column. Only the samples may be empty, in a haul of apgsearch."""
     heads = list_heads(has_rarity)
     texts = {CODE, *(heads.index(head) for head in AFTER_RARITY)}
     return align_columns([heads] + [line.words() for line in lines], texts, CODE, width)
@@ -198,7 +198,7 @@ def format_table_csv(lines: list[TableRow], has_rarity: bool, by_parts: bool) ->
 
 def format_table_json(haul: Haul, lines: list[TableRow], by_parts: Objects | None) -> Iterator[str]:
     """Yields the lines of a JSON object. If totals are by parts, it also has the parts of each
-    object."""
+    object of the haul."""
     facts = list_haul_facts(haul) | {"by_parts": by_parts is not None}
     return format_json(
         facts | list_part_facts(by_parts) if by_parts else facts,

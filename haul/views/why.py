@@ -15,7 +15,7 @@ from haul.views.layout import format_csv, format_json
 class FateTable:
     """A table of soups, or of a single pattern, with their fates."""
 
-    # `None` if there are no soups.
+    # The job of the soups or of the pattern, or `None` if there are no soups.
     job: Job | None
     # Each soup's number, or the name of the pattern's file, with its fate.
     fates: Sequence[tuple[int | str, Fate]]

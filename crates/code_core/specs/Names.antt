@@ -70,8 +70,7 @@ abbrev pub CodesMoved : Type 0
 CodesMoved = (dx dy : ℤ) (rule : Numbers) (cells : List Cell) (limit : ℕ) (code : List ℕ)
     → InOrder cells → IsCode rule cells limit code → IsCode rule (shifted dx dy cells) limit code
 
--- an apgcode has 1 to 400 bytes, each one of `a` to `z`, `0` to `9` and `_`, if the population and the limit fit in 64
--- bits
+-- an apgcode has 1 to 400 bytes of `a` to `z`, `0` to `9` and `_`, if the population and the limit fit in 64 bits
 abbrev pub CodesHaveTheirShape : Type 0
 CodesHaveTheirShape = (rule : Numbers) (cells : List Cell) (limit : ℕ) (code : List ℕ)
     → length cells < 2 ^ 64 → limit < 2 ^ 64 → IsCode rule cells limit code → HasCodeShape code

@@ -25,8 +25,7 @@ finding_text Unsettled = codes "unsettled\n"
 abbrev pub TellsFinding : Numbers → Settling → List Cell → Right
 TellsFinding rule profile cells answer = (finding : Finding) × IsFinding rule profile cells finding × only (Ok (finding_text finding)) answer
 
--- the right answers of `name`: the text of the pattern's finding; first the profile is checked, then the rule, and then
--- the input
+-- the right answers of `name`: the profile is checked first, then the rule, and then the input
 abbrev pub name_right : ProfileNumbers → List ℕ → List ℕ → Right
 name_right numbers rule_text bytes =
     IsRightGiven (profile_named numbers) (λ profile. IsRightGiven (rule_named rule_text) (λ rule. IsRightGiven (pattern_of bytes) (TellsFinding rule profile)))

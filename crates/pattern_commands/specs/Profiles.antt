@@ -19,7 +19,6 @@ pub record AreInRange (numbers : ProfileNumbers) : Type 0 where
 abbrev pub settling : ProfileNumbers → Settling
 settling n = record { period = n.period; horizon = n.horizon; stride = n.stride; limit = n.limit }
 
--- the profile with these four numbers; if each number is in its range, the only possible fault is a horizon below the
--- period
+-- the profile with these numbers; if each is in its range, the only possible fault is a horizon below the period
 abbrev pub profile_named : ProfileNumbers → Result Settling Complaint
 profile_named numbers = if nat_le numbers.period numbers.horizon then Ok (settling numbers) else Err (Refused HorizonBelowPeriod)

@@ -75,8 +75,8 @@ impl StepError {
 /// that the board never is much wider than the pattern.
 const STRETCH: u32 = 256;
 
-/// The most cuts, one within the other, that lead to one part of a pattern. Each cut is near the middle, so there may
-/// be very many parts.
+/// The most cuts, one within the other, that lead to one part of a pattern. A part to which this many cuts led isn't
+/// cut again.
 const CUTS: u32 = 40;
 
 impl<E: Into<OutOfMemory>> From<E> for StepError {

@@ -37,8 +37,7 @@ pub struct SoupSet<'a> {
 pub struct ProfileNumbers {
     /// The longest period that counts, in generations: 1 to 64.
     pub period: u32,
-    /// For how many generations clusters must keep apart: at most 4,096. Whether this is at least `period` hasn't been
-    /// checked yet.
+    /// For how many generations clusters must keep apart: at most 4,096. It hasn't been compared with `period` yet.
     pub horizon: u32,
     /// The number of generations between two checkpoints: 1 to 10,000.
     pub stride: u32,

@@ -13,7 +13,7 @@ from concurrent.futures import ThreadPoolExecutor
 from pathlib import Path
 
 TOP = Path(__file__).resolve().parents[3]
-# The tests that run each line, such as `formats/rle.py:12`, with the seconds that each test takes.
+# The tests that run each line, such as `patterns/rle.py:12`, with the seconds that each test takes.
 Lines = dict[str, dict[str, float]]
 
 SETTINGS = """\
@@ -72,7 +72,7 @@ def list_tests(suite: unittest.TestSuite | unittest.TestCase) -> Iterator[str]:
 
 
 def note_lines(copy: Path, names: list[str], workers: int) -> Lines:
-    """Runs each test in a copy of the checkout, and returns which lines they run."""
+    """Runs each test in a copy of the checkout, and returns the tests that run each line."""
     from coverage import CoverageData  # type: ignore[import]
 
     data = copy / "coverage"

@@ -97,7 +97,7 @@ def find_places(file: str, tree: ast.Module) -> Iterator[Place]:
 
 
 def find_truths(tree: ast.Module) -> set[int]:
-    """Returns the nodes of the functions that return a truth value."""
+    """Returns the ids of the nodes in functions that return a truth value."""
     return {
         id(node)
         for function in ast.walk(tree)
@@ -108,8 +108,8 @@ def find_truths(tree: ast.Module) -> set[int]:
 
 
 def find_signals(tree: ast.Module) -> set[int]:
-    """Returns the nodes in calls that send signals. With a changed number, a signal would go to
-    other users' processes: `killpg(1, ..)` ends all processes."""
+    """Returns the ids of the nodes in calls that send signals. With a changed number, a signal
+    would go to other users' processes: `killpg(1, ..)` ends all processes."""
     return {
         id(node)
         for call in ast.walk(tree)

@@ -29,8 +29,8 @@ PROGRAM = TOP / "crates" / "census" / "out" / "census"
 FAILED = re.compile(r"^(?:FAIL|ERROR): \w+ \(([\w.]+)\)", re.MULTILINE)
 # A changed program may run forever, or ask for all memory.
 MOST_SECONDS, MOST_BYTES = 15, 2**30
-# An option of the system call `prctl`: this process becomes the parent of processes whose parent
-# has ended.
+# An option of the system call `prctl`: this process becomes the parent of those of its descendants
+# whose parent has ended.
 PR_SET_CHILD_SUBREAPER = 36
 
 
@@ -59,8 +59,8 @@ def make_copy(copy: Path) -> None:
 
 
 def compile_copy(copy: Path) -> None:
-    """Compiles all modules of a copy, so that no test has to. Python doesn't check whether a file
-    has changed since."""
+    """Makes a copy and compiles all its modules, so that no test has to. Python won't check whether
+    a source file has changed since."""
     make_copy(copy)
     mode = py_compile.PycInvalidationMode.UNCHECKED_HASH
     for file in copy.glob("haul/**/*.py"):
@@ -71,7 +71,7 @@ def try_all(trials: list[Trial], workers: int) -> Iterator[str | None]:
     """Yields what `find_noticing_test` returns for each change."""
     with tempfile.TemporaryDirectory() as compiled:
         compile_copy(Path(compiled))
-        # A process with running threads can't be forked in this way.
+        # The workers are processes, since a process with running threads can't be forked safely.
         with get_context("fork").Pool(workers, load_libraries, [compiled]) as pool:
             yield from pool.imap(partial(find_noticing_test, compiled), trials)
 

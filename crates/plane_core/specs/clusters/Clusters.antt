@@ -6,8 +6,7 @@ use Rattle.std.specs.List.{list_any}
 use Rattle.plane_core.specs.plane.Bounds.{shifted}
 use Rattle.plane_core.specs.plane.Cells.{InOrder, cell_cmp, king_distance, has}
 
--- the list is a path from c to d, without c: each of its cells is in the pattern, at king distance at most 2 from the
--- cell before
+-- a path from c, which isn't listed, to d: each cell is in the pattern, at king distance at most 2 from the cell before
 abbrev pub Leads : List Cell → Cell → List Cell → Cell → Type 0
 Leads cells c [] d = c ≡ d
 Leads cells c (e ∷ es) d = (has cells e ≡ true) × (king_distance c e ≤ 2) × Leads cells e es d
