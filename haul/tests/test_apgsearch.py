@@ -250,7 +250,9 @@ class Apgsearch(unittest.TestCase):
             self.assertEqual(run("table", self.write("limit", text))[0], 0)
 
     def test_what_texts_look_like(self) -> None:
-        """A text that isn't a haul is refused with a message about what it looks like."""
+        """If a text isn't a haul, the message says what the text looks like, if that is known.
+        `soups` expects report lines, and says so if it is given a haul.
+        """
         own = census("take", "--count", "1").decode()
         for name, text, form in (
             ("lines", census("work", "--worker=1", "--count=1").decode(), "report lines"),

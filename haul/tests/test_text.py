@@ -262,9 +262,11 @@ class Drawn(unittest.TestCase):
             self.assertEqual(read(text_of(haul)), haul)
 
     def test_changed_bytes(self) -> None:
-        """A text in which a byte was changed or added either is valid, and is then written as it
-        was read, or is refused at a place. The text before that place is refused only at its end.
-        The text is refused at that place even if something else follows the wrong field."""
+        """A byte of a haul text is changed, or one is added. If the new text is valid, it is written
+        as it was read. Otherwise it is refused at a place. The part before that place is valid by
+        itself, or is refused at its end. If other text follows the wrong field, the place stays the
+        same.
+        """
         draw = random.Random("mutations")
         refused = 0
         for _ in range(4000):
