@@ -105,7 +105,9 @@ def generations() -> Iterator[Call]:
 
 
 def live_cells() -> Iterator[Call]:
-    """Yields calls of `run` with many cells, in rows of 1,000, for no generations."""
+    """Yields calls of `run 0` with patterns of up to 1,000,000 live cells, in full rows of 1,000 and
+    a last row with the rest.
+    """
     for count in numbers(10**6):
         rows = ["O" * 1000] * (count // 1000) + ["O" * (count % 1000)] * (count % 1000 > 0)
         shown = [row.ljust(min(count, 1000), ".") for row in rows]

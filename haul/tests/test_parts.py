@@ -551,9 +551,10 @@ class SideBySide(unittest.TestCase):
         self.assertEqual([one["not_separated"] for one in told["hauls"]], [["ov_p12"], []])
 
     def test_other_parts_under_another_rule(self) -> None:
-        """Each table of a table on table dies in Life, and stays where nothing is born and one
-        neighbour is enough to survive. Turned on its side, a table is two columns of four cells,
-        one of which lacks the middle."""
+        """In Life, each of the two tables of a table on table would die alone. Under `bs123`,
+        nothing is born, and each table stays. Its code `xs6_9f` is a table turned on its side: a
+        column of four live cells, and beside it a column with only its first and fourth cell.
+        """
         for name, rule in zip(self.names, ("b3s23", "bs123"), strict=True):
             Path(name).write_text(haul(rule, 100, {"xs12_raar": 4}))
         told = json.loads(run("compare", "--json", "--whole", *self.names)[1])

@@ -350,7 +350,7 @@ turned-rigid o = record {
   keeps = turned-keeps o;
 }
 
--- each pattern is a moved copy of the pattern at the corner
+-- a pattern that was moved to the corner can be moved back
 corner-back : (cells : List Cell) → (dx : ℤ) × (dy : ℤ) × (shifted dx dy (at_corner cells) ≡ cells)
 corner-back [] = (pos 0, pos 0, refl)
 corner-back (c ∷ cs) =

@@ -46,7 +46,8 @@ inner_row false rows step = rows.from + step
 abbrev pub NoDeeperRow : Frame → Direction → ℕ → ℕ → Option ℤ → Type 0
 NoDeeperRow at way word_column row found = (i : ℕ) → i < 64 → IsReached found (depth_in way (board_cell at word_column row i))
 
--- no cell, alive or dead, that is `first` or more rows inwards from the outermost row is deeper than what was found
+-- The rows of the span that are `first` or more rows inwards from the outermost row have no cell in this word column,
+-- alive or dead, that is deeper than what was found.
 abbrev pub NoDeeper : Frame → Direction → ℕ → RowSpan → ℕ → Option ℤ → Type 0
 NoDeeper at way word_column rows first found =
     (step : ℕ) → first ≤ step → step < rows.end - rows.from → NoDeeperRow at way word_column (inner_row way.down rows step) found

@@ -440,7 +440,8 @@ between c b d first second row near = go (before_cases c b first) (before_cases 
         let even : distance b.y d.y ≤ 2 = omega (arith, ints, right.0) in
         (omega (arith, west, level), omega (arith, east, even))
 
--- the place just before is joined with `place` if their cells are in the same row and need to be joined
+-- the fact about the place just before `place` holds for each k with k + 1 ≡ place: if the two cells are in the same row
+-- and need to be joined, they are joined
 pub joins_before : (cells : List Cell) (parents : List ℕ) (place : ℕ)
     → ((cell_of cells (place - 1)).y ≡ (cell_of cells place).y → NeedsJoin cells (place - 1) place → Joined parents (place - 1) place)
     → (k : ℕ) → k + 1 ≡ place → (cell_of cells k).y ≡ (cell_of cells place).y → NeedsJoin cells k place → Joined parents k place
