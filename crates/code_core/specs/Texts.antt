@@ -51,8 +51,7 @@ boxed_text cells (Some b) =
     then Some (flat_map spelling (tokens_of (at_corner cells) (distance b.left b.right) (distance b.top b.bottom)))
     else None
 
--- the text of a pattern, which is first moved to the corner, or `None` if it is empty or its box is larger than 40 by
--- 40
+-- the text of a pattern, moved to the corner; `None` if the pattern is empty or its box is larger than 40 by 40
 unfoldable pub text : List Cell → Option (List ℕ)
 text cells = boxed_text cells (box_of cells)
 

@@ -14,8 +14,7 @@ use Rattle.ranges.specs.Ranges.{is_in}
 abbrev pub of_worker : ℕ → List (ℕ × ℕ) → List (ℕ × ℕ)
 of_worker worker entries = filter (λ t. nat_eq t.0 worker) entries
 
--- What is taken from a worker is some of what it offered before any closing, in the same order. Each number is taken at
--- most once, and is in the set.
+-- what is taken from a worker is some of what it offered before a closing, in order; each number once, and from the set
 pub record IsTakenOf (terms : Terms) (arrivals : List Arrival) (worker : ℕ) : Type 0 where
   pub part : IsSubsequence (of_worker worker (taken_of terms arrivals)) (of_worker worker (map entry (offered arrivals)))
   pub once : (n : ℕ) → count_by (nat_eq n) (numbers_in (of_worker worker (taken_of terms arrivals))) ≤ 1

@@ -6,8 +6,7 @@ use Rattle.plane_core.specs.declared.plane.bounds.Bounds.{Bounds}
 use Rattle.plane_core.specs.plane.Cells.{cell_at, has, set_of}
 use Rattle.sha2.specs.Sha256.{sha256}
 
--- the digest's bit for column x of row y is set: bit 7 - x mod 8 of byte 2y + x div 8, where bit 7 is the most
--- significant
+-- the digest's bit for column x of row y is set: bit 7 - x mod 8 of byte 2y + x div 8 (bit 7 is the most significant)
 abbrev pub is_set : List ℕ → ℕ → ℕ → Bool
 is_set digest x y = (slice_index digest (2 * y + x / 8) / 2 ^ (7 - x % 8)) % 2 == 1
 

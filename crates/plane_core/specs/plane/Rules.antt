@@ -24,8 +24,7 @@ pub record IsRule (rule : Numbers) : Type 0 where
   pub births : length rule.births ≡ 8
   pub survivals : length rule.survivals ≡ 9
 
--- the digits, ascending, of the numbers for which the table answers true; the table's first answer is for n, and `0` is
--- byte 48
+-- the digits (`0` is byte 48), ascending, of the numbers for which the table answers true; its first answer is for n
 unfoldable pub digits : ℕ → List Bool → List ℕ
 digits n [] = []
 digits n (true ∷ more) = (48 + n) ∷ digits (n + 1) more

@@ -11,8 +11,7 @@ use Rattle.survey_core.specs.shapes.RecurringShapes.{RecursWithin}
 abbrev pub KeepApart : Numbers → List Cell → List (List Cell) → ℕ → Type 0
 KeepApart rule cells parts g = Partition (after rule cells g) (map (λ part. after rule part g) parts)
 
--- a pattern with these clusters is at rest: each of them recurs within the period, and up to the horizon they keep
--- apart
+-- a pattern with these clusters is at rest: each recurs within the period, and up to the horizon they keep apart
 pub record RestsAs (rule : Numbers) (profile : Settling) (cells : List Cell) (clusters : List (List Cell)) : Type 0 where
   pub parts : AreClusters cells clusters
   pub back : All (RecursWithin rule profile.period) clusters
