@@ -14,7 +14,7 @@ pub record IsCommonPeriod (rule : Numbers) (limit : ℕ) (clusters : List (List 
   pub some : 1 ≤ m
   pub each : All (λ cluster. (period : ℕ) → RecursInPlace rule limit cluster period → IsMultiple m period) clusters
 
--- clusters stay for good: each recurs in its place, and the least common multiple of their periods is within the horizon
+-- clusters stay for good: each recurs in place, and the least common multiple of their periods is within the horizon
 pub record ClustersStayForGood (rule : Numbers) (limit horizon : ℕ) (clusters : List (List Cell)) : Type 0 where
   pub in_place : All (λ cluster. (period : ℕ) × RecursInPlace rule limit cluster period) clusters
   pub multiple : ℕ
