@@ -7,7 +7,7 @@ use Rattle.arguments.specs.Entries.{Entry, flag, option, optional, position, req
 abbrev pub most_workers : ℕ
 most_workers = 16
 
--- the highest first number that a range may have; all numbers of soups are below it
+-- the highest value of `--first`; the number of every soup is below it
 abbrev pub most_first : ℕ
 most_first = 2 ^ 40
 

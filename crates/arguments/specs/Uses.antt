@@ -49,7 +49,7 @@ abbrev pub is_flag : ValueKind → Bool
 is_flag kind.Flag = true
 is_flag _ = false
 
--- the value may be a command-line argument by itself: if it is a text, it doesn't begin with `-`
+-- the value may be a command-line argument by itself: if its kind is `Text`, it doesn't begin with `-`
 abbrev pub IsBare : ValueKind → Text → Type 0
 IsBare kind.Text value = starts_with_minus value ≡ false
 IsBare _ value = ⊤

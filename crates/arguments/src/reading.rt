@@ -249,7 +249,7 @@ pub(crate) fn take_request<'a>(found: &ArgMatches<'a>) -> Option<Request<'a>>
     })
 }
 
-/// Returns the generation from which soups count as late, or `None` if it isn't given.
+/// Returns the generation from which soups count as late, or `None` if it is missing.
 fn report_from_in(found: &ArgMatches<'_>) -> Option<u32>
     ensures generation { result ≡ number_found report_from (rows_of (found_of found.now)) }
     ensures range { IfSome result (IsInRange report_from.kind) }

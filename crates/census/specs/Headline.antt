@@ -1,5 +1,5 @@
--- The headline: what the program has printed when it ends with exit code 0. For `gather`, also what it has printed when
--- soups are missing, which is exit code 6.
+-- The headline: what `take`, `name` and `gather` have printed when the program ends with exit code 0. For `gather`,
+-- also what it has printed when soups are missing, which is exit code 6.
 --
 -- A call is the program's name, the name of a command, and uses of its options: each at most once, in any order, with a
 -- permitted value. An option that isn't used has its default.
@@ -108,7 +108,7 @@ GatherPrintsItsLines arguments reader before after code = (uses : List Use) → 
     → (bytes : List ℕ) × IsInput reader bytes
     × ((census : Census) × IsCensusOfLines uses bytes code census × Appends before after (haul_text census))
 
--- the headline: what was printed by a call that ended with exit code 0
+-- the headline: what a call of `take`, `name` or `gather` has printed if it ended with exit code 0
 pub record PrintsWhatIsAsked (arguments : List Text) (reader before after : Option (List ℕ)) : Type 0 where
   pub take : TakePrintsItsCensus arguments before after
   pub name : NamePrintsItsFinding arguments reader before after

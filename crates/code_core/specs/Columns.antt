@@ -9,7 +9,7 @@ use Rattle.plane_core.specs.windows.Rows.{ShowsInAllRows}
 use Rattle.code_core.specs.declared.reader.Token.{Token}
 use Rattle.code_core.specs.declared.reader.Token.TheVariants.{Column, Gap, NextStrip}
 
--- the value of a column: its cells as the digits of a binary number, of which the first counts 1, the next 2, then 4
+-- the value of a column, whose cells are read as binary digits: the first counts 1, the next 2, then 4
 abbrev pub value_of : List Bool → ℕ
 value_of [] = 0
 value_of (live ∷ more) = (if live then 1 else 0) + 2 * value_of more

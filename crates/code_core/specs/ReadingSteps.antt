@@ -28,7 +28,7 @@ abbrev pub fault_without_token : ℕ → List ℕ → Option WechslerFault
 fault_without_token place [] = None
 fault_without_token place (b ∷ remainder) = Some (if is_character b then ShortRun place else BadByte place)
 
--- the token is a column with a live cell
+-- the token is a `Column`
 abbrev pub is_column : Token → Bool
 is_column (Column value) = true
 is_column (Gap n) = false

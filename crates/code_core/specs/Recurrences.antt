@@ -28,9 +28,9 @@ MeetsEdge rule cells limit = (g : ℕ) × (g < limit) × NeverRecurs rule cells 
 abbrev pub StaysInside : Numbers → List Cell → ℕ → Type 0
 StaysInside rule cells limit = (g : ℕ) → g < limit → NeverRecurs rule cells g → touches_edge (after rule cells g) ≡ false
 
--- How a search for the first generation that is the pattern again ends. If the pattern itself touches the edge, that is
--- reported before memory is asked for. If the pattern is far enough inside, the edge is never reported, because no
--- pattern moves faster than one cell per generation.
+-- How the search for a recurrence of a pattern ends. If the pattern itself touches the edge, that is reported before
+-- memory is asked for. If the pattern is far enough inside, the edge is never reported, because no pattern moves faster
+-- than one cell per generation.
 pub record SearchEnds {X : Type 0} (IsFound : X → Type 0) (rule : Numbers) (cells : List Cell) (limit : ℕ)
     (result : Result (Option X) StepError) : Type 0 where
   pub found : IfOk result (λ o. IfSome o IsFound)
@@ -44,8 +44,8 @@ pub record SearchEnds {X : Type 0} (IsFound : X → Type 0) (rule : Numbers) (ce
 unfoldable pub phases : Numbers → List Cell → ℕ → List (List Cell)
 phases rule cells n = map (after rule cells) (range_with_len 0 n)
 
--- The state of a search for the first generation that is the pattern again. It isn't among the generations 1 to n, and
--- no generation before n touches the edge. `before` has the generations before n, and `last` is generation n.
+-- The state of the search for a recurrence of a pattern: it hasn't recurred up to generation n, and no generation
+-- before n touches the edge. `before` has the generations before n, and `last` is generation n.
 pub record Follows (rule : Numbers) (cells : List Cell) (n : ℕ) (before : List (List Cell)) (last : List Cell) : Type 0 where
   pub earlier : before ≡ phases rule cells n
   pub latest : last ≡ after rule cells n

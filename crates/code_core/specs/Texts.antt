@@ -51,11 +51,11 @@ boxed_text cells (Some b) =
     then Some (flat_map spelling (tokens_of (at_corner cells) (distance b.left b.right) (distance b.top b.bottom)))
     else None
 
--- the text of a pattern, moved to the corner; `None` if the pattern is empty or its box is larger than 40 by 40
+-- the text of a pattern, wherever it is; `None` if it is empty or its box has more than 40 columns or rows
 unfoldable pub text : List Cell → Option (List ℕ)
 text cells = boxed_text cells (box_of cells)
 
--- the first token is a column with a live cell
+-- the first token is a `Column`
 abbrev pub BeginsWithColumn : List Token → Type 0
 BeginsWithColumn [] = ⊥
 BeginsWithColumn (Gap n ∷ tokens) = ⊥
@@ -75,8 +75,8 @@ abbrev pub TextsSpellPatterns : Type 0
 TextsSpellPatterns = (cells : List Cell) (t : List ℕ) → InOrder cells → text cells ≡ Some t
     → (tokens : List Token) × Spells tokens t × GapsAreWhole tokens × (token_cells tokens ≡ at_corner cells)
 
--- a text has at most 327 bytes, all of which are `0` to `9` or `a` to `z`: 40 for each of eight strips, and the `z`s
--- between them
+-- a text has at most 327 bytes (40 for each of eight strips, and the seven `z`s between them), each of which is `0` to
+-- `9` or `a` to `z`
 pub record HasTextShape (t : List ℕ) : Type 0 where
   pub short : length t ≤ 327
   pub characters : list_all is_character t ≡ true

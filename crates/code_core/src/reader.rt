@@ -68,7 +68,7 @@ impl fmt::Debug for WechslerFault {
 /// Why no pattern was read.
 #[derive(Clone, Copy, PartialEq, Eq, Error)]
 pub enum WechslerError {
-    /// The text isn't the text of a pattern.
+    /// The text is too long, or isn't that of a pattern with a live cell.
     Fault(WechslerFault),
     /// Memory ran out.
     Memory(OutOfMemory),
@@ -122,9 +122,9 @@ pub(crate) enum Token {
 ///
 /// # Errors
 ///
-/// - [`WechslerError::Fault`] if the text isn't that of a pattern with a live cell, whether there is memory or not. The
-///   fault is `TooLong` if the text has more than 10,000 bytes. Otherwise it is the first `BadByte` or `ShortRun` from
-///   the left, or `Empty` if the text has neither, but no cell is alive.
+/// - [`WechslerError::Fault`] if the text is too long or isn't that of a pattern with a live cell, whether there is
+///   memory or not. The fault is `TooLong` if the text has more than 10,000 bytes. Otherwise it is the first `BadByte`
+///   or `ShortRun` from the left, or `Empty` if the text has neither, but no cell is alive.
 /// - [`WechslerError::Memory`] if memory runs out.
 pub fn read_wechsler(alloc: Global, text: &str) -> Result<Pattern, WechslerError>
     ensures pattern { IfOk result (λ read. wechsler_read text.now ≡ Ok read) }

@@ -74,8 +74,8 @@ fn push_block(cells: &mut Vec<Cell>, top: u8, left: u8) -> Result<(), OutOfMemor
 
 const STARTS: [u8; 13] = [0, 4, 7, 10, 13, 16, 19, 22, 25, 28, 31, 34, 38];
 
-/// Returns the cells of 13 rows of 13 blocks, which fill 40 by 40 cells. One empty row or column is between two blocks,
-/// except that two are between the first and the second block, and two between the last but one and the last.
+/// Returns the cells of 13 rows of 13 blocks, in a square of 40 by 40 cells. There is one empty row or column between
+/// neighbouring blocks, but there are two between the first two blocks and between the last two.
 fn grid_of_blocks(alloc: Global) -> Result<Vec<Cell>, OutOfMemory> {
     let mut cells = Vec::new(alloc);
     for top in STARTS {
@@ -125,7 +125,7 @@ const BLINKER: [Cell; 3] = [
     Cell { y: 1, x: 999_999 },
 ];
 
-// No clause says that an edge that is reached in a later generation isn't reported as out of memory.
+// If only a later generation touches the edge of the plane, the contracts also allow `Memory` in place of `Edge`.
 #[test]
 fn stops_a_step_from_the_edge(rt: HostRuntime) -> Result<(), Fail> {
     let blinker = placed(rt.alloc(), &BLINKER)?;

@@ -45,7 +45,7 @@ fn takes_soups_under_a_line_of_progress(rt: HostRuntime) {
     assert!(rt; screen.as_slice() == told.as_slice());
 }
 
-/// A gate that stops each of three workers when it asks for the second time.
+/// A gate that stops each of three workers when the worker asks for the second time.
 #[derive(Drop)]
 struct OneEach {
     calls: [AtomicU64; 4],

@@ -48,7 +48,7 @@ pub record IsOfCorrectLines (plan : Plan) (workers : ℕ) (bytes : List ℕ) (ma
   pub opened : gather_opens plan workers terms
   pub tells : TakesCorrectLines terms bytes made
 
--- whatever the input is, `gather` takes exactly the soups that have correct lines
+-- unless `gather` ends with a complaint, it takes exactly the soups of its set that have correct lines
 abbrev pub GatherTakesCorrectLines : Type 0
 GatherTakesCorrectLines = (plan : Plan) (workers : ℕ) (bytes : List ℕ) (made : Made) → gather_right plan workers bytes (Ok made)
     → IsOfCorrectLines plan workers bytes made

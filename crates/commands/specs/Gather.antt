@@ -16,7 +16,7 @@ use Rattle.commands.specs.SoupSets.{job_named}
 abbrev pub gather_reads : Plan → Bool
 gather_reads plan = is_ok (job_named plan)
 
--- a haul was opened, and standard error has the diagnostics about the first lines
+-- a haul was opened, and standard error has the diagnostics about the lines that were gathered
 pub record BeginsHaul (opens : Hauls) (reader before after : Option (List ℕ)) : Type 0 where
   pub terms : Terms
   pub opened : opens terms
@@ -59,8 +59,8 @@ pub record GivesUpAt (opens : Hauls) (most : ℕ) (reader left : Option (List �
   pub begun : HasBegunUpTo terms reader (prepend_known ahead left) errors.before errors.after
 
 -- How far the input was read: to its end if all lines were gathered. After a failed read, nothing was read beyond the
--- place where gathering ended, and all lines that end with a line feed were gathered. If memory ran out before a haul
--- was opened, nothing was read.
+-- place where gathering ended, and all lines before it that end with a line feed were gathered. If memory ran out
+-- before a haul was opened, nothing was read.
 abbrev pub HasReadUpTo : {R : Type 0} → Hauls → (remaining : R → Option (List ℕ)) → (old new : R) → Stream → Outcome → Type 0
 HasReadUpTo opens remaining old new errors (Ok missing) = IsSpent (remaining old) (remaining new)
 HasReadUpTo opens remaining old new errors (Err (Memory error)) =

@@ -62,8 +62,8 @@ pub record HasGatheredShort (reader left : Option (List ℕ)) (errors : Stream) 
 abbrev pub IsTooLong : Option (List ℕ) → Type 0
 IsTooLong reader = IsLongerThan (2 ^ 32) reader
 
--- What holds if gathering ended with a complaint, and `left` is the input from that place on: standard error has the
--- diagnostics about all lines before the place, or a write to standard error failed.
+-- What holds if gathering ended with a complaint at a place of the input, and `left` is the input from there on:
+-- standard error has the diagnostics about the lines gathered before the place, or a write to standard error failed.
 abbrev pub EndsLines : Terms → (reader left : Option (List ℕ)) → Stream → Complaint → Type 0
 EndsLines terms reader left errors (Memory error) =
     HasBegunUpTo terms reader left errors.before errors.after × (errors.failed ≡ false)

@@ -39,8 +39,8 @@ IsSpent old new = IfSome old (λ _. IsAtEnd new)
 abbrev pub IsLongerThan : ℕ → Option (List ℕ) → Type 0
 IsLongerThan most reader = IfSome reader (λ bytes. most < length bytes)
 
--- A line of at most `room` bytes was read, and its first 2^24 + 1 bytes are kept. If no line feed ends it, the input is
--- at its end.
+-- A line of at most `room` bytes, with its line feed, was read, and its first 2^24 + 1 bytes are kept. If no line feed
+-- ends the line, the input is at its end.
 pub record HasReadLine (room : ℕ) (old new : Option (List ℕ)) (kept : List ℕ) (read : LineRead) : Type 0 where
   pub line : List ℕ
   pub kept_is : kept ≡ take (2 ^ 24 + 1) line

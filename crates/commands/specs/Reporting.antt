@@ -26,7 +26,7 @@ pub record AreReportsOf (plan : Plan) (workers : ℕ) (reports : List Reported) 
   pub within : All (λ r. is_in ranges r.number ≡ true) reports
   pub once : (n : ℕ) → times_reported n reports ≤ 1
 
--- the text has the report lines of all late soups of a plan, one line for each soup, in any order
+-- the text consists of the report lines of all late soups of a plan, one line for each late soup, in any order
 pub record TellsAllLate (plan : Plan) (workers from : ℕ) (text : List ℕ) : Type 0 where
   pub reports : List Reported
   pub are : AreReportsOf plan workers reports

@@ -57,7 +57,7 @@ impl Ahead {
         &self.buffer.as_slice()[self.start..self.end]
     }
 
-    /// Reads once if there are no unused bytes. If there are still none afterwards, the input is at its end.
+    /// Reads once if there are no unused bytes. If there are none after a successful read, the input is at its end.
     ///
     /// # Errors
     ///

@@ -71,8 +71,8 @@ use survey_core::surveyor::Surveyor;
 /// is not reported.
 ///
 /// If the call ends because memory runs out, a read fails or the input is too long, all lines before some place of the
-/// input were processed, except perhaps the last. At most 2^16 bytes were read beyond that place, and none if a read
-/// failed.
+/// input were processed, except perhaps the last of them. At most 2^16 bytes were read beyond that place, and none if a
+/// read failed.
 pub fn do_gather<R: Read, W: Write, E: Write>(
     alloc: Global,
     plan: &Plan<'_>,
@@ -197,8 +197,8 @@ impl Gatherer {
         Err(Complaint::TooLong)
     }
 
-    /// Reads line number `before` + 1, of at most `room` bytes, and gathers it, unless the input has ended. Returns the
-    /// size of the line and what ended it.
+    /// Reads line number `before` + 1, of at most `room` bytes, and gathers it. If no input is left, the line is empty
+    /// and isn't gathered. Returns the size of the line and what ended it.
     fn gather_next<R: Read, E: Write>(
         &mut self,
         input: &mut R,
@@ -307,7 +307,8 @@ fn report_of(
     checked_report(alloc, kept, job, surveyor)
 }
 
-/// Returns the place of the first fault of a line that is longer than these 2^24 bytes, with which it begins.
+/// Returns the place of the first fault of a line of more than 2^24 bytes: the first fault in `prefix`, which has the
+/// first 2^24 bytes of the line, or 2^24 if the prefix has no fault.
 fn prefix_fault(alloc: Global, prefix: &[u8]) -> Result<usize, OutOfMemory>
     ensures { IfOk result (IsPrefixFault prefix.now) }
 {

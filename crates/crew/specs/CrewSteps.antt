@@ -20,7 +20,7 @@ use Rattle.crew.specs.declared.take.Crew.{Crew}
 use Rattle.crew.specs.declared.take.CrewError.{CrewError}
 use Rattle.crew.specs.declared.take.CrewError.TheVariants.{Memory, Stopped}
 
--- the collector of a crew that waits for this many workers
+-- a crew's collector, which waits for this many workers
 abbrev pub collector_of : ℕ → Crew → Collector
 collector_of awaited crew = collector_with awaited crew.receiver crew.haul
 
@@ -36,8 +36,8 @@ pub record HaveRoom (workers : ℕ) (endpoints : Endpoints) : Type 0 where
   pub for_passes : workers ≤ vec_capacity endpoints.passes
   pub for_senders : workers ≤ vec_capacity endpoints.senders
 
--- What this many workers need to survey what is missing in a haul: the missing numbers, a ticket for each of them, a belt,
--- an unused pass and a silent sender for each worker, and room for the endpoints of all workers once they have ended.
+-- What `wanted` workers need to survey the missing soups of a haul: the soups' numbers, a ticket for each number, a
+-- belt, an unused pass and a silent sender for each worker, and room for the endpoints of workers that have ended.
 pub record IsSetUp (held : Held) (wanted : ℕ) (setup : CrewSetup) : Type 0 where
   pub job : setup.shared.job ≡ held.terms.job
   pub missing : setup.shared.missing.items ≡ was_missing held

@@ -113,6 +113,6 @@ pub record Returns (may_stop lets : ℕ → ℕ → Type 0) (shared : Shared) (w
 abbrev pub how_many_started : List WorkerResult → ℕ
 how_many_started results = count_by (λ s. was_started s.end) results
 
--- the number of the first worker that the gate stopped, if there is one
+-- the number of the first worker in the list that the gate stopped, if there is one
 abbrev pub first_stopped : List WorkerResult → Option ℕ
 first_stopped results = option_map (λ s. s.sender.number) (find (λ s. was_stopped s.end) results)

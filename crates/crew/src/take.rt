@@ -137,7 +137,7 @@ pub fn take<G: Gate + Sync, R: Threads + Wait + Sync, H: ProgressObserver>(
 }
 
 /// Runs workers that survey what is missing in a haul. Returns the haul, and why soups may still be missing, or `None`
-/// if none are.
+/// if the haul is complete.
 fn complete_haul<G: Gate + Sync, R: Threads + Wait + Sync, H: ProgressObserver>(
     alloc: Global,
     rt: &R,
@@ -334,7 +334,7 @@ fn run_crew<'s, E, G: Gate + Sync, R: Threads + Wait + Sync, H: ProgressObserver
     );
 }
 
-/// Collects the reports of the workers that were started, until the last of them is done.
+/// Collects the reports of the workers that were started, until all of these workers are done.
 fn receive_all<R: Wait, H: ProgressObserver>(
     rt: &R,
     shared: &Shared,

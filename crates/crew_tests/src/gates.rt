@@ -236,8 +236,8 @@ fn goes_on_after<R: AllocGlobal + Threads + Wait + Sync>(
     Ok(is_right && is_right_again && is_complete && fault.is_none())
 }
 
-/// Numbers of soups near multiples of eight, because the collector is woken with every eighth note, and near 64,
-/// because the belt has room for 64 notes.
+/// How many soups are taken before a gate stops every worker: counts near multiples of eight, because the collector is
+/// woken with every eighth note, and near 64, because the belt has room for 64 notes.
 const CALLS: [u64; 19] = [
     0, 1, 2, 3, 4, 5, 6, 7, 8, 9, 15, 16, 17, 63, 64, 65, 127, 128, 129,
 ];

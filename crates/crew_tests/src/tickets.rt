@@ -93,7 +93,7 @@ fn draws_in_sixteen_threads(rt: HostRuntime) -> Result<(), Fail> {
     Ok(())
 }
 
-/// How many numbers and how many passes there are, if no tickets are opened for them, and the first error that applies.
+/// Each row has how many numbers and passes are asked for, and the error with which no tickets are opened for them.
 const NOT_OPENED: [(u64, u8, TicketsError); 5] = [
     (1, 0, TicketsError::BadPasses),
     (1, 17, TicketsError::BadPasses),
@@ -102,7 +102,7 @@ const NOT_OPENED: [(u64, u8, TicketsError); 5] = [
     ((1 << 24) + 1, 1, TicketsError::BadCount),
 ];
 
-/// How many numbers there are, how often a pass draws, and how many numbers are drawn by this.
+/// Each row has how many numbers there are, how often the only pass draws, and how many numbers it gets.
 const DRAWN: [(u64, u32, u64); 14] = [
     (0, 0, 0),
     (0, 1, 0),

@@ -268,7 +268,7 @@ impl Tickets {
     }
 }
 
-/// Closes the tickets, to which the passes `first` and `passes` were handed back. Returns how many numbers were drawn.
+/// Closes the tickets after the passes `first` and `passes` were handed back. Returns how many numbers were drawn.
 fn close_with_pass(tickets: Tickets, first: Pass, passes: Vec<Pass>) -> u64
     requires first { first.series ≡ tickets }
     requires passes { All (λ p. p.series ≡ tickets) passes.items }

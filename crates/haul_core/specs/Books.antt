@@ -62,7 +62,7 @@ pub record Held : Type 0 where
   pub closed : Bool
   pub taken : List (ℕ × ℕ)
 
--- the arrivals lead to this haul: it has taken what the book takes, and is closed if there is a closing among them
+-- the arrivals lead to this haul: it has taken what the book takes, and is closed exactly if one of them is a closing
 pub record StandsFor (arrivals : List Arrival) (held : Held) : Type 0 where
   pub taken : held.taken ≡ taken_of held.terms arrivals
   pub closed : held.closed ≡ has_closing arrivals

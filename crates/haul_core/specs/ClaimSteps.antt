@@ -39,7 +39,7 @@ abbrev pub FollowsFields : List ℕ → List (List ℕ) → Option (List ℕ) �
 FollowsFields line fields None = IsLineOf fields line
 FollowsFields line fields (Some remainder) = line ≡ followed fields ++ remainder
 
--- `more` is the head with what the field at this place says; the fields before this place are unchanged
+-- `more` is `head` with the field at this place filled in; the fields before this place are unchanged
 pub record HasFilled (place : ℕ) (head more : LineStart) (field : List ℕ) : Type 0 where
   pub lawful : IsClaim (claimed more [])
   pub none : more.settled ≡ None

@@ -30,11 +30,11 @@ IsVersion n = (n ≡ 1) ⊎ (n ≡ 2)
 abbrev pub IsAnyMark : Bool → Type 0
 IsAnyMark for_good = Unit {0}
 
--- a number that a profile or a checkpoint may have
+-- a number that may be in a profile, or be a checkpoint
 abbrev pub IsSmall : ℕ → Type 0
 IsSmall n = n ≤ 100000
 
--- the text begins with this number and a `,` (44); `None` means that it begins with no number up to 100,000 and a `,`
+-- the text begins with this number, up to 100,000, and a `,` (44); `None` means that it doesn't begin in this way
 abbrev pub BeginsNumber : List ℕ → Option (ℕ × List ℕ) → Type 0
 BeginsNumber text None = (n : ℕ) (remainder : List ℕ) → IsSmall n → text ≢ decimal n ++ 44 ∷ remainder
 BeginsNumber text (Some first) = IsSmall first.0 × (text ≡ decimal first.0 ++ 44 ∷ first.1)

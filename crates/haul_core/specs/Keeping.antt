@@ -14,7 +14,7 @@ use Rattle.haul_core.specs.Totals.{AreSurveys, Survey, for_good, numbers_with, t
 abbrev pub numbers_in : List (ℕ × ℕ) → List ℕ
 numbers_in taken = map (λ t. t.1) taken
 
--- the three lowest numbers of soups that left an object with this code
+-- the three lowest numbers of soups that left an object with this code, or all if there are fewer
 abbrev pub samples : List Survey → List ℕ → List ℕ
 samples surveys code = least_three (numbers_with surveys code)
 

@@ -28,7 +28,7 @@ pub record Claimed : Type 0 where
   pub number : ℕ
   pub found : Option SaidOfSoup
 
--- a code of 1 to 400 bytes, each one of `a` to `z`, `0` to `9` and `_`, and a count of 1 to 2^64 - 1
+-- a code of 1 to 400 bytes, each of which is `a` to `z`, `0` to `9` or `_`, and a count of 1 to 2^64 - 1
 pub record IsCount (object : List ℕ × ℕ) : Type 0 where
   pub code : HasCodeShape object.0
   pub some : 1 ≤ object.1

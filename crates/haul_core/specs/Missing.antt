@@ -9,7 +9,7 @@ use Rattle.ranges.specs.Ranges.{is_in}
 abbrev pub numbers_of_range : Range → List ℕ
 numbers_of_range range = range_with_len range.first range.count
 
--- the numbers of the set, range by range; they ascend if the ranges do
+-- the numbers of the set, range by range; they ascend if the ranges are in normal form
 abbrev pub numbers_of : List Range → List ℕ
 numbers_of ranges = flat_map numbers_of_range ranges
 

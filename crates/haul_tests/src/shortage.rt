@@ -1,5 +1,5 @@
-//! Tests without enough memory. `checks/program/memory` runs each of them many times, and refuses another allocation
-//! each time. A test must pass, or fail only because memory ran out.
+//! Tests without enough memory. `checks/program/memory` runs each of them many times, each time with a different
+//! allocation refused. A test must pass, or fail only because memory ran out.
 
 use crate::setup::{quick_job, range, still_job, text_of};
 use haul_core::book::haul::Haul;

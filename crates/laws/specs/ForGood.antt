@@ -38,14 +38,14 @@ abbrev pub FindingsForGood : Type 0
 FindingsForGood = (rule : Numbers) (profile : Settling) (cells : List Cell) (t : ℕ) (objects : List (List ℕ × ℕ)) → InOrder cells
     → IsFinding rule profile cells (Settled t objects true) → RestsForGood rule profile (after rule cells t)
 
--- the kinds and numbers in the codes of objects, and the recurrences of their clusters, agree on whether the objects
--- stay for good
+-- if the limit is at most 64 and no cluster is empty, objects stay for good by the kinds and numbers in their codes if
+-- and only if their clusters stay for good by their recurrences
 abbrev pub MarksMatchRecurrences : Type 0
 MarksMatchRecurrences = (rule : Numbers) (limit horizon : ℕ) (clusters : List (List Cell)) (objects : List (List ℕ × ℕ))
     → limit ≤ 64 → All (λ cluster. cluster ≢ []) clusters → AreObjectsOf rule limit clusters objects
     → StayForGood horizon objects ↔ ClustersStayForGood rule limit horizon clusters
 
--- the mark `for good` of a finding agrees with the kinds and numbers in the codes of its objects
+-- if the profile's period is at most 64, a finding's mark `for good` agrees with the codes of its objects
 abbrev pub MarksAreInCodes : Type 0
 MarksAreInCodes = (rule : Numbers) (profile : Settling) (cells : List Cell) (t : ℕ) (objects : List (List ℕ × ℕ)) (good : Bool)
     → profile.period ≤ 64 → IsFinding rule profile cells (Settled t objects good) → IsTrue good ↔ StayForGood profile.horizon objects

@@ -23,13 +23,13 @@ pub record IsJob (job : Job) : Type 0 where
   pub rule : IsRule job.rule
   pub profile : IsProfile job.profile
 
--- the code has the shape of an apgcode, and the numbers are short
+-- the code has the shape of an apgcode, and each number has at most 64 digits
 pub record IsShortRow (row : Row) : Type 0 where
   pub code : HasCodeShape row.code
   pub total : IsWrittenWhole row.total
   pub samples : All IsWrittenWhole row.samples
 
--- the job is valid, the ranges are in normal form, their size is the count, and the numbers are short
+-- the job is valid, the ranges are in normal form, the count is their size, and each other number has at most 64 digits
 pub record IsShortCensus (census : Census) : Type 0 where
   pub job : IsJob census.job
   pub normal : AreNormal census.ranges
@@ -50,8 +50,8 @@ pub record AreTakenOf (ranges : List Range) (numbers : List ℕ) : Type 0 where
   pub within : All (λ n. is_in ranges n ≡ true) numbers
   pub distinct : IsDistinct nat_eq numbers
 
--- the census of a haul is short, since the haul's job is valid, its ranges are in normal form and end at 2^40 at most,
--- and the numbers taken are in these ranges, no number twice
+-- a census is short if its job is valid, its ranges are in normal form and end at 2^40 at most, and the numbers taken
+-- are in these ranges, no number twice
 abbrev pub HaulCensusesAreShort : Type 0
 HaulCensusesAreShort = (job : Job) (ranges : List Range) (numbers : List ℕ) (census : Census) → IsJob job → AreNormal ranges
     → AreBelow number_bound ranges → AreTakenOf ranges numbers → IsCensus job ranges numbers census → IsShortCensus census

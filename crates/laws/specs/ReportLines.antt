@@ -1,4 +1,4 @@
--- A line states at most one claim, or has one first fault.
+-- A line states at most one claim, and has at most one first fault, but not both.
 use Rattle.std.specs.Prelude.{◌≡◌, ℕ, List}
 use Rattle.haul_core.specs.Claims.{IsClaimLine, IsFirstFaultOf}
 use Rattle.haul_core.specs.LawfulClaims.{Claimed, IsClaim}

@@ -50,25 +50,25 @@ pub record IsWorkedOn (job : Job) (workers : ℕ) (bytes : List ℕ) (n : ℕ) :
   pub passed_on : All (Contains (input_lines bytes)) (input_lines text)
   pub short : All (λ line. length line ≤ 2 ^ 24) (input_lines text)
 
--- the text is what `take` prints for the plan, and nothing is missing
+-- the answer has the text that `take` prints for the plan, and no soup is missing
 abbrev pub IsWholeHaul : Plan → Result Made Complaint → Type 0
 IsWholeHaul plan answer = MatchResult answer (λ made. take_right plan (Ok made.text) × (made.missing ≡ 0)) (λ complaint. ⊥)
 
--- if each soup of a set is worked on, in parts that may overlap, `gather` makes what `take` prints for the set
+-- if each soup of a set is worked on, in parts that may overlap, and the input has at most 2^32 bytes, `gather` makes
+-- what `take` prints for the set
 abbrev pub SplitWorkIsWhole : Type 0
 SplitWorkIsWhole = (plan : Plan) (job : Job) (workers : ℕ) (bytes : List ℕ) (answer : Result Made Complaint) → IsAccepted plan job
     → length bytes ≤ 2 ^ 32 → ((n : ℕ) → IsInSet plan.set n → IsWorkedOn job workers bytes n) → gather_right plan workers bytes answer
     → IsWholeHaul plan answer
 
--- what standard output got, for each possible status: the text of `take`, or anything if memory ran out or a stream
--- failed
+-- what standard output got, by status: the text of `take`, or anything if memory ran out or a stream failed
 abbrev pub HasWholeText : Plan → Status → Stream → Type 0
 HasWholeText plan Done output = (text : List ℕ) × take_right plan (Ok text) × Has output text
 HasWholeText plan Memory output = Unit {0}
 HasWholeText plan Failed output = Unit {0}
 HasWholeText plan _ output = ⊥
 
--- if each soup of a set is worked on, `gather` prints the text of `take`, unless memory runs out or a stream fails
+-- if each soup is worked on and the input has at most 2^32 bytes, `gather` prints `take`'s text, or memory or I/O fails
 abbrev pub SplitWorkEnds : Type 0
 SplitWorkEnds = (plan : Plan) (job : Job) (workers : ℕ) (reader : Option (List ℕ)) (bytes : List ℕ) (status : Status) (output errors : Stream)
     → IsAccepted plan job → length bytes ≤ 2 ^ 32 → ((n : ℕ) → IsInSet plan.set n → IsWorkedOn job workers bytes n)

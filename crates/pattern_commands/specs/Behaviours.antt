@@ -5,8 +5,8 @@ use Rattle.pattern_commands.specs.declared.ending.complaint.Complaint.{Complaint
 use Rattle.pattern_commands.specs.Answers.{NeedsMemory, Right}
 use Rattle.pattern_commands.specs.Streams.{Stream}
 
--- what a command produces: a text for standard output, diagnostics about its input for standard error, and the number
--- of missing soups
+-- what a command produces: a text for standard output, lines for standard error (diagnostics about its input, or report
+-- lines), and the number of missing soups
 pub record Made : Type 0 where
   pub text : List ℕ
   pub diagnostics : List ℕ

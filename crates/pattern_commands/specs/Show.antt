@@ -70,7 +70,7 @@ reader_complaint (error.Memory refused) = Memory refused
 abbrev pub shown : List ℕ → Result (List Cell) Complaint
 shown text = result_map_both (λ cells. cells) wechsler_complaint (wechsler_read text)
 
--- the pattern of a code, printed in the given form
+-- the text of a code's pattern in the given form, or the complaint about the code
 abbrev pub show_answer : PatternForm → List ℕ → Answer
 show_answer form code = given (text_in code) (λ text. given (shown text) (λ cells. Ok (pattern_text form cells)))
 

@@ -105,7 +105,7 @@ pub fn read_once<R: Read>(input: &mut R, buffer: &mut Vec<u8>) -> Result<usize, 
 /// # Errors
 ///
 /// `ReadFailed` if a read fails, `TooLong` if there are more than [`INPUT_LIMIT`] bytes, `BadByte` or `PatternTooLarge`
-/// if the bytes aren't a pattern, and `Memory` if memory runs out.
+/// if the bytes aren't a pattern of at most 1,000 by 1,000 cells, and `Memory` if memory runs out.
 pub fn read_pattern<R: Read>(alloc: Global, input: &mut R) -> Result<Pattern, Complaint>
     ensures read { (bytes : List ℕ) × IsInput (R.remaining input.old) bytes × Reads (pattern_of bytes) result }
     ensures little { HasReadAtMost (2 ^ 24 + 2 ^ 16) (R.remaining input.old) (R.remaining input.new) }

@@ -40,9 +40,10 @@ use std::io::{Read, Write};
 ///
 /// # Errors
 ///
-/// The status is `Refused` for a text that isn't a rule or an input that isn't a pattern; `Memory` if memory runs out;
-/// and `Failed` if the input can't be read or the output can't be written. In these cases, a line is written to
-/// `errors`. A failure to write that line is not reported.
+/// The status is `Refused` for a text that isn't a rule or an input that isn't a pattern of at most 1,000 by 1,000
+/// cells; `Memory` if memory runs out; and `Failed` if the input can't be read or has more than 2^24 bytes, or if the
+/// output can't be written. In these cases, a line is written to `errors`. A failure to write that line is not
+/// reported.
 pub fn do_run<R: Read, W: Write, E: Write>(
     alloc: Global,
     generations: u32,

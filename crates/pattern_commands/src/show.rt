@@ -36,9 +36,10 @@ use std::io::Write;
 ///
 /// # Errors
 ///
-/// The status is `Refused` if the code has a `_` and the part up to the first one isn't a prefix, or if the text isn't
-/// in extended Wechsler format; `Memory` if memory runs out; and `Failed` if the output can't be written. In these
-/// cases, a line is written to `errors`. A failure to write that line is not reported.
+/// The status is `Refused` if the code has a `_` and the part up to the first `_` isn't a prefix, or if the text has
+/// more than 10,000 bytes, isn't in extended Wechsler format or has no live cell; `Memory` if memory runs out; and
+/// `Failed` if the output can't be written. In these cases, a line is written to `errors`. A failure to write that line
+/// is not reported.
 pub fn do_show<W: Write, E: Write>(
     alloc: Global,
     code: &str,

@@ -38,9 +38,9 @@ use std::io::{Read, Write};
 /// fewer parts would get a board of their own.
 const STRETCH: u32 = 16;
 
-/// Reads a plaintext pattern, and writes a line for each generation from `from` to `last`: its number, its population,
-/// and the left, top, right and bottom side of its bounding box. The coordinates are those of the input, whose first
-/// row and column are 0.
+/// Reads a plaintext pattern, and writes a line for each generation from `from` to `last`: its number, its population
+/// and, unless it is empty, the left, top, right and bottom side of its bounding box. The coordinates are those of the
+/// input, whose first row and column are 0.
 ///
 /// `from` is at most `last`, which is at most 100,000. No earlier write to either writer may have failed. The rule is
 /// read first. If it is refused, nothing of the input is read. The lines are written while the pattern runs, so they
@@ -48,9 +48,10 @@ const STRETCH: u32 = 16;
 ///
 /// # Errors
 ///
-/// The status is `Refused` for a text that isn't a rule or an input that isn't a pattern; `Memory` if memory runs out;
-/// and `Failed` if the input can't be read or the output can't be written. In these cases, a line is written to
-/// `errors`. A failure to write that line is not reported.
+/// The status is `Refused` for a text that isn't a rule or an input that isn't a pattern of at most 1,000 by 1,000
+/// cells; `Memory` if memory runs out; and `Failed` if the input can't be read or has more than 2^24 bytes, or if the
+/// output can't be written. In these cases, a line is written to `errors`. A failure to write that line is not
+/// reported.
 pub fn do_sizes<R: Read, W: Write, E: Write>(
     alloc: Global,
     from: u32,

@@ -37,7 +37,7 @@ pub fn do_version<W: Write, E: Write>(output: &mut Out<W>, errors: &mut Out<E>) 
     end_text_command(outcome, errors)
 }
 
-/// Writes the line, which is the command's text.
+/// Writes the line with the program's name and version, which is all that the command prints.
 fn put_version<W: Write>(output: &mut Out<W>) -> Result<(), Complaint>
     requires { output.old.failed ≡ false }
     ensures reached { ReachesText false true (only version_answer) result (stream W.contents output.old output.new) }
@@ -47,7 +47,7 @@ fn put_version<W: Write>(output: &mut Out<W>) -> Result<(), Complaint>
     Ok(())
 }
 
-/// Writes the line piece by piece.
+/// Writes `census`, a space, the version and a line feed.
 fn put_line<W: Write>(output: &mut Out<W>) -> Result<(), WriteError>
     requires { output.old.failed ≡ false }
     ensures { Writes W.contents output.old output.new result version_line }

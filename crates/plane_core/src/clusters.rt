@@ -63,7 +63,7 @@ pub fn clusters_partition()
     ensures { ClustersPartition }
 {}
 
-/// The law that cells of two clusters are at king distance 3 or more.
+/// The law that two cells of different clusters are at king distance 3 or more.
 pub fn clusters_lie_apart()
     ensures { ClustersLieApart }
 {}

@@ -32,7 +32,7 @@ const WAYS: [(Orientation, i32, i32); 8] = [
     (Orientation::AntiDiagonal, -1, -1),
 ];
 
-/// Returns a board of Life, which shows the pattern if it has room for it.
+/// Returns a board under Life that shows the pattern, or is empty if it has no room for the pattern.
 fn board_of(alloc: Global, pattern: &Pattern) -> Result<Board, OutOfMemory> {
     let life = Rule::life();
     let mut board = Board::large(alloc, &life)?;

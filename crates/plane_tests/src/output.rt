@@ -61,7 +61,8 @@ fn put_two(alloc: Global, bad: usize, fault: Option<ErrorKind>) -> Out<Faulty> {
     out
 }
 
-/// Numbers of writes, each with the bytes that were taken before this write. Without a fault, there are four writes.
+/// The number of a bad write, counted from 1, and the bytes that are taken before this write. There are at most four
+/// writes, so if the number is 5, no write fails.
 const PREFIXES: [(usize, &[u8]); 5] = [
     (1, b""),
     (2, b"ab"),

@@ -104,7 +104,7 @@ const STANDING: Bounds = Bounds {
     bottom: 997,
 };
 
-/// Returns the bounding box of the field's image in an orientation, in the corner.
+/// Returns the bounding box of the field's image in an orientation, moved to the corner (0, 0).
 fn image_box(orientation: Orientation) -> Bounds {
     match orientation {
         Orientation::Same | Orientation::Half | Orientation::Mirror | Orientation::Flip => LYING,

@@ -215,8 +215,8 @@ fn with_numbers(alloc: Global, ranges: &[Range]) -> Result<Vec<Range>, OutOfMemo
     Ok(some)
 }
 
-/// Returns the ranges, of which those that touch are joined. The given ranges have to ascend and share no number, and
-/// none of them may be empty.
+/// Returns the ranges, with each series of ranges that touch joined into one range. The given ranges have to ascend and
+/// share no number, and none of them may be empty.
 fn joined(alloc: Global, ascending: &[Range]) -> Result<Vec<Range>, OutOfMemory>
     requires ascending { Ascending ascending.now }
     requires below { AreBelow number_bound ascending.now }

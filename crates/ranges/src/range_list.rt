@@ -125,7 +125,7 @@ fn ranges_in(alloc: Global, text: &[u8]) -> Result<Vec<Range>, OutOfMemory>
     Ok(ranges)
 }
 
-/// Returns the text, in which the first range has to begin, or `None` if the text is empty, so that there is no range.
+/// Returns the text, which has to begin with a range, or `None` if the text is empty, so that there is no range.
 fn unless_empty(text: &[u8]) -> Option<&[u8]>
     ensures { Starts text.now (option_map (λ remainder. remainder.now) result) }
 {

@@ -72,8 +72,8 @@ pub(crate) fn clusters_at_rest(
     Ok(apart.then_some(clusters))
 }
 
-/// Checks whether in each group, the clusters, each run alone, keep apart and make up what their union becomes, in each
-/// generation up to the horizon.
+/// Checks whether the clusters of each group keep apart. In each generation up to the horizon, the clusters of a group,
+/// each run alone, must share no cell and make up what their union becomes.
 fn groups_keep_apart(
     alloc: Global,
     rule: &Rule,
@@ -142,8 +142,8 @@ fn members(
     Ok(members)
 }
 
-/// Checks whether the clusters, each run alone, keep apart and make up what their union becomes, in each generation up
-/// to the horizon.
+/// Checks whether the clusters keep apart. In each generation up to the horizon, the clusters, each run alone, must
+/// share no cell and make up what their union becomes.
 fn keep_apart(
     alloc: Global,
     rule: &Rule,

@@ -31,7 +31,7 @@ pub(crate) struct Score {
     pub(crate) samples: Samples,
 }
 
-/// The totals over the surveyed soups.
+/// The totals over the soups that were added.
 #[derive(Drop)]
 pub(crate) struct Totals {
     /// A score for each code of the objects that the soups left. Further codes may have a blank score.

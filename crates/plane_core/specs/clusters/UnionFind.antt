@@ -55,7 +55,7 @@ pub record NeedsJoin (cells : List Cell) (k place : ℕ) : Type 0 where
   pub near : king_distance (cell_of cells k) (cell_of cells place) ≤ 2
   pub alone : ¬ IsBridged cells k place
 
--- if a cell near the place is in a higher row and left of the column, then it is bridged
+-- if the cell at an earlier place is near the cell at `place`, in a higher row and left of `column`, it is bridged
 abbrev pub IsFresh : List Cell → ℤ → ℕ → Type 0
 IsFresh cells column place = (k : ℕ) → k < place → (cell_of cells k).y <ℤ (cell_of cells place).y → (cell_of cells k).x <ℤ column
     → king_distance (cell_of cells k) (cell_of cells place) ≤ 2 → IsBridged cells k place

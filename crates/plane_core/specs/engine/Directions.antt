@@ -31,7 +31,7 @@ pub record GoesDeeper (way : Direction) (cells : List Cell) (found later : Optio
   pub kept : (z : ℤ) → IsReached found z → IsReached later z
   pub some : IfSome found (HasDepth way cells) → IfSome later (HasDepth way cells)
 
--- the column of a word column that is farthest to the right, or to the left
+-- the outermost column in a word column: the last if columns count to the right, otherwise the first
 abbrev pub outer_column : Bool → ℕ
 outer_column true = 63
 outer_column false = 0
@@ -46,8 +46,8 @@ inner_row false rows step = rows.from + step
 abbrev pub NoDeeperRow : Frame → Direction → ℕ → ℕ → Option ℤ → Type 0
 NoDeeperRow at way word_column row found = (i : ℕ) → i < 64 → IsReached found (depth_in way (board_cell at word_column row i))
 
--- The rows of the span that are `first` or more rows inwards from the outermost row have no cell in this word column,
--- alive or dead, that is deeper than what was found.
+-- A cell of this word column, alive or dead, isn't deeper than what was found if its row is in the span and is `first`
+-- or more rows inwards from the outermost row.
 abbrev pub NoDeeper : Frame → Direction → ℕ → RowSpan → ℕ → Option ℤ → Type 0
 NoDeeper at way word_column rows first found =
     (step : ℕ) → first ≤ step → step < rows.end - rows.from → NoDeeperRow at way word_column (inner_row way.down rows step) found

@@ -1,4 +1,4 @@
--- A pattern that is run alone in a window, generation by generation, until it is known not to recur.
+-- A pattern that is run alone in a window, generation by generation, to see whether it may recur.
 use Rattle.std.specs.Prelude.{ℕ, ℤ, List, ⊤}
 use Rattle.plane_core.specs.declared.one_sided.follow.Followed.{Followed}
 use Rattle.plane_core.specs.declared.one_sided.follow.Followed.TheVariants.{NeverAgain, PerhapsAgain, Outgrown}

@@ -17,7 +17,7 @@ around cells c = count_by (λ d. king_distance c d == 1) cells
 abbrev pub lives : Numbers → List Cell → Cell → Bool
 lives rule cells c = if has cells c then is_survival rule (around cells c) else is_birth rule (around cells c)
 
--- a cell is alive in the next generation; `count` is the number of live cells in its neighbourhood, with the cell itself
+-- a cell is alive in the next generation; `count` is the number of live cells in its neighbourhood, including itself
 abbrev pub lives_by : Numbers → ℕ → Bool → Bool
 lives_by rule count alive = if alive then is_survival rule (count - 1) else is_birth rule count
 

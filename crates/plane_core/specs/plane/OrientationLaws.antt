@@ -60,6 +60,6 @@ TurningTwice = (a b : Orientation) (cells : List Cell) → turned b (turned a ce
 abbrev pub TurningBack : Type 0
 TurningBack = (a : Orientation) → (b : Orientation) × (product a b ≡ Same) × (product b a ≡ Same)
 
--- a pattern and its translates have the same image, moved to the corner
+-- a pattern and its translates have the same image, if the image is moved to the corner
 abbrev pub TurningMoved : Type 0
 TurningMoved = (a : Orientation) (dx dy : ℤ) (cells : List Cell) → turned a (shifted dx dy cells) ≡ turned a cells

@@ -35,7 +35,7 @@ pub record IsVector (v : List ℕ) : Type 0 where
 abbrev pub AreVectors : ℕ → List (List ℕ) → Type 0
 AreVectors n x = (k : ℕ) → k < n → IsVector (slice_index_or x k [])
 
--- the bits of the word are the columns of the window that have a live cell
+-- a bit of the word is 1 exactly if its column of the window has a live cell
 pub record IsColumns (n : ℕ) (x : List (List ℕ)) (columns : ℕ) : Type 0 where
   pub all : (r i : ℕ) → r < 4 * n → bit_at (row_at n x r) i ≡ 1 → bit_at columns i ≡ 1
   pub alive : (i : ℕ) → bit_at columns i ≡ 1 → (r : ℕ) × (r < 4 * n) × (bit_at (row_at n x r) i ≡ 1)

@@ -38,9 +38,9 @@ pub(crate) fn put_in_boxes(cells: &[Cell], boxes: &mut Vec<Bounds>) -> Result<()
     Ok(())
 }
 
-/// Puts a part into a box. The last one of the last sixteen boxes that is near the part is widened, so that it contains
-/// the part. If none of them is near, the part becomes a new box. If memory runs out, the boxes contain at least what
-/// they contained before.
+/// Puts a part into a box. The last sixteen boxes are tried, from the last one on. The first of these that is near the
+/// part is widened, so that it contains the part. If none of them is near, the part becomes a new box. If memory runs
+/// out, the boxes contain at least what they contained before.
 pub(crate) fn put_in_box(part: Bounds, boxes: &mut Vec<Bounds>) -> Result<(), OutOfMemory>
     ensures wider { AreWider boxes.old.items boxes.new.items }
     ensures held { OnOk result ((c : Cell) → IsWithin part c → IsInOne boxes.new.items c) }

@@ -163,8 +163,8 @@ impl Board {
     }
 
     /// Makes a board that shows the pattern and has room for `generations` generations. Returns `None` if the pattern
-    /// is empty or too near to the edge of the plane, if `generations` is over 1,000, or if the board would have many
-    /// more words than the pattern has cells.
+    /// is empty or too near to the edge of the plane, if `generations` is over 1,000, or if the board would take more
+    /// than about 2 MiB and another 2 KiB per cell of the pattern.
     ///
     /// # Errors
     ///

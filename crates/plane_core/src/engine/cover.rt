@@ -45,7 +45,7 @@ const MOST_INNER_ROWS: u32 = geometry::MOST_INNER_ROWS as u32;
 /// The number of rows of a window that are above or below its inner rows.
 const OUTER_ROWS: u32 = 2 * geometry::MARGIN as u32;
 
-/// The most rows that a union may cost more than its two rectangles.
+/// The most rows by which a union may cost more than its two rectangles.
 const MOST_SLACK: u64 = 64;
 
 /// Spans of equal length, side by side: where the first span begins, and how many spans there are.
@@ -94,7 +94,7 @@ fn unite(boxes: &[Bounds], rectangles: &mut Vec<Bounds>) -> Result<(), OutOfMemo
     Ok(())
 }
 
-/// Returns the rectangle, united with those of the last sixteen rectangles of the list for which a union is cheaper.
+/// Returns the rectangle, united with those of the last sixteen rectangles of the list for which [`pays`] is `true`.
 /// These rectangles are removed from the list.
 fn absorbed(rectangles: &mut Vec<Bounds>, rectangle: Bounds, slack: u64) -> Bounds
     requires all_sides { All (AreSidesWithin rectangle_bound) rectangles.old.items }
@@ -126,8 +126,8 @@ fn slack(boxes: usize) -> u64 {
 }
 
 /// Checks whether the smallest rectangle that contains both costs at most as much as the two together, plus `slack`.
-/// Usually the two are far apart: if a column or a row of windows fits between them, a union saves nothing. All sides
-/// are on the plane or close to it, so no difference wraps around.
+/// Usually the two are far apart: if a column or a row of windows fits between them, a union saves nothing, and the
+/// result is `false`. All sides are on the plane or close to it, so no difference wraps around.
 #[inline(always)]
 fn pays(one: Bounds, other: Bounds, slack: u64) -> bool {
     let rows = MOST_INNER_ROWS as i32;
@@ -153,7 +153,7 @@ fn cost_of(rectangle: Bounds) -> u64 {
 }
 
 /// Returns the number of rows of each window, if windows cover `length + 1` rows of cells. There are as few windows as
-/// possible, each with as few rows as possible.
+/// possible, each with as few rows as possible: a multiple of four, from 20 to 56.
 #[inline(always)]
 fn window_rows(length: u32) -> u32
     ensures enough { length < 48 → length + 9 ≤ result }
@@ -187,8 +187,8 @@ fn lay(rectangle: Bounds, windows: &mut Vec<LeapWindow>) -> Result<(), OutOfMemo
     Ok(())
 }
 
-/// Returns a window over a rectangle of `across + 1` columns and `down + 1` rows. It reaches as far past the rectangle
-/// on one side as on the other, or one column further on the right, and one row further below.
+/// Returns a window with a rectangle of `across + 1` columns and `down + 1` rows in its middle. The window may reach
+/// one column further past the rectangle on the right than on the left, and one row further below than above.
 #[inline(always)]
 fn one_window(rectangle: Bounds, across: u32, down: u32) -> LeapWindow
     requires sides { AreSidesWithin rectangle_bound rectangle }

@@ -34,8 +34,8 @@ pub(crate) struct Frame {
     pub(crate) rows: usize,
 }
 
-/// The margin of a board: the number of columns and rows on each side of the box that the board's pattern may reach. A
-/// window that covers a cell begins at most 36 columns or rows before the cell, and ends at most 36 past it.
+/// The margin of a board: the number of columns and rows on each side of the cells that the board's pattern may reach.
+/// A window that covers a cell begins at most 36 columns or rows before the cell, and ends at most 36 past it.
 const BOARD_MARGIN: u32 = 40;
 
 /// The fewest columns and rows on each side of a pattern that is shown in the middle of a board.
@@ -67,8 +67,8 @@ impl Frame {
         Some(at)
     }
 
-    /// Returns a frame around the pattern for one generation, or `None` if a board isn't worth it or there are more
-    /// than 32 words per cell.
+    /// Returns a frame around the pattern for one generation, or `None` if a board isn't worth it or would have too
+    /// many words: at least 32 per cell, and 32 more.
     pub(crate) fn for_a_step(pattern: &Pattern) -> Option<Frame>
         ensures frame { IfSome result IsFrame }
         ensures plane { IfSome result (λ at. AreSidesWithin plane_bound (bounds_of at)) }
@@ -160,8 +160,8 @@ impl Frame {
         })
     }
 
-    /// Checks whether there are many more words than cells: more than 262,144 words, which take 2 MiB, plus 256 per
-    /// cell.
+    /// Checks whether there are many more words than cells: at least 262,144 words, which take 2 MiB, plus 256 per
+    /// cell, and 256 more.
     fn is_sparse(self, population: usize) -> bool
         requires { IsFrame self }
         ensures { result ≡ false → self.word_columns * self.rows ≤ 256 * population + 262400 }

@@ -8,7 +8,7 @@
 //!        ->  window 2  ->  ..  ->  window 2  ->
 //! ```
 //!
-//! So windows may overlap: where the inner parts of two windows overlap, both windows put back the same.
+//! So windows may overlap: where the inner parts of two windows overlap, both windows put back the same cells.
 ghost use Rattle.std.specs.Prelude.{◌≡◌, ◌*◌, ◌<◌, ◌≤◌, [], All, IfOk, IfSome, OnOk, length, true};
 ghost use Rattle.plane_core.specs.windows.RuleLogic.{rule_of};
 ghost use Rattle.plane_core.specs.engine.Frames.{FillsFrame, IsFrame};

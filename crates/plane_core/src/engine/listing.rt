@@ -1,8 +1,9 @@
 //! Lists the cells of a board in order: row by row, and each row from the left.
 //!
 //! The rows are read in bands of eight, from the first band that a span reaches to the last. Most word columns have no
-//! live cell in a band: either the word column's span doesn't reach the band, or one test of its eight words shows it.
-//! In each band, the word columns from the first to the last one with a live cell are read. They are in brackets here:
+//! live cell in a band: the word column's span doesn't reach the band, or one test of its eight words in the band finds
+//! no cell. In each band, the word columns from the first to the last one with a live cell are read. They are in
+//! brackets here:
 //!
 //! ```text
 //! word column   0     1     2     3     4

@@ -10,7 +10,8 @@
 //! . . . . . . . .      . . . O O . . .      . . . . . . . .
 //! ```
 //!
-//! Both are run in windows. With each generation, the part of a window that is right begins one cell further inside.
+//! The whole and the cluster are both run in windows. With each generation, the part of a window that is right begins
+//! one cell further inside.
 ghost use Rattle.std.specs.Prelude.{◌+◌, ◌≤◌, ◌<◌, IsTrue};
 ghost use Rattle.plane_core.specs.windows.RuleLogic.{rule_of};
 ghost use Rattle.plane_core.specs.one_sided.RestlessClusters.{HasDivergingCell, DivergesFromWhole};

@@ -1,6 +1,6 @@
 //! Rejects a checkpoint of a board early: a pattern at rest has no cluster that diverges from it or never recurs.
 //!
-//! One cluster is tested in the view of an active box:
+//! Active boxes are tried one after another, and in the view of each, one cluster is tested:
 //!
 //! ```text
 //! boxes      small  LARGE  small  small  LARGE  small

@@ -1,5 +1,5 @@
-//! Follows a pattern that is by itself in a window, generation by generation, until it is known not to recur. The
-//! window is right as long as no live cell reaches its rim:
+//! Follows a pattern that is by itself in a window, generation by generation, until it is known not to recur, may have
+//! recurred, or is too large for the window. The window is right as long as no live cell reaches its rim:
 //!
 //! ```text
 //! +----------------+    A generation that is a translate of the start has the same rows, if rows and columns are

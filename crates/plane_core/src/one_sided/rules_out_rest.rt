@@ -1,9 +1,9 @@
 //! A one-sided test that the pattern in a window isn't at rest, using one of its clusters:
 //!
 //! ```text
-//! . . . . . . . .      The window shows a piece of the pattern. The test looks for a cell that changes within two
-//! . O O . . . S .      generations, and grows its cluster. Run alone, the cluster may diverge from the whole, or never
-//! . O O . . S S .      recur. In both cases, the pattern doesn't consist of objects at rest.
+//! . . . . . . . .      The window shows a piece of the pattern. The test looks for a live cell that is dead two
+//! . O O . . . S .      generations later, and grows its cluster. Run alone, the cluster may diverge from the whole, or
+//! . O O . . S S .      never recur. In both cases, the pattern doesn't consist of objects at rest.
 //! . . . . . . S .
 //! ```
 //!

@@ -1,11 +1,11 @@
 //! Candidates for spaceships: clusters of a few cells that change.
 //!
-//! In the view of each box, the cells that change within two generations are found, and their clusters are grown, one
-//! after another:
+//! In the view of a box, the live cells that are dead two generations later are found, and their clusters are grown,
+//! one after another:
 //!
 //! ```text
 //! . . . . . . . . . .      . . . . . . . . . .
-//! . . O . . . . O . .      . . x . . . . . . .     Two cells change. The cluster of the first cell has five cells. The
+//! . . O . . . . O . .      . . x . . . . . . .     Two cells are found. The cluster of the first has five cells. The
 //! . . . O . . . O . .      . . . . . . . . . .     second cell is one of them, so no cluster is grown from it. The
 //! . O O O . . . O . .      . . x . . . . . . .     blinker has no cell that differs two generations later.
 //! . . . . . . . . . .      . . . . . . . . . .

@@ -31,5 +31,5 @@ pub(crate) const LEAST_ROWS: usize = 20;
 /// of which a larger part would be at rest.
 pub(crate) const MOST_ROWS: usize = 56;
 
-/// The largest number of rows of such a window that are right after four generations.
+/// The largest number of rows that are right after four generations, in a window in which leaps are run.
 pub(crate) const MOST_INNER_ROWS: usize = MOST_ROWS - 2 * MARGIN;

@@ -58,7 +58,7 @@ fn turned(a: u64x4, b: u64x4, c: u64x4, d: u64x4) -> [u64x4; 4]
     ]
 }
 
-/// Sets the four vectors from vector `k` on of the window that has these rows.
+/// Sets four vectors of a window, from vector `k` on, to those of the window that has these rows.
 #[inline(always)]
 fn pack_four<const R: usize, const N: usize>(rows: &[u64; R], window: &mut [u64x4], k: usize)
     requires rows { R ≡ 4 * N }

@@ -73,7 +73,7 @@ StayApart horizon one other = (rule : Numbers) (limit : ℕ) (cells others : Lis
 abbrev pub IsStillLife : EnvelopeBounds → Type 0
 IsStillLife envelope = (envelope.recurrence.period ≡ 1) × (envelope.recurrence.dx ≡ pos 0) × (envelope.recurrence.dy ≡ pos 0)
 
--- a pattern that recurs moves by its displacement in each period
+-- if generation p is the pattern moved by (dx, dy), generation n * p + r is generation r moved n times as far
 abbrev pub SpaceshipsMoveByCycles : Type 0
 SpaceshipsMoveByCycles = (rule : Numbers) (cells : List Cell) (p : ℕ) (dx dy : ℤ) → InOrder cells → after rule cells p ≡ shifted dx dy cells → (n r : ℕ)
     → after rule cells (n * p + r) ≡ shifted (times n dx) (times n dy) (after rule cells r)

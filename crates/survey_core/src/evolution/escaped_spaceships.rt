@@ -62,8 +62,8 @@ pub fn spaceships_are_never_caught()
 {}
 
 /// Returns `part`, a part of the board, as a spaceship that is removed at `time`. Returns `None` if the part doesn't
-/// recur within `limit` generations (1 to 64), if it isn't shown to stay ahead of a rest of the board, or if
-/// [`is_unlikely`] guesses that it isn't a spaceship.
+/// recur within `limit` generations (1 to 64), if the board has no other cells or the part isn't shown to stay ahead of
+/// them, or if [`is_unlikely`] guesses that the part isn't a spaceship.
 pub(crate) fn spaceship_of(
     alloc: Global,
     rule: &Rule,

@@ -31,8 +31,8 @@ use std::alloc::Global;
 /// many generations no spaceship comes near the edge of the plane.
 pub(crate) const LATEST_TIME: u32 = 800_000;
 
-/// The number of generations between two searches for escaped spaceships. A search costs as much as a leap or two, and
-/// an escaped spaceship that isn't removed costs a window in every leap.
+/// Before the board passes a multiple of this number of generations, it is searched for escaped spaceships. A search
+/// costs as much as a leap or two, and an escaped spaceship that isn't removed costs a window in every leap.
 const EVERY: u32 = 64;
 
 /// The shortest period of a spaceship that can escape, in generations.

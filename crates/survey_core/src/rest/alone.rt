@@ -28,8 +28,8 @@ use std::alloc::Global;
 /// The most clusters that are compared with each other. If there are more, it costs less to advance their union.
 const MOST_COMPARED: usize = 8;
 
-/// The most cells of a cluster that is compared with another cluster cell by cell. Of larger clusters, only the
-/// bounding boxes are compared.
+/// The most cells of a cluster that is compared with another cluster cell by cell. If one of the two is larger, only
+/// their bounding boxes are compared.
 const MOST_CELLS: usize = 32;
 
 /// A cluster that is run alone.

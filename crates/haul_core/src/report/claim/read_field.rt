@@ -141,7 +141,7 @@ pub(crate) fn profile_in(field: &[u8]) -> Option<Profile>
     profile_of(after(b"profile=", field)?)
 }
 
-/// Returns the profile whose four numbers are the text, with a comma between each two.
+/// Returns the profile whose four numbers, separated by commas, are the text.
 fn profile_of(text: &[u8]) -> Option<Profile>
     ensures { SpellsField IsProfile numbers_text text.now result }
 {

@@ -36,8 +36,8 @@ pub(crate) struct WhenSettled {
     pub(crate) for_good: Option<bool>,
 }
 
-/// Returns what a line says before its counts, and the text of the counts, if there are any. If one of these fields is
-/// wrong or missing, or a field follows `unsettled`, the error is the rest of the line from this fault on.
+/// Returns what a line says before its counts, and the text of the counts, if there are any. If a field before the
+/// counts is wrong or missing, or a field follows `unsettled`, the error is the rest of the line from this fault on.
 pub(crate) fn start_in(line: &[u8]) -> Result<(LineStart, Option<&[u8]>), &[u8]>
     ensures ok { IfOk result (λ read. HasReadStart line.now read.0 (option_map (λ remainder. remainder.now) read.1)) }
     ensures err { IfErr result (λ there. IsFirstFaultOf line.now (length line.now - length there.now)) }

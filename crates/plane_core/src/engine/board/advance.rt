@@ -20,7 +20,7 @@ use std::mem::swap;
 
 impl Board {
     /// Advances by at most `most` generations, and returns the number made. The number is smaller than `most` if the
-    /// next leap would come too near to the border of the board. If `most` is odd, it may also be smaller by one,
+    /// next leap would come too near to the border of the board. If `most` is odd, the number may also be `most` - 1,
     /// because an odd leap is made only while the boxes hold all live cells.
     ///
     /// # Errors
@@ -33,7 +33,7 @@ impl Board {
     {
         let mut made = 0;
         if most % 2 == 1 {
-            // A leap of one or three, so that an even number is left for leaps of four, and perhaps of two at the end.
+            // A leap of one or three, so that a multiple of four is left.
             made = self.leap(most % 4)?;
         }
         while most - made >= 2 {
