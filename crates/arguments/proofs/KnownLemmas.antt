@@ -109,7 +109,8 @@ taken kind.Flag row = flag (option_map_or (λ t. bytes_eq t (codes "true")) (opt
 taken (kind.Number least most) row = number (option_and_then (at_least least) (option_and_then (number_named most) (option_and_then row_text row)))
 taken (kind.OptionalNumber least most) row = number (option_and_then (at_least least) (option_and_then (number_named most) (option_and_then row_text row)))
 
--- what a request should take for an argument of this kind: its value, or for a flag, whether it is used
+-- what a request should take for an argument of this kind: whether it is used if it is a flag, `None` if it is an
+-- optional number that isn't used, and otherwise its value
 abbrev pub given : ValueKind → Text → Bool → Value
 given kind.Text v used = text (Some v)
 given kind.Flag v used = flag used
@@ -120,7 +121,7 @@ given (kind.OptionalNumber least most) v used = number (cond used (Some (digits_
 abbrev pub default_row : Rule → Row
 default_row a = record { id = a.id; values = a.defaults; count = None; source = Some DefaultValue; reading = reading_by a }
 
--- the row of the first rule with this id that has a default
+-- the row of the default of the first rule that has this id and a default
 abbrev pub default_for : Text → List Rule → Option Row
 default_for id c = find (λ r. is_some (slice_get r.values 0) && bytes_eq r.id id) (map default_row c)
 

@@ -97,7 +97,8 @@ module _ (command : Command) (here : IsIn command commands) (program : Text) whe
       asked_by-called (program ∷ command.name ∷ arguments) (not_version program command.name arguments (ap (λ (f : CommandFacts). f.version) k))
       ∙ rw (faults, matches) refl
 
-  -- what lawful arguments ask for, whether or not a required argument is missing
+  -- lawful arguments ask for the request in their rows, with the defaults filled in, or for nothing if a required
+  -- argument is missing
   pub asks_uses : (uses : List Use) (missing : Bool) → AreUses command uses → lacks_some command uses ≡ missing
       → asked_by (program ∷ command.name ∷ arguments_in uses)
       ≡ unless_faulty (or_else (check_kinds false false missing) []) (request_in ((leaf command).name, completed (leaf command) (rows_in uses)))
@@ -121,8 +122,8 @@ module _ (command : Command) (here : IsIn command commands) (program : Text) whe
 abbrev rows_for : Command → List Use → List Row
 rows_for command uses = completed (leaf command) (rows_in uses)
 
--- the plan in the rows is the plan that the uses give; three commands have a plan, which is made from their first nine
--- arguments
+-- if a request takes the given values of the nine arguments of a plan from the rows, the plan in the rows is the plan
+-- that the uses give
 plan_taken : (uses : List Use) (rows : List Row) (more : List Entry) → AllTaken (table.seed ∷ table.first ∷ table.count ∷ table.also
     ∷ table.period ∷ table.horizon ∷ table.stride ∷ table.limit ∷ table.rule ∷ more) uses rows
     → (plan_in rows ≡ Some (plan_given uses)) × AllTaken more uses rows

@@ -84,8 +84,8 @@ none_within most ds fits never = false_from_ne_true _ (λ e.
     let small = leb-true _ _ parts.1 in
     never ((numeral-Decides ds).0 parts.0, omega arith))
 
--- the number that is found for an argument, if it is up to `most`, is the number that the argument's text spells, if
--- this number is up to `most`
+-- for any `most` below 2^64: once numbers above `most` are left out, the number that is found for an argument is the
+-- number that the argument's text spells
 pub found_within : {E : Type 0} (most : ℕ) → most < 2 ^ 64 → (G : Text → Result ℕ E → Type 0)
     → ((t : Text) (r : Result ℕ E) → G t r → ParsesUnsigned 64 10 t r) → (o : Option Text) (found : Option ℕ) → (o ≡ None → found ≡ None)
     → ((t : Text) → o ≡ Some t → ReadsOne G t found) → option_and_then (within most) found ≡ option_and_then (number_named most) o

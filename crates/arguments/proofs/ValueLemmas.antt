@@ -43,7 +43,7 @@ pub find_none : {X : Type 0} (p : X → Bool) (xs : List X) → list_any p xs �
 find_none p xs none = grind (arith, is_found p xs, none)
 
 -- Once the default of a rule is added, the row that is found for an id is the row that was found before. If there was
--- none, it is the default if the rule has this id, and otherwise `later`.
+-- none, it is the default if the rule has this id and a default, and otherwise `later`.
 default_found : (id : Text) (rows : List Row) (a : Rule) (later : Option Row)
     → option_or (lookup id (with_default rows a)) later
     ≡ option_or (lookup id rows) (cond (is_some (slice_get a.defaults 0) && bytes_eq a.id id) (Some (default_row a)) later)
@@ -122,7 +122,7 @@ module _ (command : Command) (here : IsIn command commands) where
       (λ other. rw other (uses_taken e more there are.2 (rw other at whole)))
       (cases_Bool (bytes_eq (entry_in u).name e.name))
 
-  -- a request takes the given value of each argument of the command
+  -- if no required argument is missing, a request takes the given value of each argument of the command
   pub all_taken : (uses : List Use) → AreUses command uses → lacks_some command uses ≡ false
       → AllTaken command.parameters uses (completed (leaf command) (rows_in uses))
   all_taken uses are whole = each_failing _ (λ e. is_required e && not (is_used e.name uses)) command.parameters whole

@@ -250,7 +250,7 @@ gather_prints arguments reader before after errors missing code same_end done us
       (lines.tells.census, gathered_of uses done.bytes done.made code lines both, subst (Appends before after) lines.tells.text_is done.written),
     )
 
--- if a request was done, the headline holds
+-- if a request was done, and no soup is missing, the headline holds
 pub prints_what_is_asked : (arguments : List Text) (reader before after : Option (List ℕ)) (errors : Stream)
     → IsDone arguments reader before after errors 0 → PrintsWhatIsAsked arguments reader before after
 prints_what_is_asked arguments reader before after errors done = record {
@@ -259,7 +259,7 @@ prints_what_is_asked arguments reader before after errors done = record {
   gather = gather_prints arguments reader before after errors 0 0 (λ zero_is. refl, λ zero_is. refl) done;
 }
 
--- if a request was done, the headline holds for the writer that the program gives back
+-- if a request was done, and no soup is missing, the headline holds for the writer that the program gives back
 pub prints_if_done : {V : Type 0} (contents : V → Option (List ℕ)) (arguments : List Text) (reader : Option (List ℕ)) (given : V) (back : Option V)
     (errors : Stream) → IsSomeAnd back (λ writer. IsDone arguments reader (contents given) (contents writer) errors 0)
     → IsSomeAnd back (λ writer. PrintsWhatIsAsked arguments reader (contents given) (contents writer))

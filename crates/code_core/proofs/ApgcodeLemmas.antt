@@ -54,7 +54,7 @@ after_letter Oscillator number (Some t) = refl
 after_letter Ship number None = refl
 after_letter Ship number (Some t) = refl
 
--- the number that is read from an apgcode is the number that it was made with
+-- the number that is read from an apgcode is the number that it was made with, if that is below 2^64
 pub number_of_name : (kind : Kind) (number : ℕ) (text : Option (List ℕ)) → number < 2 ^ 64 → number_in (code_text kind number text) ≡ number
 number_of_name kind number text low = after_letter kind number text ∙ number_in_prefix number (ending text) low (no_digits text)
 
@@ -79,7 +79,7 @@ character_bytes (b ∷ bs) all =
     let parts = and_parts (is_character b) (list_all is_character bs) all in
     and_from _ _ (rw parts.0 refl) (character_bytes bs parts.1)
 
--- the bytes and the length of the parts of a name: its end, which has the text, its opening and its letter
+-- the end of a name (which has the text), its opening and its letter are short and have bytes that a name may have
 ending_bytes : (text : Option (List ℕ)) → IfSome text HasTextShape → list_all is_code_byte (ending text) ≡ true
 unfolding is_character
 ending_bytes None shape = refl

@@ -140,7 +140,7 @@ box_of-moved dx dy (c ∷ cs) =
       bottom = most_moved c.y b.bottom dy i;
     }
 
--- the difference of a side and itself, and of two sides, before and after both are negated
+-- a side minus itself is 0, and the difference of two sides is their distance, also after both were negated
 to_itself : (a : ℤ) → a +ℤ neg_ℤ a ≡ pos 0
 to_itself a = omega (arith, ints)
 

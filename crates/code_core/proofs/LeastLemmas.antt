@@ -146,7 +146,7 @@ image_phases rule cells n t one = (
   ),
 )
 
--- the phase at a place, and the number of phases
+-- the phase at place g is generation g, and there are n phases
 pub phase_at : (rule : Numbers) (cells : List Cell) (n g : ℕ) (d : List Cell) → g < n → get_or (phases rule cells n) g d ≡ after rule cells g
 unfolding phases
 phase_at rule cells n g d low = get_or-map-range_with_len (after rule cells) 0 n g g d low (omega arith)

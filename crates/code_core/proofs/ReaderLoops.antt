@@ -174,7 +174,7 @@ sound text h = go (tokens_at 0 text) refl
     go (Ok tokens) e = record { tokens = tokens; spells = Spells-tokens_at tokens text 0 e; pattern = some tokens (token_cells tokens) refl e (rw e at h) }
     go (Err fault) e = absurd (let k = rw e at h in cc)
 
--- the cells of a short text lie on the plane
+-- the cells of a text of at most 10,000 bytes lie on the plane
 pub Spells-on_plane : (tokens : List Token) (text : List ℕ) → Spells tokens text → length text ≤ 10000 → list_all on_plane (cells_from 0 0 tokens) ≡ true
 Spells-on_plane tokens text s short =
     let few : length tokens ≤ 10000 = omega (arith, length-spelled tokens, ap length s.spelled) in

@@ -39,13 +39,13 @@ follows-none rule cells latest is = record {
 next_of : (rule : Numbers) (cells latest later : List Cell) (n : ℕ) → latest ≡ after rule cells n → later ≡ next rule latest → later ≡ after rule cells (n + 1)
 next_of rule cells latest later n is next_is = next_is ∙ ap (next rule) is ∙ sym (after-more rule cells n)
 
--- no generation up to the latest touches the edge
+-- if the latest generation doesn't touch the edge, no generation up to the latest does
 pub inside-more : (rule : Numbers) (cells : List Cell) (n : ℕ) (before : List (List Cell)) (latest : List Cell) → Follows rule cells n before latest
     → touches_edge latest ≡ false
     → (g : ℕ) → g < n + 1 → touches_edge (after rule cells g) ≡ false
 inside-more rule cells n before latest h off = below_more _ _ h.inside (ap touches_edge (sym h.latest) ∙ off)
 
--- the search goes on with the next generation if this isn't the pattern again
+-- the search goes on with the next generation if this isn't the pattern again, and the latest doesn't touch the edge
 pub follows-more : (rule : Numbers) (cells : List Cell) (n : ℕ) (before : List (List Cell)) (latest later : List Cell) → Follows rule cells n before latest
     → touches_edge latest ≡ false → later ≡ next rule latest → ((dx dy : ℤ) → shifted dx dy cells ≢ later)
     → Follows rule cells (n + 1) (before ++ latest ∷ []) later
@@ -76,7 +76,7 @@ recurs_then rule cells n limit before latest later dx dy h low next_is is = reco
   least = λ p ex ey some less back. h.new p ex ey some (omega arith) back;
 }
 
--- no generation before the one that is the pattern again touches the edge
+-- if the next generation is the pattern again, and the latest doesn't touch the edge, no earlier generation does
 pub inside_then : (rule : Numbers) (cells : List Cell) (n : ℕ) (before : List (List Cell)) (latest later : List Cell) (dx dy : ℤ)
     → Follows rule cells n before latest
     → touches_edge latest ≡ false → later ≡ next rule latest → shifted dx dy cells ≡ later → (g : ℕ) → NeverRecurs rule cells g
@@ -116,7 +116,7 @@ memory_is_no_edge e = cc
 -- ---- how a search ends
 
 module _ {X : Type 0} (F : X → Type 0) (rule : Numbers) (cells : List Cell) (limit : ℕ) where
-  -- the search found something
+  -- `SearchEnds` holds if the search found an x with the property F
   pub ends_found : (x : X) → F x → StaysInside rule cells limit → touches_edge cells ≡ false → SearchEnds F rule cells limit (Ok (Some x))
   ends_found x is inside off = record {
     found = is;
@@ -127,7 +127,7 @@ module _ {X : Type 0} (F : X → Type 0) (rule : Numbers) (cells : List Cell) (l
     never_edge = λ reach within far e. false≢true (sym (ap is_ok e));
   }
 
-  -- no generation is the pattern again
+  -- `SearchEnds` holds if no generation is the pattern again
   pub ends_without : NeverRecurs rule cells limit → StaysInside rule cells limit → touches_edge cells ≡ false → SearchEnds F rule cells limit (Ok None)
   ends_without new inside off = record {
     found = tt;
@@ -138,7 +138,7 @@ module _ {X : Type 0} (F : X → Type 0) (rule : Numbers) (cells : List Cell) (l
     never_edge = λ reach within far e. false≢true (sym (ap is_ok e));
   }
 
-  -- the pattern touches the edge from the start
+  -- `SearchEnds` holds if the pattern touches the edge from the start
   pub ends_at_once : 1 ≤ limit → touches_edge cells ≡ true → SearchEnds F rule cells limit (Err Edge)
   ends_at_once some on = record {
     found = tt;
@@ -149,7 +149,7 @@ module _ {X : Type 0} (F : X → Type 0) (rule : Numbers) (cells : List Cell) (l
     never_edge = λ reach within far e. never_meets rule cells limit reach within far (meets_at_once rule cells limit some on);
   }
 
-  -- the step to the next generation was refused
+  -- `SearchEnds` holds if the step to the next generation was refused
   pub ends_refused : (r : Result (Option X) StepError) (y : StepError) → IsErrAnd r (λ e. e ≡ y) → (y ≡ Edge → MeetsEdge rule cells limit)
       → touches_edge cells ≡ false → SearchEnds F rule cells limit r
   ends_refused (Ok x) y told meets off = absurd told
@@ -165,7 +165,7 @@ module _ {X : Type 0} (F : X → Type 0) (rule : Numbers) (cells : List Cell) (l
       is_edge : ◌≡◌ {A = Result (Option X) StepError} (Err z) (Err Edge) → y ≡ Edge
       is_edge e = cc
 
-  -- memory ran out
+  -- `SearchEnds` holds if memory ran out
   pub ends_by_memory : (r : Result (Option X) StepError) → IsErrAnd r (λ e. e ≡ Memory out_of_memory) → touches_edge cells ≡ false
       → SearchEnds F rule cells limit r
   ends_by_memory r told off = ends_refused r (Memory out_of_memory) told (λ e. absurd (memory_is_no_edge e)) off

@@ -30,7 +30,8 @@ pub column_at_most : (cells : List Cell) (k x : ℕ) → column cells k x ≤ 31
 unfolding column
 column_at_most cells k x = five_at_most _ _ _ _ _
 
--- the number of columns of the first token, and if that is a gap, also of the column with a live cell after it
+-- the columns that the first token accounts for: a gap of n columns for n + 1, since a column with a live cell follows,
+-- and any other token for 1
 abbrev reach : List Token → ℕ
 reach [] = 0
 reach (Gap n ∷ tokens) = n + 1
@@ -119,7 +120,8 @@ length-strip (value ∷ values) = omega (arith, length-before value (strip_token
 length-strip_of : (cells : List Cell) (right k : ℕ) → right < 40 → length (spelled (strip_tokens (strip cells (right + 1) k))) ≤ 40
 length-strip_of cells right k h = omega (arith, length-strip (strip cells (right + 1) k), length-map-range_with_len (column cells k) 0 (right + 1))
 
--- the text of strips has at most 40 bytes for each strip, and one byte between each strip and the next
+-- if the text of each strip has at most 40 bytes, the text of all strips has at most 40 bytes for each strip, and one
+-- byte between each strip and the next
 length-joined : (tokens : List Token) (strips : List (List Token)) → All (λ tokens. length (spelled tokens) ≤ 40) (tokens ∷ strips)
     → length (spelled (joined_strips (tokens ∷ strips))) ≤ 41 * length strips + 40
 length-joined tokens [] all = let h = all 0 [] (omega arith) in omega arith
@@ -128,7 +130,7 @@ length-joined tokens (more ∷ strips) all =
     let remainder = length-joined more strips (All-tail (λ tokens. length (spelled tokens) ≤ 40) tokens (more ∷ strips) all) in
     rw (flat_map-append spelling tokens (NextStrip ∷ joined_strips (more ∷ strips)), length-append) (omega arith)
 
--- the text of at most eight strips has at most 327 bytes
+-- if the text of each strip has at most 40 bytes, the text of at most eight strips has at most 327 bytes
 few_strips : (strips : List (List Token)) → All (λ tokens. length (spelled tokens) ≤ 40) strips → length strips ≤ 8 → length (spelled (joined_strips strips)) ≤ 327
 few_strips [] all few = omega arith
 few_strips (tokens ∷ strips) all few = omega (arith, length-joined tokens strips all)

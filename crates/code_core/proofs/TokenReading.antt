@@ -30,7 +30,7 @@ pub character_value-character : (v : ℕ) → v ≤ 35 → character_value (char
 unfolding character character_value
 character_value-character v h = grind (arith, nat_tests)
 
--- the token of one character, and the token of `y` (121) and a character: how it is spelled, and that it is lawful
+-- the token of one character, and the token of `y` (121) and a character: how they are spelled, and why they are lawful
 pub spelling-single : (b : ℕ) → is_character b ≡ true → (b == 121) ≡ false → spelling (single b) ≡ b ∷ []
 unfolding single gap_text
 spelling-single b h many = go (b == 48) refl (b == 119) refl (b == 120) refl (b == 122) refl
@@ -181,7 +181,8 @@ unfolding tokens_at
 tokens_at-spelled tokens each place =
     ap (λ (text : List ℕ). tokens_at place text) (sym (append-nil (flat_map spelling tokens))) ∙ tokens_at-tokens tokens each place [] ∙ with_tokens-none tokens
 
--- which token begins a text
+-- a text begins with the token of its first character, or if that is `y` (121), with the token of the `y` and the next
+-- character
 pub Begins_single : (text : List ℕ) (token : Token) (b : ℕ) (remainder : List ℕ) → text ≡ b ∷ remainder → token ≡ single b → is_character b ≡ true → b ≢ 121
     → Begins text token remainder
 Begins_single text token b remainder whole is h other =

@@ -54,7 +54,7 @@ list_hides plan workers bytes job named listed (ReadFailed error) is = absurd is
 list_hides plan workers bytes job named listed TooLong is = tt
 list_hides plan workers bytes job named listed (WriteFailed error) is = absurd is
 
--- how `gather` ends if the job is refused
+-- if the job is refused, the complaint about it is a right end of `gather` if nothing was written
 gathers_job : (plan : Plan) (workers : ℕ) (bytes : List ℕ) (reader : Option (List ℕ)) (complaint : Complaint)
     (output errors : Stream) → job_named plan ≡ Err complaint → IsSilent output errors
     → Reaches (gather_behaviour plan workers) reader bytes (Err complaint) output errors
@@ -64,7 +64,8 @@ gathers_job plan workers bytes reader (ReadFailed error) output errors named sil
 gathers_job plan workers bytes reader TooLong output errors named silent = absurd (job_refused plan TooLong named)
 gathers_job plan workers bytes reader (WriteFailed error) output errors named silent = absurd (job_refused plan (WriteFailed error) named)
 
--- how `gather` ends if the set is refused, or if memory runs out before this is known
+-- if the set is refused, or memory runs out before this is known, the complaint is a right end of `gather` if nothing
+-- was written
 gathers_set : (plan : Plan) (workers : ℕ) (bytes : List ℕ) (reader : Option (List ℕ)) (job : Job)
     (complaint : Complaint) (output errors : Stream) → job_named plan ≡ Ok job → StopsSet plan.set complaint → IsSilent output errors
     → Reaches (gather_behaviour plan workers) reader bytes (Err complaint) output errors
@@ -79,7 +80,7 @@ gathers_set plan workers bytes reader job (ReadFailed error) output errors named
 gathers_set plan workers bytes reader job TooLong output errors named stops silent = absurd stops
 gathers_set plan workers bytes reader job (WriteFailed error) output errors named stops silent = absurd stops
 
--- how `gather` ends if no haul was opened
+-- a complaint because of which no haul was opened is a right end of `gather` if nothing was written
 pub gathers_opening : (plan : Plan) (workers : ℕ) (bytes : List ℕ) (reader : Option (List ℕ)) (complaint : Complaint)
     (output errors : Stream) → StopsOpening plan complaint → IsSilent output errors
     → Reaches (gather_behaviour plan workers) reader bytes (Err complaint) output errors
@@ -93,7 +94,7 @@ pub reads_named : (plan : Plan) (job : Job) → job_named plan ≡ Ok job
     → gather_reads plan ≡ false → ⊥
 reads_named plan job named unread = let bad : true ≡ false = sym (ap is_ok named) ∙ unread in cc
 
--- all lines were gathered, and the text is the haul text of the closed haul
+-- if all lines were gathered, `IsGathered` holds for the haul text of the closed haul
 is_gathered : (terms : Terms) (held closed : Held) (census : Census) (n : ℕ) (reader left : Option (List ℕ)) (errors : Stream)
     → (all : HasGatheredShort reader left errors held) → held.terms ≡ terms → closed.terms ≡ held.terms
     → closed.taken ≡ held.taken
@@ -117,7 +118,7 @@ is_gathered terms held closed census n reader left errors all same kept took clo
       missing_is = many ∙ ap (λ (t : Terms). length (missing_of t.ranges held.taken)) same;
     }
 
--- once a haul is open, the only complaint that can be right is that the input is too long
+-- once a haul is open, the only complaint that can be right is that the input is too long, and that needs memory
 long_hides : (terms : Terms) (bytes : List ℕ) → NeedsMemoryAlone (gathered_right terms bytes)
 long_hides terms bytes (Refused refusal) is = absurd is
 long_hides terms bytes (Memory error) is = absurd is
@@ -125,7 +126,7 @@ long_hides terms bytes (ReadFailed error) is = absurd is
 long_hides terms bytes TooLong is = tt
 long_hides terms bytes (WriteFailed error) is = absurd is
 
--- how `gather` ends if memory runs out after some lines
+-- if memory runs out after some lines, and no write failed, this is a right end of `gather`
 gathers_memory : (terms : Terms) (bytes : List ℕ) (reader : Option (List ℕ)) (output errors : Stream) → HasBegun terms reader errors.before errors.after
     → Has output [] → errors.failed ≡ false → Reaches (haul_behaviour terms) reader bytes (Err (Memory out_of_memory)) output errors
 gathers_memory terms bytes reader output errors begun nothing fine = record {
@@ -135,8 +136,8 @@ gathers_memory terms bytes reader output errors begun nothing fine = record {
   fine = fine;
 }
 
--- how `gather` ends if a complaint ends the gathering of lines, for these bytes as its input; if the complaint is
--- `TooLong`, they must be more than 2^32
+-- a complaint that ends the gathering of lines is a right end of `gather` for these bytes as its input; if the
+-- complaint is `TooLong`, they must be more than 2^32
 gathers_on : (terms : Terms) (bytes : List ℕ) (reader left : Option (List ℕ)) (complaint : Complaint) (output errors : Stream)
     → (complaint ≡ TooLong → 2 ^ 32 < length bytes)
     → EndsLines terms reader left errors complaint → Has output []
@@ -153,7 +154,7 @@ gathers_on terms bytes reader left TooLong output errors long ends nothing = (
 gathers_on terms bytes reader left (WriteFailed error) output errors long ends nothing =
     inr (record { cut = ends; nothing = nothing })
 
--- how `gather` ends if a complaint ends the gathering of lines, for some bytes that may be its input
+-- a complaint that ends the gathering of lines is a right end of `gather` for some bytes that may be its input
 pub gathers_lines : (terms : Terms) (reader left : Option (List ℕ)) (complaint : Complaint) (output errors : Stream)
     → EndsLines terms reader left errors complaint → Has output []
     → (bytes : List ℕ) × IsInput reader bytes × Reaches (haul_behaviour terms) reader bytes (Err complaint) output errors
@@ -171,7 +172,7 @@ gathers_lines terms (Some all) left complaint output errors ends nothing = (
       (λ is. let long = subst (EndsLines terms (Some all) left errors) is ends in long.2) ends nothing,
 )
 
--- how `gather` ends once all lines were gathered and the haul was finished
+-- if all lines were gathered, each way in which the haul is finished is a right end of `gather`
 pub gathers_haul : (terms : Terms) (held closed : Held) (reader left : Option (List ℕ)) (outcome : Outcome) (output errors : Stream)
     → (all : HasGatheredShort reader left errors held) → held.terms ≡ terms → closed.terms ≡ held.terms
     → closed.taken ≡ held.taken
@@ -286,7 +287,7 @@ gathers_over plan workers bytes reader job terms outcome output errors named ove
 
 -- ---- how far the input was read
 
--- if no haul was opened, nothing was read
+-- `HasReadUpTo` holds if no haul was opened and nothing was read
 pub unread_opening : {R : Type 0} (plan : Plan) (workers : ℕ) (remaining : R → Option (List ℕ)) (input : R) (complaint : Complaint)
     (errors : Stream) → StopsOpening plan complaint → Has errors []
     → HasReadUpTo (gather_opens plan workers) remaining input input errors (Err complaint)
@@ -298,7 +299,7 @@ unread_opening plan workers remaining input TooLong errors (inl named) silent = 
 unread_opening plan workers remaining input TooLong errors (inr (job, named, stops)) silent = absurd stops
 unread_opening plan workers remaining input (WriteFailed error) errors stops silent = tt
 
--- how far the input was read if a complaint ended gathering
+-- `HasReadUpTo` holds if a complaint ended the gathering of lines
 pub stops_lines : {R : Type 0} (terms : Terms) (remaining : R → Option (List ℕ)) (old new : R) (errors : Stream) (complaint : Complaint)
     → EndsLinesAt terms (remaining old) (remaining new) errors complaint
     → HasReadUpTo (IsSame terms) remaining old new errors (Err complaint)
@@ -311,7 +312,7 @@ stops_lines terms remaining old new errors TooLong at_ =
     record { terms = terms; opened = refl; ahead = at_.ahead; few = at_.few; begun = at_.ends.0 }
 stops_lines terms remaining old new errors (WriteFailed error) at_ = tt
 
--- how far the input was read if all lines were gathered
+-- `HasReadUpTo` holds if all lines were gathered
 pub stops_finished : {R : Type 0} (terms : Terms) (held : Held) (remaining : R → Option (List ℕ)) (old new : R) (outcome : Outcome)
     (output errors : Stream) → (all : HasGatheredShort (remaining old) (remaining new) errors held) → held.terms ≡ terms
     → Finishes held outcome output → HasReadUpTo (IsSame terms) remaining old new errors outcome

@@ -306,7 +306,8 @@ pub read_so_far : (most : ℕ) (reader left : Option (List ℕ)) (ahead : List �
 read_so_far most reader left ahead errors count size held gathered few =
     let size_is = gathered.size_is in with_ahead most reader left gathered.read ahead gathered.consumed (omega (arith, size_is, few))
 
--- if `size + room` is at most `most`, at most `most` bytes were read after up to `room` more
+-- if the gathered lines have `size` bytes, at most `room` more bytes were read, and `size + room` is at most `most`,
+-- then at most `most` bytes were read
 pub read_further : (room most : ℕ) (reader left new : Option (List ℕ)) (errors : Stream) (count size : ℕ) (held : Held)
     → HasGatheredLines (passage reader left errors count size) held → size + room ≤ most → HasReadAtMost room left new
     → HasReadAtMost most reader new

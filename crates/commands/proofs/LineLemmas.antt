@@ -55,7 +55,7 @@ long_read most None left read consumed long = tt
 long_read most (Some xs) None read consumed long = absurd consumed
 long_read most (Some xs) (Some ys) read consumed long = let all = ap length consumed ∙ length-append read ys in omega (arith, all, long)
 
--- an input that is spent since `old` is spent since `start`
+-- if bytes were read from `start`, which left `old`, and `old` was then spent, `start` is spent too
 pub spent_from : (start old new : Option (List ℕ)) (prefix : List ℕ) → Consumes start old prefix → IsSpent old new → IsSpent start new
 spent_from None old new prefix consumed spent = tt
 spent_from (Some all) None new prefix consumed spent = absurd consumed

@@ -260,11 +260,11 @@ complete_right job set opened held census open_ h all is = record {
   };
 }
 
--- if numbers are missing, the text is right if the gate may have stopped a worker and the text tells what was taken
+-- which texts are right if numbers are missing: the gate may have stopped a worker, and the text tells what was taken
 abbrev stopped_text : (may_stop lets : ℕ → ℕ → Type 0) → (workers missing : ℕ) → Job → List Range → List ℕ → Type 0
 stopped_text may_stop lets workers missing job ranges text = MayStop may_stop ranges × TellsTaken lets workers job ranges missing text
 
--- if numbers are missing, the haul text of what was taken is right
+-- if numbers are missing, and the gate may have stopped a worker, the haul text of what was taken is right
 pub stopped_told : (may_stop lets : ℕ → ℕ → Type 0) (workers : ℕ) (job : Job) (set : SoupSet) (opened held : Held) (census : Census) (missing : ℕ)
     → IsOpened job set workers opened → HasTakenMore opened held → All (λ t. is_in held.terms.ranges t.1 ≡ true) held.taken
     → IsDistinct nat_eq (numbers_in held.taken) → All (IsLetIn lets workers) held.taken → missing ≡ length (missing_of held.terms.ranges held.taken)
@@ -457,7 +457,7 @@ never_stopped may_stop lets workers plan reader bytes status output errors never
 
 -- ---- what `take` prints
 
--- a text that is right for a plan is the census of its job over its set
+-- if a text that is right for a plan was printed, the census of the plan's job over the plan's set was printed
 pub prints_right : (plan : Plan) (text : List ℕ) (before after : Option (List ℕ)) → take_right plan (Ok text)
     → Appends before after text → PrintsCensus plan before after
 prints_right plan text before after right grown = go (job_named plan) refl right

@@ -51,7 +51,7 @@ pub puts_nothing : (job : Job) (worker : ℕ) (reader : Option (List ℕ)) (fail
     → Puts (reports_on job worker []) (Ok tt) (over reader reader failed)
 puts_nothing job worker reader failed fine = record { reports = []; each = tt; is_written = Appends-nil reader; fine = fine }
 
--- if memory runs out at the first number, nothing was written
+-- `Puts` holds if memory ran out at the first number and nothing was written
 pub puts_no_memory : (job : Job) (worker : ℕ) (numbers : List ℕ) (reader : Option (List ℕ)) (failed : Bool) (error : OutOfMemory)
     → Puts (reports_on job worker numbers) (Err (Memory error)) (over reader reader failed)
 puts_no_memory job worker numbers reader failed error =
@@ -67,7 +67,7 @@ puts_one job worker n report output is wrote fine = record {
   fine = fine;
 }
 
--- if one number is wanted and writing the report on it fails, a prefix of the report was written
+-- `Puts` holds if one number is wanted, writing the report on it failed, and a prefix of the report was written
 pub puts_failed : (job : Job) (worker n : ℕ) (report : Reported) (output : Stream) (error : WriteError) → IsReportOn job worker n report → HasPrefix output (report_text report)
     → output.failed ≡ true → Puts (reports_on job worker (n ∷ [])) (Err (WriteFailed error)) output
 puts_failed job worker n report output error is wrote diagnostics = (

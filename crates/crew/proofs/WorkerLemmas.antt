@@ -90,7 +90,7 @@ pub own_report : (lets : ℕ → ℕ → Type 0) {job : Job} {worker number send
     → r.job ≡ job → r.number ≡ number → lets worker number → IsOwnReport lets job sender r
 own_report lets r same mine of is let_in = (mine ∙ sym same, of, subst₂ lets (sym same) (sym is) let_in)
 
--- if no note is "done", none is after one more report
+-- notes without a note "done" still have none after one more report
 pub not_done_more : (notes now : List Note) (r : Reported) → AreNotDone notes → now ≡ notes ++ Report r ∷ [] → AreNotDone now
 not_done_more notes now r none is = subst AreNotDone (sym is) (All-push (λ note. is_done note ≡ false) notes (Report r) none refl)
 
@@ -151,7 +151,7 @@ begun_started CalledOff h = refl
 begun_started (Unstarted error) h = absurd (cc)
 
 module _ {may_stop lets : ℕ → ℕ → Type 0} (shared : Shared) where
-  -- the result of a worker that was called off
+  -- `Returns` holds for a worker that was called off
   pub returned_off : (pass : Drawn) (sender : Presented Note) → pass ≡ fresh shared.tickets → sender ≡ silent shared.belt.name sender.number
       → Returns may_stop lets shared sender.number (result_of pass sender CalledOff)
   returned_off pass sender unused still = record {
@@ -173,7 +173,7 @@ module _ {may_stop lets : ℕ → ℕ → Type 0} (shared : Shared) where
     started = refl;
   }
 
-  -- the result of a worker that has worked and then presented a note "done"
+  -- `Returns` holds for a worker that has worked and then presented a note "done"
   pub returned : (worker : ℕ) (ended : End) (pass : Drawn) (sender now : Presented Note)
       → HasWorked may_stop lets shared worker ended pass sender
       → has_begun ended ≡ true → AreNotDone sender.notes → now ≡ with_note (Done worker) sender
@@ -199,7 +199,7 @@ module _ {may_stop lets : ℕ → ℕ → Type 0} (shared : Shared) where
         started = begun_started ended begun;
       })
 
-  -- the result of a worker for which no thread could be started, so that its closure was called without one
+  -- `Leaves` holds for a worker for which no thread could be started, so that its closure was called without one
   pub unstarted : (worker : ℕ) (worker_result : WorkerResult) (error : OutOfMemory) → Returns may_stop lets shared worker worker_result
       → Leaves may_stop lets shared worker (result_of worker_result.pass worker_result.sender (Unstarted error))
   unstarted worker worker_result error h =

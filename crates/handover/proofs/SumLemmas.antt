@@ -7,7 +7,7 @@ use mathlib.Core.Option.{some, some-injective, some-ne-none}
 use lib.ListN.{get_elem?}
 
 module _ {X : Type 0} (f : X → ℕ) where
-  -- how the sum changes if one element is replaced
+  -- if `w` replaces `v`, the new sum plus the value of `v` is the old sum plus the value of `w`
   pub sum_set : (l : List X) (i : ℕ) (v w : X) → get_elem? l i ≡ some v → sum_by f (set l i w) + f v ≡ sum_by f l + f w
   sum_set [] i v w at = absurd (some-ne-none v (sym at))
   sum_set (x ∷ xs) zero v w at = let e : f x ≡ f v = ap f (some-injective x v at) in omega (arith, sum_by-cons f w xs, sum_by-cons f x xs)

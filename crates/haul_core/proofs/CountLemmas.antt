@@ -14,14 +14,14 @@ pub same_count : (field prefix text : List ℕ) (object : List ℕ × ℕ) → C
 same_count field prefix text object cut lawful e =
     cut_once 42 prefix object.0 text (decimal object.1) cut.1 (code_lacks_star object.0 lawful.code.bytes) (sym cut.0 ∙ e)
 
--- the number that ends at the first `,` (44) of a text is unique, and so is the text after the `,`
+-- if a text begins with a number up to 100,000 and a `,` (44), the number is unique, and so is the text after the `,`
 pub same_first : (text remainder more : List ℕ) (n m : ℕ) → IsSmall n → IsSmall m → text ≡ decimal n ++ 44 ∷ remainder → text ≡ decimal m ++ 44 ∷ more
     → (n ≡ m) × (remainder ≡ more)
 same_first text remainder more n m p q e f =
     let c = cut_once 44 (decimal n) (decimal m) remainder more (decimal_lacks 44 n refl (omega arith)) (decimal_lacks 44 m refl (omega arith)) (sym e ∙ f) in
     (decimal_injective n m (omega arith) (omega arith) c.0, c.1)
 
--- the four numbers of a profile are small
+-- the four numbers of a profile are at most 100,000
 pub record AreSmall (p : Settling) : Type 0 where
   pub period : IsSmall p.period
   pub horizon : IsSmall p.horizon

@@ -158,7 +158,7 @@ rows_summed surveys (row ∷ rows) each =
     ∙ (λ i. first.total_is i + rows_summed surveys rows (All-tail (IsRowOf surveys) row rows each) i)
     ∙ sym (sum_by-cons (total surveys) row.code (codes_of rows))
 
--- the objects of the rows are at most as many as the surveys can have
+-- if each survey has fewer than 2^64 objects, the rows have at most 2^64 - 1 objects per survey
 pub sum_within : (surveys : List Survey) (rows : List Row) → AreRowsOf surveys rows → All (λ s. objects_in s.finding < 2 ^ 64) surveys
     → sum_by (λ row. row.total) rows ≤ length surveys * (2 ^ 64 - 1)
 sum_within surveys rows are few =

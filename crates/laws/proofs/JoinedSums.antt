@@ -146,7 +146,8 @@ both_known : (b c : Bool) → (b ≡ true → c ≡ true) → (b && c) ≡ b
 both_known true c h = h refl
 both_known false c h = refl
 
--- the totals in the rows of a census add up to its totals of all codes that a wider census has
+-- if no total of a census is greater than in a wider census, the totals in the census's rows have the same sum as its
+-- totals of all codes in the wider census's rows
 rows_within : (surveys wider : List Survey) (rows more : List Row) → AreRowsOf surveys rows → AreRowsOf wider more
     → ((code : List ℕ) → total surveys code ≤ total wider code) → sum_by (λ row. row.total) rows ≡ sum_by (total surveys) (codes_of more)
 rows_within surveys wider rows more are were less =

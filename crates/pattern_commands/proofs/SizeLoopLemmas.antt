@@ -22,7 +22,7 @@ module _ (rule : Numbers) (cells : List Cell) (from : ℕ) where
   pub lines_first : {V : Type 0} (contents : V → Option (List ℕ)) (x : Output V) → Has (stream contents x x) (later_sizes rule cells from (from - from))
   lines_first contents x = subst (λ (n : ℕ). Has (stream contents x x) (later_sizes rule cells from n)) (sym none_yet) (has_first rule cells from contents x)
 
-  -- generation `g` is within `reach + g` columns and rows of the origin
+  -- if generation `from` is within `reach + from` columns and rows of the origin, generation `g` is within `reach + g`
   pub near_now : (reach g : ℕ) (now : List Cell) → from ≤ g → lies_within (reach + from) cells ≡ true → now ≡ after rule cells (g - from)
       → lies_within (reach + g) now ≡ true
   near_now reach g now low near is =
@@ -37,15 +37,15 @@ module _ (rule : Numbers) (cells : List Cell) (from : ℕ) where
     later : g - from + made ≡ g + made - from
     later = omega arith
 
-    -- what holds for `now` at generation `g` holds for the pattern `g - from` generations later
+    -- what holds for `now` and `g` holds for `cells` after `g - from` generations, and for `from + (g - from)`
     pub moved : (P : List Cell → ℕ → Type 0) → P now g → P (after rule cells (g - from)) (from + (g - from))
     moved P h = subst (P (after rule cells (g - from))) (sym here) (subst (λ (S : List Cell). P S g) is h)
 
-    -- the pattern `made` generations after generation `g`
+    -- `made` generations after generation `g`, the pattern is that of generation `g + made`
     pub now_later : (next : List Cell) → next ≡ after rule now made → next ≡ after rule cells (g + made - from)
     now_later next so = so ∙ ap (λ (S : List Cell). after rule S made) is ∙ after-plus rule cells (g - from) made ∙ ap (after rule cells) later
 
-    -- the lines up to generation `g + made`
+    -- if the lines up to generation `g` were written, and then `made` more, the lines up to `g + made` were written
     pub lines_later : {V : Type 0} (contents : V → Option (List ℕ)) (x y z : Output V) → Has (stream contents x y) (later_sizes rule cells from (g - from))
         → Has (stream contents y z) (later_sizes rule now g made) → Has (stream contents x z) (later_sizes rule cells from (g + made - from))
     lines_later contents x y z one two =

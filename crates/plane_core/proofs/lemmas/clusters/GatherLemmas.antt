@@ -248,7 +248,7 @@ first-longer [] b xs ys h = absurd h
 first-longer (c ∷ cs) [] xs ys h = absurd h
 first-longer (c ∷ cs) (d ∷ ds) xs ys h = h
 
--- a place that isn't a root gets the number of its parent, and its cell is appended to that cluster
+-- a place that isn't a root gets the number of its parent, and its cell is appended to the cluster with this number
 gathering-other : (cells : List Cell) (parents numbers : List ℕ) (clusters : List (List Cell)) (place n : ℕ) → InOrder cells → IsForest cells parents
     → place < length cells → parent_of parents place ≢ place → n ≡ get_or numbers (parent_of parents place) 0
     → ArePutInClusters cells parents numbers clusters place
@@ -364,7 +364,7 @@ near_alike cells parents numbers joins labels j k low high near = elim (cases_lt
   ]
 ]
 
--- the end of a path has the same number as its start
+-- if near cells have the same number, the end of a path has the same number as its start
 walk : (cells : List Cell) (numbers : List ℕ) (n : ℕ) → length numbers ≡ length cells → NearAlike cells numbers → (path : List Cell) (k : ℕ) (d : Cell)
     → k < length cells → get_or numbers k 0 ≡ n → Leads cells (cell_of cells k) path d → has (numbered n numbers cells) d ≡ true
 walk cells numbers n size alike [] k d low is leads =
@@ -376,7 +376,7 @@ walk cells numbers n size alike (e ∷ es) k d low is leads =
     walk cells numbers n size alike es p.0 d p.1 (sym (alike k p.0 low p.1 close) ∙ is)
     (subst (λ (x : Cell). Leads cells x es d) (sym p.2) leads.2)
 
--- once all places are passed, the clusters are those of the pattern
+-- once all places are passed, the clusters are those of the pattern, if the forest joins any two places near each other
 pub gathered_all : (cells : List Cell) (parents numbers : List ℕ) (clusters : List (List Cell)) (place : ℕ) → InOrder cells → IsForest cells parents
     → JoinsAll cells parents (length cells) → length cells ≤ place → ArePutInClusters cells parents numbers clusters place → AreClusters cells clusters
 gathered_all cells parents numbers clusters place o f joins all g = record {
@@ -499,7 +499,7 @@ module _ (cells : List Cell) (parents : List ℕ) (clusters : List (List Cell)) 
       (gathering-other cells g.forest (take place parents) clusters place _ p.in_order g.is_forest low (λ e. branch (sym leads ∙ e)) (number_there branch)
       g.passed))) told
 
--- before the first place, there are no numbers and no clusters
+-- an empty list of numbers and an empty list of clusters are right before the first place
 gathering-none : (cells : List Cell) (parents numbers : List ℕ) (clusters : List (List Cell)) → numbers ≡ [] → clusters ≡ []
     → ArePutInClusters cells parents numbers clusters 0
 gathering-none cells parents numbers clusters none empty =

@@ -47,7 +47,8 @@ pub record AreJoined (old new : List ℕ) (one other : ℕ) : Type 0 where
   pub keeps : Keeps old new
   pub joined : Joined new one other
 
--- making the root `later` lead to the place `first`, which isn't after it, joins the trees of `one` and `other`
+-- making the root `later` lead to the place `first`, which isn't after it, joins the trees of `one` and `other`, if one
+-- of these trees has `later` and the other has `first`
 hangs : (parents : List ℕ) (later first one other : ℕ) → first ≤ later → later < length parents → parent_of parents later ≡ later
     → ((label : ℕ → ℕ) → Labels parents label → label first ≡ label later → label one ≡ label other)
     → ((cells : List Cell) → IsForest cells parents → Linked cells (cell_of cells one) (cell_of cells other) → Linked cells (cell_of cells later) (cell_of cells first))
@@ -247,8 +248,9 @@ same_rows cells rows place o some low level r = record {
       ];
     }
 
--- at the first place of a row, the places from `begin` to before `end` are the row two above it, and the places from
--- `end` to before `place` are the row just above it
+-- at the first place of a row, if `begin` is the first place at most two rows above it, and `end` the first place at
+-- most one row above it, the places from `begin` to before `end` are the row two above it, and the places from `end` to
+-- before `place` are the row just above it
 pub new_rows : (cells : List Cell) (rows : RowsAbove) (place begin end : ℕ) → InOrder cells → 0 < place → place < length cells
     → (cell_of cells (place - 1)).y ≢ (cell_of cells place).y → AreRowsAbove cells rows (place - 1) → rows.begin ≤ begin → begin ≤ place
     → ((k : ℕ) → rows.begin ≤ k → k < begin → (cell_of cells k).y <ℤ ((cell_of cells place).y +ℤ negsuc 1))
@@ -440,8 +442,8 @@ between c b d first second row near = go (before_cases c b first) (before_cases 
         let even : distance b.y d.y ≤ 2 = omega (arith, ints, right.0) in
         (omega (arith, west, level), omega (arith, east, even))
 
--- the fact about the place just before `place` holds for each k with k + 1 ≡ place: if the two cells are in the same row
--- and need to be joined, they are joined
+-- if the place just before `place` is joined with it when the two are in the same row and need to be joined, so is each
+-- k with k + 1 ≡ place
 pub joins_before : (cells : List Cell) (parents : List ℕ) (place : ℕ)
     → ((cell_of cells (place - 1)).y ≡ (cell_of cells place).y → NeedsJoin cells (place - 1) place → Joined parents (place - 1) place)
     → (k : ℕ) → k + 1 ≡ place → (cell_of cells k).y ≡ (cell_of cells place).y → NeedsJoin cells k place → Joined parents k place
@@ -514,7 +516,8 @@ joins_near cells old new place keeps all needed k less near = go (cases_lt (k + 
 
 -- ---- the scan of a row
 
--- each place from `first` to before `at` that needs to be joined with `place` is joined with it
+-- `new` is a forest in which places that `old` joins are still joined, and each place from `first` to before `at` that
+-- needs to be joined with `place` is joined with it
 pub record IsScanning (cells : List Cell) (old new : List ℕ) (place first at : ℕ) : Type 0 where
   pub forest : IsForest cells new
   pub keeps : Keeps old new
@@ -570,7 +573,7 @@ row_joined cells old new place row from to fresh first start at o low is to_row 
       ]
     ]
 
--- if the cell at `first` isn't left of `from`, no later cell of the row is left of it
+-- if the cell at `first` isn't left of `from`, no later cell of the row is left of `from`
 pub not_left_of : (cells : List Cell) (row : RowPlaces) (place first at : ℕ) (from : Cell) → InOrder cells → place < length cells → IsRow cells row place from
     → row.from ≤ first → first ≤ at → at < row.end → (first < row.end → from.x ≤ℤ (cell_of cells first).x) → from.x ≤ℤ (cell_of cells at).x
 not_left_of cells row place first at from o low is least more inside right = elim (cases_lt first at) [
@@ -588,7 +591,8 @@ not_left_of cells row place first at from o low is least more inside right = eli
       subst (λ (n : ℕ). from.x ≤ℤ (cell_of cells n).x) same (right (omega (arith, same, inside)))
 ]
 
--- if `place` is joined with all earlier places near it, any two places up to it that are near each other are joined
+-- if any two places before `place` that are near each other are joined, and `place` is joined with those near it, any
+-- two places up to `place` that are near each other are joined
 pub joins_more : (cells : List Cell) (old new : List ℕ) (place : ℕ) → Keeps old new → JoinsAll cells old place
     → ((k : ℕ) → k < place → king_distance (cell_of cells k) (cell_of cells place) ≤ 2 → Joined new k place) → JoinsAll cells new (place + 1)
 joins_more cells old new place keeps before here j k less low near = elim (cases_eq k place) [

@@ -400,7 +400,7 @@ all_seen at way words gone found seen c e =
     (seen (k / 64 / at.rows) (k / 64 % at.rows) spot.word_column spot.row (k % 64) (omega arith)
     (ap (λ (d : Cell). has (without (cells_on at words) gone) d) (sym bit.3) ∙ e))
 
--- if each live cell is at most as deep as what was found, the pattern, turned, lies up to the depth that was found
+-- if no live cell is deeper than the depth that was found, the turned pattern lies up to this depth
 pub reaches : (way : Orientation) (direction : Direction) (cells : List Cell) (found : Option ℤ)
     → ((c : Cell) → depth_in direction c ≡ depth (turned_cell way c)) → ((c : Cell) → has cells c ≡ true → IsReached found (depth_in direction c))
     → IfSome found (λ m. LiesUpTo way m cells)

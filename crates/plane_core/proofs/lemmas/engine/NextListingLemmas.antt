@@ -294,7 +294,7 @@ next_on at rule words hull rim held c alive = within (next_spot at rule words hu
         let rows = rim.bottom in
         record { left = omega (arith, ints); top = omega (arith, ints); right = omega (arith, ints); bottom = omega (arith, ints) }
 
--- no cell of the next generation is above the first band
+-- no cell of the next generation is above the first band, so nothing is missing from the empty list
 pub above_none : (at : Frame) (rule : Numbers) (words : List ℕ) (hull : Hull) (new : List Cell) → HasRim at hull → LiesInHull at hull (cells_on at words)
     → new ≡ [] → HasListedAbove at (hull.rows.from - 5 + 4) (after rule (cells_on at words) 1) new
 above_none at rule words hull new rim held none = record {

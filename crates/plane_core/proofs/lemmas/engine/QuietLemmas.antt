@@ -30,7 +30,7 @@ after-local rule S T (suc n) c o u same =
     (λ d near. after-local rule S T n d o u (λ e further. same e (omega (arith, triangle c d e 1 n near further))))
     ∙ sym (ap (λ (V : List Cell). has V c) (after-suc rule T n) ∙ has-next rule (after rule T n) c)
 
--- if no cell within n is alive, the cell is dead after n generations
+-- if no cell within n of c is alive, c is dead after n generations
 pub none-after : (rule : Numbers) (S : List Cell) (n : ℕ) (c : Cell) → ((d : Cell) → king_distance c d ≤ n → ¬ (has S d ≡ true))
     → has (after rule S n) c ≡ false
 none-after rule S n c none =

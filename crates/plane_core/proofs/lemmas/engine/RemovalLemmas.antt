@@ -148,7 +148,7 @@ pub fewer_taken : (at : Frame) (ws : List ℕ) (S cs : List Cell) (i : ℕ) (d :
     → Shows at ws (without S (take i cs ++ get_or cs i d ∷ [])) → Shows at ws (without S (take (i + 1) cs))
 fewer_taken at ws S cs i d low shown = subst (λ (gone : List Cell). Shows at ws (without S gone)) (sym (take_more cs i d low)) shown
 
--- the board's pattern is the old one without the removed cells
+-- a board that shows the old board's pattern without the cells of `gone` has exactly this pattern
 pub only_without : (at : Frame) (old new : List ℕ) (gone : List Cell) → Shows at new (without (cells_on at old) gone)
     → cells_on at new ≡ without (cells_on at old) gone
 only_without at old new gone shown =
@@ -173,7 +173,7 @@ pub lies_in_bound : (S : List Cell) → IsPattern S → lies_within box_bound S 
 unfolding on_plane
 lies_in_bound S pattern = lies_wider S plane_bound box_bound (omega arith) pattern.on_plane
 
--- a board is still a board with wider boxes
+-- a board with spans is still one after its boxes are made wider
 pub wider_board : (at : Frame) (rule : Numbers) (words : List ℕ) (boxes later : List Bounds) (holds_all : Bool) (spans : List RowSpan)
     → IsSpannedBoard at rule words boxes holds_all spans → All (AreSidesWithin box_bound) later → AreWider boxes later
     → IsSpannedBoard at rule words later holds_all spans
@@ -189,7 +189,8 @@ wider_board at rule words boxes later holds_all spans is sides wider = record {
   plane = is.plane;
 }
 
--- a board is still a board with fewer cells, if its wider boxes also hold the removed cells
+-- a board with spans is still one after cells are removed and its boxes are made wider, if the wider boxes hold the
+-- removed cells
 pub fewer_board : (at : Frame) (rule : Numbers) (old new : List ℕ) (boxes later : List Bounds) (holds_all : Bool) (spans : List RowSpan)
     (gone : List Cell) → IsSpannedBoard at rule old boxes holds_all spans → length new ≡ length old
     → cells_on at new ≡ without (cells_on at old) gone → All (AreSidesWithin box_bound) later → AreWider boxes later → HoldAll later gone

@@ -87,12 +87,12 @@ not_marked places rows j i q lp lr low one none = split (other_than (slice_index
 
 -- ---- one vector after another
 
--- in the inner cells of the first `count` vectors, the windows differ only in columns that are marked in the lane
+-- in the inner cells of the first `count` vectors, the lanes j differ only in columns marked in lane j of `columns`
 abbrev pub DifferInColumns : ℕ → List (List ℕ) → List (List ℕ) → List ℕ → ℕ → Type 0
 DifferInColumns n one other columns count = (k : ℕ) → k < count → (j i : ℕ) → j < 4 → 4 ≤ i → i < 60 → 4 ≤ j * n + k → j * n + k + 4 < 4 * n
     → bit_of columns j i ≡ 0 → bit_at (lane_at one k j) i ≡ bit_at (lane_at other k j) i
 
--- in the inner cells of the first `count` vectors, the windows differ only in rows that are marked in the lane
+-- in the inner cells of the first `count` vectors, the lanes j differ only in rows marked in lane j of `rows`
 abbrev pub DifferInRows : ℕ → List (List ℕ) → List (List ℕ) → List ℕ → ℕ → Type 0
 DifferInRows n one other rows count = (k : ℕ) → k < count → (j i : ℕ) → j < 4 → 4 ≤ i → i < 60 → 4 ≤ j * n + k → j * n + k + 4 < 4 * n
     → bit_of rows j (j * n + k) ≡ 0 → bit_at (lane_at one k j) i ≡ bit_at (lane_at other k j) i

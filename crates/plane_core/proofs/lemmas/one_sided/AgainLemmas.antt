@@ -139,7 +139,7 @@ is_again n left top dx dy x y S b a e d some wx wy hx hy p q r s = record { same
         (same_cell_at _ _ _ _ (omega (arith, ints, across)) (omega (arith, ints, down))))
         ∙ held_anywhere n left top y (shifted dx dy S) (a + i) (d + k) some hy wy)
 
--- the rows of the two windows are equal, counted from the first column and row of their cells
+-- if windows x and y show the same cells, row e + r of x, from column b on, equals row d + r of y, from column a on
 pub rows_again : (n : ℕ) (x y : List (List ℕ)) (b a e d r : ℕ) → IsAgain n x y b a e d → row_at n x (e + r) / 2 ^ b ≡ row_at n y (d + r) / 2 ^ a
 rows_again n x y b a e d r again = same_from_bits _ _ (λ i. moved_bit (row_at n x (e + r)) b i ∙ again.same i r ∙ sym (moved_bit (row_at n y (d + r)) a i))
 
@@ -151,7 +151,7 @@ alike_bits (suc zero) b p q f g = sym (f refl)
 alike_bits (suc (suc a)) b p q f g = absurd (omega arith)
 alike_bits zero (suc (suc b)) p q f g = absurd (omega arith)
 
--- the columns with live cells are the same, counted from the first of them
+-- the windows of a pattern and of the pattern moved have live cells in the same columns, counted from the first of them
 pub columns_again : (n : ℕ) (left top dx dy : ℤ) (x y : List (List ℕ)) (S : List Cell) (w v b a : ℕ) → 0 < n → AreVectors n x → AreVectors n y
     → IsColumns n x w → IsColumns n y v → Holds n left top x S → Holds n left top y (shifted dx dy S) → BeginsColumn left S b
     → BeginsColumn left (shifted dx dy S) a → w / 2 ^ b ≡ v / 2 ^ a
@@ -297,7 +297,7 @@ new-ever rule S m h g less back new p dx dy some low e =
           | inr more ↦ (q + 1, omega arith, λ _. omega arith, step p q e)
         ]
 
--- the window after `made` generations, and an earlier window that was kept
+-- the window after `made` generations, and a kept window, which is of the same generation or an earlier one
 pub record IsChanging (rule : Numbers) (n : ℕ) (start now kept : List (List ℕ)) (columns made : ℕ) : Type 0 where
   pub whole : AreVectors n now
   pub columns_are : IsColumns n now columns

@@ -199,7 +199,7 @@ cluster_flooded window rows flood row column unpacked is depth few cells left to
 
 -- ---- the flood as a board
 
--- on a board of one word column and 64 rows, the rows of the flood show the cluster
+-- on a board of one word column and 64 rows, the rows of the flood show a cluster of the pattern
 pub flooded_pattern : (at : Frame) (rows flood : List ℕ) (row column : ℕ) (cells : List Cell) → at.word_columns ≡ 1 → at.rows ≡ 64
     → IsFlooded rows flood row column → ShowsInRows at.left at.top rows cells → InOrder cells → IsCluster cells (cells_on at flood)
 unfolding cluster_in

@@ -225,7 +225,7 @@ ends-after rule m S (suc k) o slow ends =
     (ends-later ((m +ℤ pos k) +ℤ pos 1) _ _ (sym (two_more rule S k))
     (ends-twice rule (m +ℤ pos k) (after rule S (k + k)) (in_order-after rule S (k + k) o) slow (ends-after rule m S k o slow ends)))
 
--- the bound after n generations, for even and for odd n
+-- a cell that is alive after n generations is at most (n + 1) / 2 deeper than the frontier m, for even and for odd n
 ends_by : (rule : Numbers) (m : ℤ) (S : List Cell) (n : ℕ) (x y : ℤ) → InOrder S → AnswersSlowly rule → EndsAt m S
     → has (after rule S n) (cell_at x y) ≡ true → (pos 2 *ℤ (x +ℤ y)) ≤ℤ ((pos 2 *ℤ m) +ℤ pos (n + 1))
 ends_by rule m S n x y o slow ends e = within (n / 2) (halves (n / 2) refl)

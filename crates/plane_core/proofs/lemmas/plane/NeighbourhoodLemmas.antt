@@ -122,7 +122,7 @@ still_moved a b = still (a +ℤ b)
 moved_still : (a b : ℤ) → (a +ℤ pos 0) +ℤ b ≡ a +ℤ b
 moved_still a b = ap (λ (v : ℤ). v +ℤ b) (still a)
 
--- in a list of only d, the neighbourhood of c has one live cell if d is a neighbour of c or c itself
+-- in a list of only d, the neighbourhood of c has one live cell if d is c or a neighbour of c, and otherwise none
 hits_of : (c d : Cell) → neighbourhood_total (d ∷ []) c ≡ cond (king_distance c d == 1) 1 0 + cond (same_cell c d) 1 0
 hits_of c d = sum_of_hits ∙ sym (one_cell _ _ _ _ _ _ _ _ (near c.x d.x) (near c.y d.y))
     ∙ ap (λ b. cond (king_distance c d == 1) 1 0 + cond b 1 0) (same_cell-eq c d)
@@ -174,7 +174,7 @@ pub times-append : (cs ds : List Cell) (c : Cell) → times (cs ++ ds) c ≡ tim
 times-append [] ds c = omega arith
 times-append (e ∷ es) ds c = omega (arith, times-append es ds c)
 
--- a neighbourhood has each of its cells once
+-- the neighbourhood of d has d and each neighbour of d once, and no other cell
 times-neighbourhood : (d c : Cell) → times (neighbourhood d) c ≡ cond (king_distance c d == 1) 1 0 + cond (same_cell c d) 1 0
 times-neighbourhood d c =
     turned _ _ _ _ _ _ _ _ _ _ _ _ _ _ _ _ _ _ (at _) (at _) (at _) (at _) (at _) (at _) (at _) (at _) (at _)

@@ -84,7 +84,7 @@ mirror-cell Flip c = refl
 mirror-cell Diagonal c = refl
 mirror-cell AntiDiagonal c = λ i. cell_at (back c.y i) (neg_ℤ c.x)
 
--- two more quarter turns
+-- turning a cell by `a` and then by two quarter turns is turning it by the orientation two quarter turns after `a`
 twice : (a : Orientation) (c : Cell) → turned_cell Quarter (turned_cell Quarter (turned_cell a c)) ≡ turned_cell (quarter_after (quarter_after a)) c
 twice a c = ap (turned_cell Quarter) (quarter-cell a c) ∙ quarter-cell (quarter_after a) c
 

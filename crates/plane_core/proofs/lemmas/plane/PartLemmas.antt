@@ -257,7 +257,8 @@ far_patterns rule one other g o u far =
 
 -- ---- a run on a board
 
--- the pattern that a board shows after a run is the pattern that was laid on it, n generations later
+-- a run of n generations on a board is a run of the pattern that was laid on it, if this pattern is at least n cells
+-- from the edge of the plane
 pub ran_on_board : {E : Type 0} (ran : Result (Option (List Cell)) E) (laid rule : Numbers) (T S : List Cell) (n : ℕ) → laid ≡ rule → T ≡ S
     → lies_within (plane_bound - n) S ≡ true → IfOk ran (λ shown. IfSome shown (λ later. later ≡ after laid T n))
     → IfOk ran (λ shown. IfSome shown (HasRun rule S n))
@@ -267,7 +268,7 @@ ran_on_board (Err e) laid rule T S n p q inside h = tt
 
 -- ---- a stretch of generations
 
--- `later` is the pattern `count` generations later, at most `most`, and no earlier generation touches the edge
+-- `later` is the pattern after `count` generations (1 to `most`), and no earlier generation touches the edge
 pub record IsStretch (rule : Numbers) (cells : List Cell) (most count : ℕ) (later : List Cell) : Type 0 where
   pub some : 0 < count
   pub within : count ≤ most

@@ -110,7 +110,7 @@ or_assoc : (a b c : Bool) → ((a || b) || c) ≡ (a || (b || c))
 or_assoc true b c = refl
 or_assoc false b c = refl
 
--- the members of a list after c is inserted
+-- after c is inserted into a list, its members are c and those that it had before
 pub has-put : (c : Cell) (ds : List Cell) (x : Cell) → has (put c ds) x ≡ (same_cell x c || has ds x)
 has-put c [] x = refl
 has-put c (d ∷ ds) x = go (cell_cmp c d) refl (has-put c ds x)
@@ -166,7 +166,7 @@ has-append (c ∷ cs) ds x = ap (λ b. same_cell x c || b) (has-append cs ds x) 
 pub in_order-filter : (p : Cell → Bool) (cs : List Cell) → InOrder cs → InOrder (filter p cs)
 in_order-filter p cs o = IsStrictlySortedBy-filter cell_cmp p cs o
 
--- the members of a filtered list
+-- the members of a filtered list are the members of the list that pass the test
 pub has-filter : (p : Cell → Bool) (cs : List Cell) (x : Cell) → has (filter p cs) x ≡ (has cs x && p x)
 has-filter p [] x = refl
 has-filter p (c ∷ cs) x = go (p c) refl (has-filter p cs x)

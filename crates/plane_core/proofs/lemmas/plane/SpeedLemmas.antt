@@ -103,7 +103,7 @@ inside_edge (c ∷ cs) n low h =
     let parts = and_parts (is_within n c) (lies_within n cs) h in
     rw (off_edge c n low parts.0, inside_edge cs n low parts.1) refl
 
--- a run stays off the edge if the pattern starts far enough from it
+-- if a pattern is at least n cells from the edge of the plane, generations 0 to n - 1 don't touch the edge
 pub run_inside : (rule : Numbers) (S : List Cell) (reach g n : ℕ) → lies_within reach S ≡ true → reach + n ≤ plane_bound → g < n
     → touches_edge (after rule S g) ≡ false
 run_inside rule S reach g n h far low = inside_edge (after rule S g) (reach + g) (omega arith) (within-after rule S reach g h)

@@ -198,7 +198,7 @@ moved_to a left right n low high h = omega (arith, ints)
 moved_from : (right left : ℤ) (n : ℕ) → unsigned_abs (right +ℤ neg_ℤ left) ≤ n → unsigned_abs (right -ℤ left) ≤ n
 moved_from right left n h = omega (arith, ints)
 
--- cells moved to the corner are on the plane exactly if their box isn't larger than the bound
+-- cells moved to the corner are on the plane exactly if opposite sides of their box are at most `plane_bound` apart
 box_on_plane : (cs : List Cell) (b : Bounds) → IsLeastBox cs b
     → leb (max (unsigned_abs (b.right -ℤ b.left)) (unsigned_abs (b.bottom -ℤ b.top))) plane_bound
     ≡ list_all on_plane (shifted (neg_ℤ b.left) (neg_ℤ b.top) cs)

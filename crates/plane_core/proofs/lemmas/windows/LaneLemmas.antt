@@ -56,7 +56,8 @@ lane_adder a b c j i la lb lc low = (λ t. bit_at (ones t) i + 2 * bit_at (twos 
         (four_lanes bit_and (zip2 bit_xor a b) c (four_lanes bit_xor a b la lb) lc) low
         ∙ (λ t. bit_or (lane_of bit_and a b j la lb low t) (carry t))
 
--- in each lane, four words have the binary digits of the sum of a pair of digits and twice another pair
+-- in each lane, the four words on the left are the binary digits of a sum: the number with the binary digits a and b,
+-- plus twice the number with the binary digits c and d
 pub lane_joined : (a b c d : List ℕ) (j i : ℕ) → length b ≡ 4 → length c ≡ 4 → length d ≡ 4 → j < 4
     → bit_of a j i + 2 * bit_of (zip2 bit_xor b c) j i + 4 * bit_of (zip2 bit_xor d (zip2 bit_and b c)) j i
     + 8 * bit_of (zip2 bit_and d (zip2 bit_and b c)) j i
@@ -94,7 +95,7 @@ lane_choice test one other j i lt lo ln low =
 
 -- ---- two words joined into one
 
--- lane j of the union of two vectors, where `first` is shifted down by s and `second` is shifted up by 64 - s
+-- lane j of the union of `first` shifted down by s and `second` shifted up by 64 - s is the union of both shifted lanes
 pub joined_lane : (first second : List ℕ) (j s : ℕ) → length first ≡ 4 → length second ≡ 4 → j < 4
     → slice_index
     (zip2 bit_or (zip2 (λ (a b : ℕ). a / 2 ^ b) first (replicate 4 s))

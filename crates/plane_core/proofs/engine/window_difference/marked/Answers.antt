@@ -3,7 +3,7 @@ use Rattle.plane_core.specs.windows.LaneSums.{bit_of}
 use Rattle.plane_core.proofs.lemmas.engine.WindowDifferenceLemmas.{not_marked, one_bit}
 use Rattle.plane_core.proofs.engine.window_difference.marked.Goals as goal
 
--- the row marks of vector k: lane j has a 1 only at bit j * n + k, for that row of the window
+-- the row marks of vector k: lane j, which is row j * n + k of the window, has its only 1 at bit j * n + k
 marks : ℕ → ℕ → List ℕ
 marks n k = 1 * 2 ^ k % 2 ^ 64 ∷ 1 * 2 ^ (n + k) % 2 ^ 64 ∷ 1 * 2 ^ (2 * n + k) % 2 ^ 64 ∷ 1 * 2 ^ (3 * n + k) % 2 ^ 64 ∷ []
 

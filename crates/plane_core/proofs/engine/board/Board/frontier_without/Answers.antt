@@ -11,7 +11,7 @@ use Rattle.plane_core.proofs.lemmas.engine.DirectionLemmas.{AreWordColumnsSeen, 
 use Rattle.plane_core.proofs.lemmas.plane.OrderLemmas.{at_end}
 use Rattle.plane_core.proofs.engine.board.Board.frontier_without.Goals as goal
 
--- `LieInSpans` holds for equal words and spans
+-- `LieInSpans` still holds if the words and the spans are replaced by equal ones
 lie_in : (at : Frame) (ws words : List ℕ) (ss spans : List RowSpan) → ws ≡ words → ss ≡ spans → LieInSpans at spans (cells_on at words)
     → LieInSpans at ss (cells_on at ws)
 lie_in at ws words ss spans same alike live =

@@ -25,7 +25,7 @@ use Rattle.plane_core.proofs.lemmas.Between.{HasGoneOn}
 nothing : (n : ℕ) → 0 ≤ n
 nothing n = omega arith
 
--- `AreCovered` holds for equal lists
+-- `AreCovered` still holds if both lists are replaced by equal ones
 covered_by : (ps qs : List LeapWindow) (bs cs : List Bounds) → qs ≡ ps → bs ≡ cs → AreCovered ps bs → AreCovered qs cs
 covered_by ps qs bs cs windows boxes covered =
     subst (λ (xs : List LeapWindow). AreCovered xs cs) (sym windows) (subst (λ (xs : List Bounds). AreCovered ps xs) boxes covered)

@@ -29,7 +29,7 @@ centred-requires-clause-frame c = c.self.invariant.board.frame
 pub centred-requires-clause-plane : goal.centred-requires-clause-plane
 centred-requires-clause-plane c = c.self.invariant.plane
 
--- `IsSpannedBoard` holds for equal words and spans
+-- `IsSpannedBoard` still holds if the words and the spans are replaced by equal ones
 same_board : (at : Frame) (rule : Numbers) (ws vs : List ℕ) (bs : List Bounds) (ss ts : List RowSpan) → vs ≡ ws → ts ≡ ss
     → IsSpannedBoard at rule ws bs true ss → IsSpannedBoard at rule vs bs true ts
 same_board at rule ws vs bs ss ts words spans board =
