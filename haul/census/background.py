@@ -27,8 +27,8 @@ MOST_PRINTED, BYTES_OF_A_SOUP, MOST_COMPLAINED = 2**26, 4096, 2**20
 SECONDS_TO_END = 0.05
 # The progress line of `census take`.
 PROGRESS = re.compile(rb"([0-9]{1,8}) of [0-9]{1,8} soups")
-# How the report lines of `census take` begin, how many of them are kept, and the number of the soup
-# in one.
+# How the report lines of `census take` begin, how many of them are kept whenever there are more
+# than twice as many, and the pattern that finds the soup's number in one.
 REPORT_BEGINS = b"report "
 MOST_REPORTS = 100_000
 REPORT_OF = re.compile(rb"report [^\n]*? soup=([0-9]{1,13}) ")
@@ -94,7 +94,8 @@ class BackgroundProgram:
         return read
 
     def refuse_floods(self) -> None:
-        """Kills a program that has written too much, and discards what it wrote."""
+        """Kills a program that has written too much to a stream, and discards what it wrote
+        there."""
         for text, most, stream in (
             (self.printed, self.most_printed, "output"),
             (self.complained, self.most_complained, "error"),

@@ -113,7 +113,7 @@ class Children:
             self.running.remove(process)
 
     def heed(self, stopping: SignalHandler) -> None:
-        """Makes signals go to the work `stopping` from now on, which then ends by itself."""
+        """Passes signals to the work `stopping` from now on. It ends by itself after a signal."""
         self.stopping = stopping
 
     @contextmanager
@@ -152,8 +152,8 @@ def block_interrupts() -> Iterator[None]:
 
 def kill_apart(program: subprocess.Popen[bytes]) -> None:
     """Kills a program that `launcher.py` runs in a session of its own, and all processes that the
-    program has started. `program` is the launcher, which does this after SIGTERM, and is then
-    killed itself."""
+    program has started. `program` is the launcher. It is sent SIGTERM, after which it kills the
+    others, and is then killed itself."""
     if program.poll() is None:
         program.terminate()
         with suppress(subprocess.TimeoutExpired):

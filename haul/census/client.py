@@ -109,7 +109,7 @@ class Census:
         return reports
 
     def take(self, job: Job, ranges: list[Range], workers: int, out: IO[bytes]) -> None:
-        """Writes the haul of a set of soups, which must be small enough for one call, to a file.
+        """Writes the haul of a set of soups to a file. The set must be small enough for one call.
         The program's progress line is shown on a terminal."""
         words = list_take_arguments(job, ranges, workers, self.terminal.is_interactive())
         with start_child([self.path, *words], subprocess.PIPE, subprocess.PIPE) as program:

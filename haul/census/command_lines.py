@@ -12,8 +12,8 @@ from haul.patterns.rules import LIFE
 
 # The most soups that `census` takes in one call.
 NUMBERS_IN_A_CALL = 2**24
-# The most ranges in one call: on Linux an argument has at most 131,071 bytes, and a range takes up
-# to 31.
+# The most ranges in one call: on Linux an argument has at most 131,071 bytes, and a range takes at
+# most 23, with its comma.
 RANGES_IN_A_CALL = 2000
 # The most ranges in a command to copy. With more ranges, it would be too long to copy.
 RANGES_TO_COPY = 12

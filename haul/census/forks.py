@@ -36,7 +36,8 @@ class Fork:
 
 def work_apart(work: Callable[[], Result]) -> Result:
     """Does the work in a process of its own, and returns the result. Raises `OSError` if no process
-    can be started or if the process is killed, and `MemoryError` if it runs out of memory."""
+    can be started, or if the process fails or is killed, and `MemoryError` if it runs out of
+    memory."""
     reading, writing = os.pipe()
     try:
         fork = children.add(lambda: begin_worker(work, writing))

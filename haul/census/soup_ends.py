@@ -11,7 +11,7 @@ from haul.formats.haul import Job
 from haul.life.generations import Rule, read_rule
 from haul.life.parts import read_object
 
-# The number of soups in one call. Several calls run at a time.
+# The most soups in one call. Several calls run at a time.
 SOUPS_IN_A_CALL = 100
 
 
@@ -61,8 +61,8 @@ def read_end(rule: Rule, fields: list[str]) -> End | None:
 
 @cache
 def list_populations(rule: Rule, code: str) -> frozenset[int]:
-    """Returns the numbers of live cells that an object has in its phases, or nothing if they aren't
-    known."""
+    """Returns the numbers of live cells that an object has in its phases, or an empty set if they
+    aren't known."""
     known = read_kind(code)
     if is_large(code) and known is not None and known.letter == "s":
         return frozenset([known.number])

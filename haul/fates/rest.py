@@ -150,7 +150,7 @@ def are_independent(
     rule: Rule, clusters: list[set[int]], wanted: list[set[int]], most: int
 ) -> bool:
     """Checks whether each cluster recurs soon enough when it is run alone, and whether the clusters
-    together make up these phases."""
+    share no cell and together make up the phases `wanted`."""
     together: list[set[int]] = [set() for _ in wanted]
     for cluster in clusters:
         runs = list(run_alone(rule, cluster, max(len(wanted), most)))

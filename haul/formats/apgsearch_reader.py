@@ -13,7 +13,7 @@ from haul.patterns.rules import parse_rule
 
 # The first bytes of a haul of apgsearch. A haul of `census` has a number in this place.
 BEGINNING = b"@VERSION v"
-# A line with more bytes than this is refused.
+# A line with more bytes than this, counting its line feed, is refused.
 LINE_LIMIT = 2**20
 # The most bytes that a code, a seed or a name may have.
 WORD_LIMIT = 1000

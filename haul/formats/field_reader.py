@@ -68,8 +68,8 @@ class FieldReader:
         )
 
     def is_missing(self, back: int) -> int:
-        """Returns 1 if the field at this place is missing, otherwise 0. A missing field would begin
-        after a space that isn't there."""
+        """Returns 1 if the field `back` fields before the next one is missing, otherwise 0. A
+        missing field would begin after a space that isn't there."""
         return 1 if self.read - back >= len(self.fields) and self.fields else 0
 
     def field(self) -> bytes:

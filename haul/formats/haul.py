@@ -44,7 +44,7 @@ class Haul:
     for_good: int = 0
     # The number of objects of each code, in the order of the codes.
     totals: dict[str, int] = field(default_factory=dict)
-    # The lowest numbers of soups that left an object of the code, for the same codes as `totals`.
+    # For each code of `totals`, the lowest numbers of soups that left an object with the code.
     samples: dict[str, list[int]] = field(default_factory=dict)
     # The version of apgsearch, or `None` for a haul of `census`. A haul of apgsearch doesn't say
     # which soups it has, how many of them are unsettled, or how many settled for good.

@@ -12,7 +12,7 @@ from haul.formats.haul import Job
 from haul.formats.report_lines import LINE_LIMIT, BadLine, Report, read_report_line
 from haul.terminal import Terminal
 
-# The first line of a haul.
+# How the first line of a haul begins.
 HAUL = re.compile(rb"@VERSION ")
 # A line that begins with this is skipped. An example is the first line of FILE.late.
 COMMENT = b"#"

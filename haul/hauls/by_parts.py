@@ -20,7 +20,7 @@ from haul.terminal import Terminal
 
 # The progress line is updated after this many objects.
 OBJECTS_BETWEEN_PROGRESS = 500
-# If there are at least `MANY_OBJECTS` objects, child processes separate them, in shares of about
+# If there are at least `MANY_OBJECTS` objects, child processes separate them, in shares of at most
 # `OBJECTS_IN_A_SHARE` objects. With fewer objects, this wouldn't save time.
 MANY_OBJECTS, OBJECTS_IN_A_SHARE = 6000, 3000
 

@@ -33,7 +33,7 @@ def move_to_corner(cells: Cells) -> Cells:
 
 
 def fits_in(cells: Cells, side: int) -> bool:
-    """Checks whether the bounding box has at most `side` columns and rows."""
+    """Checks whether a pattern's bounding box has at most `side` columns and rows."""
     return all(max(line) - min(line) < side for line in zip(*cells, strict=True))
 
 

@@ -13,7 +13,7 @@ from haul.plurals import write_count
 
 # The size of a cell in pixels, for most objects and for objects with few cells.
 SCALE, LARGER_SCALE = 4, 12
-# Objects with fewer cells than this have few cells.
+# Objects with fewer cells than this are drawn in the larger size.
 FEW_CELLS = 10
 RUNS = re.compile("O+")
 

@@ -20,7 +20,7 @@ from haul.plurals import pluralize, write_count
 
 # The most soups in each list: the longest-lived soups, and the unsettled soups.
 MOST_SHOWN = 20
-# The chart of lifespans: its approximate number of bars, and its size.
+# The chart of lifespans: about how many bars it has at most, and its size.
 BARS, WIDTH, HEIGHT = 24, 640, 100
 TIDY_STEPS = (100, 200, 500, 1000, 2000, 5000, 10_000)
 KINDS = {

@@ -227,7 +227,8 @@ def has_missing_soups(haul: Haul) -> bool:
 
 
 def write_unsettled(side: Side, is_compared: bool) -> str:
-    """Returns a sentence with the command that lists the unsettled soups of a haul."""
+    """Returns the command that lists the unsettled soups of a haul, with a sentence about it, or
+    an empty text if no soup is unsettled."""
     haul = side.haul
     if not haul.unsettled:
         return ""

@@ -13,7 +13,8 @@ class BadPlaintext(Exception):
 
 
 def is_plaintext(text: bytes) -> bool:
-    """Checks whether the first line that isn't empty is plaintext rather than RLE."""
+    """Checks whether the first line that isn't empty is plaintext rather than RLE. A text without
+    such a line is plaintext, too."""
     return text.lstrip(b"\r\n")[:1] in (b"", b"!", b".", b"O", b"*")
 
 

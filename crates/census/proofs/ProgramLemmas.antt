@@ -69,7 +69,7 @@ nothing_more (Some xs) None after first second = absurd first
 nothing_more (Some xs) (Some ys) None first second = absurd second
 nothing_more (Some xs) (Some ys) (Some zs) first second = second ∙ append-nil ys ∙ first
 
--- ---- how a command ended that printed
+-- ---- the end of a command that printed
 
 -- no complaint has the status of a command that printed
 unprinted : (complaint : Complaint) → has_printed (status_of complaint) ≡ false

@@ -30,7 +30,7 @@ pub character_value-character : (v : ℕ) → v ≤ 35 → character_value (char
 unfolding character character_value
 character_value-character v h = grind (arith, nat_tests)
 
--- the token of one character, and the token of `y` (121) and a character: how they are spelled, and why they are lawful
+-- the token of one character, and the token of `y` (121) and a character: their spellings, and that they are lawful
 pub spelling-single : (b : ℕ) → is_character b ≡ true → (b == 121) ≡ false → spelling (single b) ≡ b ∷ []
 unfolding single gap_text
 spelling-single b h many = go (b == 48) refl (b == 119) refl (b == 120) refl (b == 122) refl

@@ -1,7 +1,6 @@
 -- How a haul is finished depends only on its terms and on what it has taken.
-use Rattle.std.proofs.Common.{◌≡◌, ℕ, Ok, Err, length, sym, subst}
+use Rattle.std.proofs.Common.{◌≡◌, Ok, Err}
 use Rattle.haul_core.specs.Books.{Held}
-use Rattle.haul_core.specs.Missing.{missing_of}
 use Rattle.pattern_commands.specs.declared.ending.complaint.Complaint.TheVariants.{Refused, Memory, ReadFailed, TooLong, WriteFailed}
 use Rattle.pattern_commands.specs.Reached.{Outcome}
 use Rattle.pattern_commands.specs.Streams.{Stream}

@@ -1,5 +1,5 @@
 -- Lemmas about `PutsReports` for a single report.
-use Rattle.std.proofs.Common.{◌≡◌, ◌∙◌, ◌∷◌, ◌++◌, ℕ, All, Bool, List, [], Ok, Err, Option, Result, ap, append-nil, false, refl, subst, sym, true, true≢false}
+use Rattle.std.proofs.Common.{◌≡◌, ◌∙◌, ◌∷◌, ℕ, All, Bool, List, [], Ok, Err, Option, Result, ap, append-nil, false, refl, subst, sym, true, true≢false}
 use Rattle.std.specs.Prelude.{if◌then◌else◌}
 use Rattle.std.specs.Io.KnownBytes.{Appends}
 use Rattle.std.proofs.KnownBytes.{Appends-nil}

@@ -34,14 +34,14 @@ pub(crate) fn finish<W: Write>(haul: &mut Haul, output: &mut Out<W>) -> Result<u
 {
     let missing = haul.missing_count();
     let _ = haul.close();
-    match print_haul(haul, output) {
+    match put_haul_text(haul, output) {
         Ok(()) => Ok(missing),
         Err(complaint) => Err(complaint),
     }
 }
 
 /// Writes the haul text of a haul.
-fn print_haul<W: Write>(haul: &Haul, output: &mut Out<W>) -> Result<(), Complaint>
+fn put_haul_text<W: Write>(haul: &Haul, output: &mut Out<W>) -> Result<(), Complaint>
     requires { output.old.failed ≡ false }
     ensures prints { (missing : ℕ) → missing ≡ length (missing_of haul.now.terms.ranges haul.now.taken)
         → Finishes haul.now (result_map_both (λ _. missing) (λ complaint. complaint) result)

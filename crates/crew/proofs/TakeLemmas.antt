@@ -352,7 +352,7 @@ module _ {may_stop lets : ℕ → ℕ → Type 0} (shared : Shared) (workers : �
         in_order = of.rises;
       })
 
-  -- if no number is drawn twice, no soup is reported twice
+  -- if no place is drawn twice, no soup is reported twice
   crew_once : ((t : ℕ) → count_by (nat_eq t) (drawn_by_all new.back.passes.items) ≤ 1) → (n : ℕ)
       → times_reported n (reports_in ran.collected.notes) ≤ 1
   crew_once drawn n =

@@ -23,7 +23,7 @@ all_later n (r ∷ more) later =
     ap (λ (b : Bool). b || is_in more n) (before n r (later 0 r (omega arith)))
     ∙ all_later n more (λ k d low. later (suc k) d (omega arith))
 
--- if the first of ranges in normal form begins after a place, each of them does
+-- if the first range of a list in normal form begins after a place, all its ranges do
 each_after : (place : ℕ) (rs : List Range) → AreNormal rs → BeginAfter place rs → (k : ℕ) (d : Range) → k < length rs → place < (get_or rs k d).first
 each_after place [] normal starts k d low = absurd (omega arith)
 each_after place (r ∷ more) normal starts zero d low = starts

@@ -49,7 +49,8 @@ cut_zero d e x y p q z s =
     let whole : 48 ∷ x ≡ 48 ∷ y = sym (ap (λ (t : List ℕ). t ++ x) f) ∙ s ∙ ap (λ (t : List ℕ). t ++ y) g in
     (f ∙ sym g, cc)
 
--- if a text begins with the decimals d and e, and neither continues in its remainder, d and e are equal
+-- if a text begins with the decimals d and e, and neither continues in its remainder, d and e are equal, and so are
+-- the remainders
 pub cut : (d e x y : List ℕ) → IsDecimal d → IsDecimal e → Ends d x → Ends e y → d ++ x ≡ e ++ y → (d ≡ e) × (x ≡ y)
 cut d e x y p q h k s = go (has_digit x) (has_digit y) refl refl
   where
@@ -67,7 +68,8 @@ IsWritten-written r f c = (IsDecimal-decimal r.first f, IsDecimal-decimal r.coun
 pair-append : (w : Written) (x : List ℕ) → pair_text w ++ x ≡ w.first ++ 43 ∷ (w.count ++ x)
 pair-append w x = append_assoc w.first (43 ∷ w.count) x
 
--- if a text begins with the ranges w and v, and neither count continues in its remainder, w and v are equal
+-- if a text begins with the ranges w and v, and neither count continues in its remainder, w and v are equal, and so
+-- are the remainders
 pub cut_pair : (w v : Written) (x y : List ℕ) → IsWritten w → IsWritten v → Ends w.count x → Ends v.count y → pair_text w ++ x ≡ pair_text v ++ y
     → (w ≡ v) × (x ≡ y)
 cut_pair w v x y p q h k s =

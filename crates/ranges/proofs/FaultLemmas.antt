@@ -50,7 +50,7 @@ IsOfU64 w = (r : Range) × (FitsU64 r × (w ≡ written r))
 abbrev AreWritten : List Written → Type 0
 AreWritten ws = AllByRecursion IsWritten ws
 
--- `more` are the last ranges of the list `qs`, whose text is x: those after the ranges that have been passed
+-- `more` are the ranges of the list `qs` after those that have been passed, and x is the text of `more`
 record Walked (qs : List Written) (x : List ℕ) : Type 0 where
   more : List Written
   each : AreWritten more
@@ -137,7 +137,8 @@ has_byte-prefix : (c : ℕ) (x y : List ℕ) → c ∷ y ≡ x → has_byte c x
 has_byte-prefix c [] y h = absurd (cc)
 has_byte-prefix c (b ∷ x) y h = cc
 
--- if `there` doesn't begin with a `+` (43), no range continues like it after its first number
+-- if `there` doesn't begin with a `+` (43), and the decimal of n doesn't continue in it, no range continues like it
+-- after the first number n
 pub refused_plus : (n : ℕ) (there : List ℕ) → n < 2 ^ 64 → (has_digit there ≡ true → n ≡ 0) → ¬ has_byte 43 there → RefusedRange (decimal n) there
 refused_plus n there fits ends other = λ w ws each x same s.
     other (same_byte 43 there x same (has_byte-prefix 43 x (w.count ++ tail ws) (cut_first w ws n x each fits (ends_alike n there x ends same) s)))
@@ -156,7 +157,8 @@ tail-byte : (ws : List Written) (x : List ℕ) → x ≢ [] → tail ws ≡ x �
 tail-byte [] x some h = absurd (some (sym h))
 tail-byte (w ∷ ws) x some h = has_byte-prefix 44 x (joined (w ∷ ws)) h
 
--- if `there` isn't empty and doesn't begin with a `,` (44), no list continues like it after a range
+-- if `there` isn't empty and doesn't begin with a `,` (44), and the count of r doesn't continue in it, no list
+-- continues like it after the range r
 pub refused_comma : (r : Range) (there : List ℕ) → FitsU64 r → (has_digit there ≡ true → r.count ≡ 0) → there ≢ [] → ¬ has_byte 44 there
     → RefusedRange (pair_text (written r)) there
 refused_comma r there fits ends some other = λ w ws each x same s.

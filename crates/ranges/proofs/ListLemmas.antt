@@ -13,7 +13,7 @@ use Rattle.ranges.proofs.FaultLemmas.{Apart, FitsU64, Refused, bad, large_at, li
 use Rattle.ranges.proofs.FaultLemmas.{refused_count}
 use Rattle.ranges.proofs.FaultLemmas.{refused_first, refused_large, refused_large_count, refused_plus, written-all}
 
--- the text of a list to which the range r was added at the end, and of the parts of such a list
+-- the texts of a list with the range r at its end: as a tail, joined, as a whole, and with a comma after each range
 tail-push : (rs : List Range) (r : Range) → tail (map written (rs ++ r ∷ [])) ≡ 44 ∷ joined (map written (rs ++ r ∷ []))
 tail-push [] r = refl
 tail-push (a ∷ rs) r = refl

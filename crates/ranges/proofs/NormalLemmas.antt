@@ -60,7 +60,8 @@ no_sooner r s rs ss h k e same = go (cases_lt (end_of r) (end_of s))
         let both = same (end_of r) in
         absurd (cc)
 
--- if ranges in normal form give equal sets and have the same first range, their other ranges give equal sets
+-- if two lists in normal form begin with the same range and agree on whether they have n, their other ranges agree on
+-- this, too
 same_remainder : (r : Range) (rs ss : List Range) (n : ℕ) → AreNormal (r ∷ rs) → AreNormal (r ∷ ss) → is_in (r ∷ rs) n ≡ is_in (r ∷ ss) n → is_in rs n ≡ is_in ss n
 same_remainder r rs ss n h k same = go (is_in rs n) (is_in ss n) (is_in_range n r) refl refl refl
   where

@@ -287,7 +287,8 @@ pub start_from : (all : List Range) (a : Range) (remainder : List Range) → all
 start_from all a remainder e asc below =
     subst (λ (xs : List Range). Joining xs [] a remainder) (sym e) (joining_start a remainder (subst Ascending e asc) (subst (AreBelow number_bound) e below))
 
--- after the loop, the joined ranges are the normal form of all ranges, with the same number of numbers
+-- after the loop, the joined ranges are the normal form of all ranges, have as many numbers as these, and lie below
+-- `number_bound`
 pub all_joined : (all done joined more : List Range) (latest : Range) (i : ℕ) → length more ≤ i → Joining all done latest (drop i more)
     → joined ≡ done ++ latest ∷ [] → IsNormalForm all joined × (size_of joined ≡ size_of all) × AreBelow number_bound joined
 all_joined all done joined more latest i past j is =

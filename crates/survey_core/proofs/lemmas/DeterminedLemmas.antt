@@ -27,7 +27,7 @@ use Rattle.survey_core.proofs.lemmas.rest.RestLemmas.{cluster_some}
 
 -- ---- objects
 
--- a list of clusters has only one list of codes
+-- a list of nonempty clusters has only one list of codes
 one_list_of_codes : (rule : Numbers) (limit : ℕ) (clusters : List (List Cell)) (one other : List (List ℕ)) → All (λ cluster. cluster ≢ []) clusters
     → AllZip (λ cluster code. IsCode rule cluster limit code) clusters one → AllZip (λ cluster code. IsCode rule cluster limit code) clusters other
     → one ≡ other
@@ -77,8 +77,8 @@ pub count-head : (object : List ℕ × ℕ) (objects : List (List ℕ × ℕ)) �
 count-head object objects =
     ap (λ (b : Bool). unwrap_or (cond b (Some object.1) (lookup (is_code object.0) objects)) 0) (ap is_eq (tied_itself nat_list_cmp_total object.0))
 
--- if a sorted list counts the first code of another list as often as that list does, this code doesn't come before the
--- first code of the sorted list
+-- if the list x ∷ xs and the sorted list y ∷ ys count the code of x equally often, and the count in x is at least 1,
+-- this code doesn't come before the code of y
 not_before : (x y : List ℕ × ℕ) (xs ys : List (List ℕ × ℕ)) → 1 ≤ x.1 → IsStrictlySortedBy (slice_cmp nat_cmp) (keys_of (y ∷ ys))
     → count_of (x ∷ xs) x.0 ≡ count_of (y ∷ ys) x.0 → code_cmp x.0 y.0 ≢ Less
 not_before x y xs ys some order same less =
@@ -86,7 +86,7 @@ not_before x y xs ys some order same less =
     let one : x.1 ≡ 0 = sym (count-head x xs) ∙ same ∙ none in
     absurd (omega arith)
 
--- sorted lists of objects with the same counts are equal
+-- sorted lists of objects with the same counts, none of which is 0, are equal
 one_list : (one other : List (List ℕ × ℕ)) → IsStrictlySortedBy (slice_cmp nat_cmp) (keys_of one) → IsStrictlySortedBy (slice_cmp nat_cmp) (keys_of other)
     → All (λ object. 1 ≤ object.1) one → All (λ object. 1 ≤ object.1) other
     → ((code : List ℕ) → count_of one code ≡ count_of other code) → one ≡ other

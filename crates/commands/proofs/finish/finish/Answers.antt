@@ -2,8 +2,8 @@ use Rattle.std.proofs.Common.{Err, Ok}
 use Rattle.commands.proofs.FinishLemmas.{finishes_alike}
 use Rattle.commands.proofs.finish.finish.Goals as goal
 
-pub print_haul-requires : goal.print_haul-requires
-print_haul-requires g c = c.requires
+pub put_haul_text-requires : goal.put_haul_text-requires
+put_haul_text-requires g c = c.requires
 
 pub returns-in-Err-clause-finishes : goal.returns-in-Err-clause-finishes
 returns-in-Err-clause-finishes g c =

@@ -8,7 +8,7 @@ use Rattle.plane_core.proofs.lemmas.plane.CaseLemmas.{same_or_not}
 
 -- ---- transposing four vectors
 
--- the vector of lane i of a, b, c and d, if these have four lanes each
+-- the vector that has lane i of each of a, b, c and d, if these have four lanes each
 abbrev pub lanes_of : List ℕ → List ℕ → List ℕ → List ℕ → ℕ → List ℕ
 lanes_of a b c d i = get_or (a ++ b) i 0 ∷ get_or (a ++ b) (4 + i) 0 ∷ get_or (c ++ d) i 0 ∷ get_or (c ++ d) (4 + i) 0 ∷ []
 
@@ -74,7 +74,7 @@ unpacked_more n window rows more vector k small is same at others j m low less =
         ap (λ (q : ℕ). slice_index more (j * n + q)) e ∙ at j low ∙ ap (λ (v : List ℕ). slice_index v j) same ∙ ap (λ (q : ℕ). lane_at window q j) (sym e)
     split (inr apart) = others j m low (omega arith) apart ∙ is j m low (omega arith)
 
--- unpacking vectors k to k + 3, and leaving the rows of the vectors before unchanged, unpacks the first k + 4 vectors
+-- unpacking vectors k to k + 3, and leaving the rows of vectors before k unchanged, unpacks the first k + 4 vectors
 pub unpacked_four : (n k : ℕ) (window : List (List ℕ)) (rows more : List ℕ) → AreUnpacked n window rows k
     → ((i j : ℕ) → i < 4 → j < 4 → slice_index more (j * n + (k + i)) ≡ lane_at window (k + i) j)
     → ((m j : ℕ) → m < k → j < 4 → slice_index more (j * n + m) ≡ slice_index rows (j * n + m)) → AreUnpacked n window more (k + 4)

@@ -18,7 +18,7 @@ use Rattle.plane_core.proofs.lemmas.windows.WordLemmas.{life_digits, one_of_four
 use lib.Lanes.{zip2}
 use Rattle.plane_core.proofs.lemmas.Between.{AnswersNeighbours, AnswersTotal}
 
--- the sums of three rows, which have two binary digits each, add up to nine at most
+-- three sums of rows, each with two binary digits, add up to nine at most
 pub sums_small : (up here down : Sum) (j i : ℕ) → sum_of up j i + sum_of here j i + sum_of down j i ≤ 9
 sums_small up here down j i = omega (arith, small up, small here, small down)
   where
@@ -60,7 +60,7 @@ lane_answer rule n dead change now j i long low d e =
         ∙ (λ t. bit_xor (get_or-replicate 4 j dead 0 low t)
         ((lane_of bit_and (replicate 4 change) now j refl long low ∙ ap (λ (w : ℕ). bit_and w (slice_index now j)) (get_or-replicate 4 j change 0 low)) t))
 
--- in each lane, the formula is 1 at the bits where exactly one of a, b, c and d is 1
+-- in each lane, a bit of the formula is 1 if exactly one of a, b, c and d has a 1 there, otherwise 0
 pub lane_only_one : (a b c d : List ℕ) (j i : ℕ) → length a ≡ 4 → length b ≡ 4 → length c ≡ 4 → length d ≡ 4 → j < 4
     → bit_of (zip2 bit_xor (zip2 bit_xor (zip2 bit_xor a b) (zip2 bit_xor c d))
     (zip2 bit_and (zip2 bit_xor (zip2 bit_xor a b) (zip2 bit_xor c d)) (zip2 bit_or (zip2 bit_and a b) (zip2 bit_and c d)))) j i
@@ -107,8 +107,8 @@ lane_only_one a b c d j i la lb lc ld low =
         (max (min (bit_of a j i) (bit_of b j i)) (min (bit_of c j i) (bit_of d j i)))
     both = together odds twos odds_long twos_long ∙ (λ t. min (odd t) (two t))
 
--- `one` and (`low.ones` or `now`) is Life's answer, in each lane, if `low` is the sum of the ones digits, and the bits
--- of `one` are 1 exactly if one of the four twos digits is 1
+-- `one` and (`low.ones` or `now`) is Life's answer, in each lane, if `low` is the sum of the three ones digits, and a
+-- bit of `one` is 1 if exactly one of the four twos digits is 1, otherwise 0
 pub lane_life : (up beside down low : Sum) (one now : List ℕ) (j i : ℕ) → length one ≡ 4 → length low.ones ≡ 4 → length now ≡ 4 → j < 4
     → sum_of low j i ≡ bit_of up.ones j i + bit_of down.ones j i + bit_of beside.ones j i
     → bit_of one j i ≡ one_if (bit_of up.twos j i + bit_of down.twos j i + bit_of beside.twos j i + bit_of low.twos j i == 1)

@@ -15,7 +15,7 @@ bit_right w s i =
     let sum : 2 ^ s * 2 ^ i ≡ 2 ^ (i + s) = sym (pow-add 2 s i) ∙ ap (λ (n : ℕ). 2 ^ n) turned in
     ap (λ (n : ℕ). n % 2) (div-div-eq-div-mul w (2 ^ s) (2 ^ i) ∙ ap (λ (n : ℕ). w / n) sum)
 
--- the 64 low bits of a number stay the same if it is taken modulo 2 ^ 64
+-- taking a number modulo 2 ^ 64 leaves its 64 low bits unchanged
 bit_kept : (n i : ℕ) → i < 64 → bit_at (n % 2 ^ 64) i ≡ bit_at n i
 bit_kept n i low =
     let whole : n / 2 ^ 64 * 2 ^ 64 + n % 2 ^ 64 ≡ n = omega arith in

@@ -35,7 +35,8 @@ lane_end n (suc (suc zero)) low = omega arith
 lane_end n (suc (suc (suc zero))) low = omega arith
 lane_end n (suc (suc (suc (suc j)))) low = absurd (omega arith)
 
--- the row above is in the previous vector, and the row below is in the next vector, in the same lane
+-- the row above a row is in the previous vector, in the same lane, unless the row is in the first vector; the row below
+-- it is in the next vector, in the same lane, unless the row is in the last vector
 above_more : (n : ℕ) (x : List (List ℕ)) (j k : ℕ) → row_above n x (j * n + (k + 1)) ≡ row_at n x (j * n + k)
 above_more n x j k = let at : j * n + (k + 1) ≡ suc (j * n + k) = omega arith in ap (row_above n x) at
 
@@ -219,7 +220,7 @@ bit_if S word i e c same shown =
     one (suc (suc n)) low = absurd (omega arith)
 
 -- the sum at column i of row r is the number of live cells among the cell there and its left and right neighbours, if
--- the cell is more than `depth` cells inside
+-- these three cells are at least `depth` cells inside
 row_shown : (S : List Cell) (n : ℕ) (left top : ℤ) (depth : ℕ) (x : List (List ℕ)) → InOrder S → IsShownInside n left top depth x S → (e : Cell) (r i : ℕ)
     → depth ≤ r → r + depth < 4 * n → depth + 1 ≤ i → i + depth + 1 < 64 → e ≡ in_window left top i r
     → row_total S e ≡ row_sum (row_at n x r) i
@@ -254,8 +255,8 @@ row_shown S n left top depth x o shown e r (suc i) h1 h2 h3 h4 is =
         (ap (moved_by (pos 1) (pos 0)) is ∙ same_cell_at _ _ _ _ (omega (arith, ints)) (omega (arith, ints)))
         (shown r (suc i + 1) h1 h2 (omega arith) (omega arith))
 
--- the sums of three rows add up to the live cells around a cell, plus one if the cell is alive, if it is more than
--- `depth` cells inside
+-- if a cell is more than `depth` cells inside, the sums of the three rows at its column add up to the number of live
+-- cells around it, plus 1 if it is alive
 block_shown : (S : List Cell) (n : ℕ) (left top : ℤ) (depth : ℕ) (x : List (List ℕ)) → InOrder S → IsShownInside n left top depth x S → (r i : ℕ)
     → depth + 1 ≤ r → r + depth + 1 < 4 * n → depth + 1 ≤ i → i + depth + 1 < 64
     → row_sum (row_above n x r) i + row_sum (row_at n x r) i + row_sum (row_below n x r) i
@@ -272,7 +273,8 @@ block_shown S n left top depth x o shown (suc r) i h1 h2 h3 h4 =
     ap (λ (w : ℕ). row_sum w i) (below_inner n x (suc r) (omega arith)) in
     omega (arith, neighbourhood_total-around S c, times_once S c o, above, here, below, under)
 
--- the next window shows the next generation, one cell further inside
+-- if a window shows a pattern from `depth` cells inside on, the next window shows the next generation from `depth` + 1
+-- cells inside on
 pub shown_next : (rule : Numbers) (S : List Cell) (n : ℕ) (left top : ℤ) (depth : ℕ) (x y : List (List ℕ)) → InOrder S → IsShownInside n left top depth x S
     → IsNextWindow rule n x y → IsShownInside n left top (depth + 1) y (next rule S)
 shown_next rule S n left top depth x y o shown step r i h1 h2 h3 h4 =

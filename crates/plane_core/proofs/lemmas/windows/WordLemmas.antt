@@ -102,7 +102,7 @@ by_digit g n k zero low = ap g (omega arith)
 by_digit g n k (suc zero) low = ap g (omega arith)
 by_digit g n k (suc (suc d)) low = absurd (omega arith)
 
--- for a sum of nine at most, choosing by its digit eight gives g of the sum: if d is 1, then b and c are 0
+-- for a sum of nine at most, choosing by its eights digit d gives g of the sum: if d is 1, then b and c are 0
 pub by_eights : (g : ℕ → ℕ) (a b c d : ℕ) → a < 2 → b < 2 → c < 2 → d < 2 → a + 2 * b + 4 * c + 8 * d ≤ 9
     → cond (d == 1) (g (8 + a)) (g (a + 2 * b + 4 * c)) ≡ g (a + 2 * b + 4 * c + 8 * d)
 by_eights g a b c zero p q r s t = ap g (omega arith)
@@ -131,7 +131,7 @@ by_nine g a b c d high x y low r ha hb hc hd small p q s e f =
 
 -- ---- Life
 
--- the formula is 1 exactly if one of the four bits a, b, c and d is 1
+-- the formula is 1 if exactly one of the four bits a, b, c and d is 1, otherwise 0
 pub one_of_four : (a b c d : ℕ) → a < 2 → b < 2 → c < 2 → d < 2
     → (((a + b) % 2 + (c + d) % 2) % 2 + min (((a + b) % 2 + (c + d) % 2) % 2) (max (min a b) (min c d))) % 2 ≡ one_if (a + b + c + d == 1)
 one_of_four (suc (suc a)) b c d p q r s = absurd (omega arith)
@@ -155,7 +155,7 @@ one_of_four (suc zero) (suc zero) zero (suc zero) p q r s = refl
 one_of_four (suc zero) (suc zero) (suc zero) zero p q r s = refl
 one_of_four (suc zero) (suc zero) (suc zero) (suc zero) p q r s = refl
 
--- Life by the sum of the eight neighbours: a cell is alive next if the sum is 3, or 2 and the cell is alive
+-- Life with a + 2 * s live neighbours: a cell is alive next if this number is 3, or if it is 2 and the cell is alive
 pub life_digits : (a s t : ℕ) → a < 2 → s < 5 → t < 2 → min (one_if (s == 1)) (max a t) ≡ one_if (lives_by life (a + 2 * s + t) (t == 1))
 life_digits (suc (suc a)) s t p q r = absurd (omega arith)
 life_digits a (suc (suc (suc (suc (suc s))))) t p q r = absurd (omega arith)

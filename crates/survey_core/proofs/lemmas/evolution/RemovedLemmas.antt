@@ -115,7 +115,8 @@ all_off_later rule t k board spaceships off = record {
 
 -- ---- removing one more spaceship
 
--- removing a spaceship that is ahead of the rest of the board doesn't change the whole in any later generation
+-- under a slow rule, removing a spaceship that is ahead of the rest of the board doesn't change the whole in any later
+-- generation
 pub same_whole : (rule : Numbers) (t g : ℕ) (board : List Cell) (spaceships : List Spaceship) (spaceship : Spaceship) → InOrder board → is_slow rule ≡ true
     → spaceship.since ≡ t
     → IsForemost rule board spaceship.recurrence spaceship.cells
@@ -128,7 +129,7 @@ same_whole rule t g board spaceships spaceship order slow now is =
     age : (t since : ℕ) → since ≡ t → g ≡ (t + g) - since
     age t since e = omega arith
 
--- removing a spaceship that is ahead of the rest of the board doesn't change the whole now
+-- under a slow rule, removing a spaceship that is ahead of the rest of the board doesn't change the whole now
 pub same_whole_now : (rule : Numbers) (t : ℕ) (board : List Cell) (spaceships : List Spaceship) (spaceship : Spaceship) → InOrder board → is_slow rule ≡ true
     → spaceship.since ≡ t → IsForemost rule board spaceship.recurrence spaceship.cells
     → whole_at rule t board spaceships ≡ whole_at rule t (without board spaceship.cells) (spaceships ++ spaceship ∷ [])
@@ -136,7 +137,8 @@ same_whole_now rule t board spaceships spaceship order slow now is =
     (λ i. whole_at rule (sym (add-zero t) i) (sym (after-none rule board) i) spaceships) ∙ same_whole rule t 0 board spaceships spaceship order slow now is
     ∙ (λ i. whole_at rule (add-zero t i) (after-none rule (without board spaceship.cells) i) (spaceships ++ spaceship ∷ []))
 
--- once a spaceship that is ahead of the rest of the board is removed, it is off the board, like those removed before
+-- under a slow rule, a spaceship that is ahead of the rest of the board is off the board once it is removed, like those
+-- removed before
 pub all_off_more : (rule : Numbers) (t : ℕ) (board : List Cell) (spaceships : List Spaceship) (spaceship : Spaceship) → is_slow rule ≡ true → spaceship.since ≡ t
     → IsForemost rule board spaceship.recurrence spaceship.cells → AreOff rule t board spaceships → AreOff rule t (without board spaceship.cells) (spaceships ++ spaceship ∷ [])
 all_off_more rule t board spaceships spaceship slow now is off = record {

@@ -34,13 +34,13 @@ use Rattle.survey_core.proofs.lemmas.evolution.RemovedLemmas.{all_off_later, all
 
 -- ---- the numbers of a spaceship
 
--- a spaceship lies on the plane up to an age of `latest_time` + 10001
+-- a spaceship that begins near the origin lies on the plane up to an age of `latest_time` + 10001
 pub spaceship_on_plane : (rule : Numbers) (cells : List Cell) (age : ℕ) → lies_within survey_reach cells ≡ true → age ≤ latest_time + 10001
     → list_all on_plane (after rule cells age) ≡ true
 unfolding on_plane
 spaceship_on_plane rule cells age near early = within_later survey_reach plane_bound rule cells age (omega arith) near
 
--- a spaceship that recurs within 64 generations has small numbers
+-- a spaceship near the origin that recurs within 64 generations has small numbers
 pub small_by_envelope : (rule : Numbers) (limit : ℕ) (spaceship : Spaceship) (cells : List Cell) (envelope : EnvelopeBounds) → limit ≤ 64 → (cells ≡ [] → ⊥)
     → lies_within survey_reach cells ≡ true → spaceship.cells ≡ cells → spaceship.recurrence ≡ envelope.recurrence → IsEnvelope rule limit cells envelope
     → HasSmallNumbers spaceship
@@ -140,7 +140,8 @@ split_later rule r t n most board b spaceships is even all same at early =
     off : AreOff rule (t + n) (after rule board n) spaceships
     off = subst (λ (k : ℕ). AreOff rule (t + k) (after rule board k) spaceships) twice (all_off_later rule t (n / 2) board spaceships is.off)
 
--- removing a spaceship that is ahead of the rest of the board from a split pattern gives a split pattern
+-- under a slow rule, a split pattern remains one if a spaceship that has small numbers and is ahead of the rest of the
+-- board is removed
 pub split_more : (rule : Numbers) (t : ℕ) (board b : List Cell) (spaceships s : List Spaceship) (spaceship : Spaceship) → IsSplitAt rule t board spaceships
     → is_slow rule ≡ true
     → spaceship.since ≡ t → IsForemost rule board spaceship.recurrence spaceship.cells → HasSmallNumbers spaceship → b ≡ without board spaceship.cells → s ≡ spaceships ++ spaceship ∷ []
@@ -162,7 +163,7 @@ whole_gone_on rule t n board b whole spaceships is all at =
 
 -- ---- advancing a split pattern
 
--- the board evolves under the rule
+-- the board of a split pattern has the rule of the pattern, so it evolves under this rule
 pub board_later : (rule : Numbers) (split : SplitPattern) (n : ℕ) (b : List Cell) → IsSplit rule split → b ≡ after split.board.rule split.board.cells n
     → b ≡ after rule split.board.cells n
 board_later rule split n b is at = at ∙ ap (λ (r : Numbers). after r split.board.cells n) is.0

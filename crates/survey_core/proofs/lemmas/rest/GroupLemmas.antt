@@ -387,7 +387,7 @@ module _ (rule : Numbers) (cells : List Cell) (groups : List ℕ) (parts : List 
         (λ h below. keeps_adds rule cells parts h (whole h below)) g low)
         (members_pairs (LaterOff rule g) k groups parts (keeps_off rule cells parts g (whole g low)))
 
--- one part, or none, keeps apart
+-- fewer than two parts keep apart
 pub alone_keeps : (rule : Numbers) (parts : List (List Cell)) (g : ℕ) → length parts < 2 → All InOrder parts → KeepApart rule (union_of parts) parts g
 alone_keeps rule [] g low order =
     keeps_from rule (union_of []) [] g (λ c. ap (λ (S : List Cell). has S c) (after-empty rule g)) (λ i j d lt there. absurd (omega arith))
@@ -414,7 +414,7 @@ below_more P n before here k low = elim (eq-or-lt_of_le (below k n low)) [
     below : (k n : ℕ) → k < n + 1 → k ≤ n
     below k n low = omega arith
 
--- the parts of a group share no cell
+-- if no two parts share a cell, no two parts of a group do
 pub members_off : (k : ℕ) (gs : List ℕ) (parts : List (List Cell)) → ShareNoCell parts → ShareNoCell (members k gs parts)
 members_off k gs parts off = members_pairs (λ a b. (c : Cell) → has a c ≡ true → has b c ≡ false) k gs parts off
 
@@ -422,7 +422,7 @@ members_off k gs parts off = members_pairs (λ a b. (c : Cell) → has a c ≡ t
 pub union_partition : (parts : List (List Cell)) → ShareNoCell parts → Partition (union_of parts) parts
 union_partition parts off = record { disjoint = off; union = λ c. sym (union_has parts c) }
 
--- ---- the group's parts among one more part
+-- ---- the group's parts among the first i + 1 parts
 
 pub members-append : (k : ℕ) (gs : List ℕ) (parts : List (List Cell)) (g : ℕ) (part : List Cell) → length gs ≡ length parts
     → members k (gs ++ g ∷ []) (parts ++ part ∷ []) ≡ members k gs parts ++ cond (g == k) (part ∷ []) []

@@ -75,7 +75,8 @@ latest_near rule g clusters list is low near =
     (All-map (λ (a : Alone). lies_within 999999 a.latest ≡ true) (alone_at rule g) clusters
     (λ k d there. within_later survey_reach 999999 rule (get_or clusters k d) g (omega arith) (near k d there)))
 
--- adding part i, which is in group k, as a cluster that is run for 0 generations
+-- if part i is in group k, adding it as a cluster that is run for 0 generations gives the list for the group's parts
+-- among the first i + 1 parts
 pub start_more : (rule : Numbers) (k : ℕ) (gs : List ℕ) (parts : List (List Cell)) (i : ℕ) (d : List Cell) (list : List Alone) (alone : Alone)
     → i < length parts → length gs ≡ length parts → get_or gs i 0 ≡ k → list ≡ map (alone_at rule 0) (members k (take i gs) (take i parts))
     → alone ≡ alone_at rule 0 (get_or parts i d) → list ++ alone ∷ [] ≡ map (alone_at rule 0) (members k (take (i + 1) gs) (take (i + 1) parts))
@@ -87,7 +88,7 @@ start_more rule k gs parts i d list alone low same number are is =
 prefix : (rule : Numbers) (list : List Alone) (i : ℕ) → i < length list → length (map (stepped rule) (take i list)) ≡ i
 prefix rule list i low = length-map _ _ ∙ length-take-le i list (omega arith)
 
--- while the clusters are stepped one after another, cluster i is still as it was before it is stepped
+-- while the clusters are stepped one after another, cluster i is unchanged until it is stepped
 pub as_it_was : (rule : Numbers) (list now : List Alone) (i : ℕ) (d : Alone) → i < length list → now ≡ map (stepped rule) (take i list) ++ drop i list
     → get_or now i d ≡ get_or list i d
 as_it_was rule list now i d low is =

@@ -385,7 +385,8 @@ pub few_envelopes : (rule : Numbers) (limit : ℕ) (parts : List (List Cell)) (i
     → AreEnvelopes rule limit (take i parts) envelopes → length envelopes ≤ length parts
 few_envelopes rule limit parts i envelopes low are = subst (λ (n : ℕ). n ≤ length parts) (sym (are.count ∙ length-take-le i parts low)) low
 
--- adding the envelope of pattern i to the envelopes of the patterns `before` and of the first i patterns
+-- adding the envelope of pattern i to the envelopes of `before` and the first i patterns gives the envelopes of
+-- `before` and the first i + 1 patterns
 pub envelopes_after : (rule : Numbers) (limit : ℕ) (before parts : List (List Cell)) (i : ℕ) (part : List Cell) (envelopes : List EnvelopeBounds)
     (envelope : EnvelopeBounds) (items : List EnvelopeBounds) → i < length parts → part ≡ get_or parts i part
     → AreEnvelopes rule limit (before ++ take i parts) envelopes → IsEnvelope rule limit part envelope
@@ -396,7 +397,7 @@ envelopes_after rule limit before parts i part envelopes envelope items low at a
     (append_assoc before (take i parts) (get_or parts i part ∷ []) ∙ ap (λ (more : List (List Cell)). before ++ more) (sym (take_more parts i part low)))
     (envelopes_push rule limit (before ++ take i parts) envelopes (get_or parts i part) envelope are (subst (λ (p : List Cell). IsEnvelope rule limit p envelope) at is)))
 
--- a gap above is a gap
+-- if `one` begins past the bottom of `other`, the two boxes are clear of each other
 pub above_is_clear : (one other : Bounds) → is_past other.bottom (pos 0) one.top (pos 0) ≡ true → true ≡ is_clear one other (pos 0) (pos 0)
 above_is_clear one other is =
     last_of_four (is_past one.right (pos 0) other.left (pos 0)) (is_past other.right (pos 0) one.left (pos 0))

@@ -74,8 +74,8 @@ first_common n p b none m some (k, is) of_period = go k is
       | inr high ↦ subst (λ (x : ℕ). (b + 1) * n ≤ x) (sym is) (mul-le-mul_right n (omega (arith, high)))
     ]
 
--- if p divides none of the first b multiples of n, and these are all its multiples up to `most`, each positive common
--- multiple of n and p is greater than `most`
+-- if p divides none of the first b multiples of n, and these include all multiples of n up to `most`, each positive
+-- common multiple of n and p is greater than `most`
 pub none_common : (n p b most : ℕ) → 1 ≤ n → most / n ≤ b → ((j : ℕ) → j < b → ¬ IsMultiple ((j + 1) * n) p) → (m : ℕ) → 1 ≤ m
     → IsMultiple m n → IsMultiple m p → most < m
 none_common n p b most positive all none m some of_one of_period = elim (cases_lt most m) [
@@ -171,7 +171,7 @@ number_more old new k before ordered is at =
     ap (λ (es : List (List ℕ × ℕ)). sum (values_of es)) is in
     omega (arith, put)
 
--- counting the first object of a code, which gets the count 1
+-- if code k isn't counted yet, giving it the count 1 counts one more object with code k
 pub first_counted : (old : BTreeMap (List ℕ) ℕ) (new : List (List ℕ × ℕ)) (k : List ℕ) → IsOrdered (slice_cmp nat_cmp) old
     → lookup (is_code k) old.entries ≡ None
     → ((q : List ℕ) → lookup (is_code q) new ≡ cond (is_code k q) (Some 1) (lookup (is_code q) old.entries))
@@ -185,7 +185,7 @@ first_counted old new k ordered none updates is = record {
     before : 0 ≡ count_of old.entries k
     before = sym (ap (λ (o : Option ℕ). unwrap_or o 0) none)
 
--- counting one more object of a code that is already counted
+-- if code k is already counted, adding 1 to its count counts one more object with code k
 pub once_more : (old new : List (List ℕ × ℕ)) (k : List ℕ) (before : ℕ) → lookup (is_code k) old ≡ Some before
     → ((q : List ℕ) → lookup (is_code q) new ≡ cond (is_code k q) (Some (before + 1)) (lookup (is_code q) old))
     → new ≡ set_value (is_code k) old (before + 1) → IsOneMore k old new

@@ -6,7 +6,7 @@ use Rattle.plane_core.proofs.lemmas.plane.SearchLemmas.{deduped-set_of}
 use Rattle.plane_core.proofs.lemmas.plane.SetLemmas.{is_set_of}
 use Rattle.plane_core.proofs.plane.pattern.in_order.Goals as goal
 
--- sorting the cells and keeping one of equal neighbours gives the set of the cells
+-- sorting the cells and keeping one of each run of equal cells gives the set of the cells
 pub returns-then-not-are_in_order : goal.returns-then-not-are_in_order
 returns-then-not-are_in_order c =
     let is = dedup_is _ _ _ c.dedup.ensures.filtered in

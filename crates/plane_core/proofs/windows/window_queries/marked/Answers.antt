@@ -6,7 +6,7 @@ use Rattle.plane_core.proofs.lemmas.windows.LaneLemmas.{four_lanes, lane_of}
 use Rattle.plane_core.proofs.windows.window_queries.marked.Goals as goal
 use lib.Lanes.{zip2}
 
--- a bit is marked if it was marked before or if the two bits differ
+-- a bit is marked if and only if it was marked before or the bits of a and b differ there
 marks : (m a b : List ℕ) (j i : ℕ) → length m ≡ 4 → length a ≡ 4 → length b ≡ 4 → j < 4
     → bit_of (zip2 bit_or m (zip2 bit_xor a b)) j i ≡ max (bit_of m j i) ((bit_of a j i + bit_of b j i) % 2)
 marks m a b j i lm la lb low =

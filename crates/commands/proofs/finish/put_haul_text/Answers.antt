@@ -2,7 +2,7 @@ use Rattle.std.proofs.Common.{append-nil, refl}
 use Rattle.std.proofs.KnownBytes.{Appends-nil}
 use Rattle.plane_core.proofs.lemmas.OutputLemmas.{Writes_same, Writes_then}
 use Rattle.pattern_commands.proofs.AnswerLemmas.{err_of}
-use Rattle.commands.proofs.finish.print_haul.Goals as goal
+use Rattle.commands.proofs.finish.put_haul_text.Goals as goal
 
 pub returns-in_err-census-clause-prints : goal.returns-in_err-census-clause-prints
 returns-in_err-census-clause-prints g c missing is = rw (err_of _ _ c.from_residual.ensures.1) (Appends-nil _)
