@@ -45,7 +45,7 @@ class Plan:
 
 @dataclass
 class Batch:
-    """A batch that was started: the numbers of its soups, and the call that takes them."""
+    """A started batch: `count` soups from soup `first` on, and the call that takes them."""
 
     first: int
     count: int
@@ -78,8 +78,8 @@ class Batches:
         self.most = calls * BATCHES_FOR_EACH if calls > 1 else calls
 
     def fill(self) -> None:
-        """Starts batches until all workers are busy, enough batches wait for earlier ones, a batch
-        has failed, or the search is at its end."""
+        """Starts batches until all workers are busy, the queue is full, a batch has failed, or no
+        soups remain."""
         for batch in self.queue:
             if batch.workers and batch.call.is_ended():
                 self.free.append(batch.workers)
@@ -111,7 +111,8 @@ class Batches:
 
     def take_first(self) -> Taken:
         """Removes the first batch, which must have ended, and returns its result. Raises `Ended` if
-        its call failed, or `NoCensus` if the result isn't the haul of the batch."""
+        its call failed, or `NoCensus` if the result isn't the haul of the batch, or the report
+        lines aren't those of the batch."""
         batch = self.queue.popleft()
         if batch.workers:
             self.free.append(batch.workers)

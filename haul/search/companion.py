@@ -33,8 +33,8 @@ class Companion:
         is_always_there: bool = False,
     ) -> None:
         """`path` is the path of FILE, and `name` its name in messages. Problems with the companion
-        are passed to `complain` as lines. `is_always_there` means that a search has the companion
-        even if it has nothing to keep there."""
+        are passed to `complain` as lines. `is_always_there` means that the companion exists even if
+        there is nothing to keep in it."""
         self.suffix = suffix
         self.complain = complain
         self.is_always_there = is_always_there

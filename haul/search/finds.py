@@ -118,9 +118,9 @@ def list_common_parts(rarer: int) -> frozenset[str]:
 class Finder:
     """Looks for finds, one object at a time, so that the search can do other things in between.
 
-    Objects that were in the file at the start are separated only if one of them might have a part
-    that looks new. Most parts are themselves objects of the file, so they aren't new, and nothing
-    has to be separated.
+    An object that was in the file at the start is separated only if a part of a new object looks
+    new, and the object in the file might have this part, too. Most parts are themselves objects of
+    the file, so they aren't new, and no object of the file has to be separated for them.
     """
 
     def __init__(self, job: Job, haul: Haul, rarer: int, first: int = NUMBER_LIMIT) -> None:

@@ -40,7 +40,7 @@ class Displaced(OSError):
 
 
 class Beside(NamedTuple):
-    """A file beside FILE, the function that writes its lines, and whether the lines have
+    """A file beside FILE, the function that returns its lines, and whether the lines have
     changed."""
 
     file: Companion
@@ -98,10 +98,10 @@ class Keeper:
         return haul
 
     def write(self, haul: Haul, beside: Sequence[Beside] = ()) -> None:
-        """Replaces the files beside the file that have changed, and then the file itself. The file
-        keeps its old text until the new text is safely on disk, even if this fails with `OSError`.
-        Raises `Displaced` if another program has changed the file since it was last read or written
-        here."""
+        """Replaces the files in `beside` whose lines have changed, and then the haul's file. This
+        file keeps its old text until the new text is safely on disk, even if this call fails with
+        `OSError`. Raises `Displaced` if another program has changed the file since it was last read
+        or written here."""
         self.refuse_changes(haul, beside)
         with write_new_text(self.path, write_lines(haul), self.path) as stamp:
             for one in beside:
@@ -120,9 +120,9 @@ class Keeper:
             raise Displaced(errno.ESTALE, reason, self.name)
 
     def write_mine(self, haul: Haul, beside: Sequence[Beside]) -> str:
-        """Writes a haul to FILE.mine (or if that exists, to FILE.mine.2 and so on). The files in
-        `beside` are written beside that file, where they are kept from now on. Returns the path of
-        the haul."""
+        """Writes a haul to FILE.mine, or to FILE.mine.2 and so on if FILE.mine or a file beside it
+        exists. From now on, the files in `beside` are kept beside the new file. They are written
+        there if they have changed or are always there. Returns the path of the haul."""
         for number in itertools.count(1):
             end = ".mine" + (f".{number}" if number > 1 else "")
             name = self.path + end

@@ -27,7 +27,8 @@ def open_late(
     asked: argparse.Namespace, haul: Haul, next_soup: int, kept: Companion
 ) -> Late | None:
     """Returns the late soups with which a search continues, or `None` if it keeps none. Raises
-    `CantKeep` if the file has fewer late soups than the arguments ask for."""
+    `CantKeep` if the generation in the arguments is lower than that of the file, and the file
+    covers soups of the haul."""
     if asked.late == NEVER:
         kept.remove()
         return None
@@ -41,7 +42,7 @@ def open_late(
     if why is not None:
         kept.reject(why)
         return Late(generation, next_soup)
-    # If the file covers no soup of the haul, it is begun anew.
+    # If the file covers no soup of the haul, it may begin anew at a lower generation.
     if generation < late.generation and late.since < next_soup:
         raise CantKeep(
             f"{kept.name}: has soups from generation {late.generation} on, and not from {generation}"

@@ -104,12 +104,12 @@ class Search:
         self.line = StatusLine(self.terminal)
         self.said_that_it_finishes = self.said_what_is_left = False
         self.began = self.kept_at = time.monotonic()
-        # How long all writing took, and the latest writing, in seconds.
+        # How long all writing together took, and how long the latest writing took, in seconds.
         self.writing = self.latest_writing = 0.0
 
     def run(self) -> None:
         """Takes soups until the haul has as many as it should, or until the search is stopped.
-        Raises `Dropped` if a signal ends the search."""
+        Raises `Dropped` if a signal ends the search at once."""
         try:
             try:
                 self.take_batches()
@@ -185,8 +185,8 @@ class Search:
         )
 
     def keep(self) -> None:
-        """Writes the finished batches that aren't in the file yet. Then queues their objects to be
-        examined for finds."""
+        """Writes the finished batches that aren't in the file yet. Then queues their late soups to
+        be reported, and their objects to be examined for finds."""
         if not self.unkept:
             return
         began = time.monotonic()
@@ -339,5 +339,6 @@ class Search:
 
 
 def count_processors() -> int:
-    """Returns the default number of workers: the number of processors that this process may use."""
+    """Returns the default number of workers: one for each processor that this process may use, but
+    at most `MOST_WORKERS`."""
     return min(MOST_WORKERS, len(os.sched_getaffinity(0)))

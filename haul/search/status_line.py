@@ -17,7 +17,7 @@ SECONDS_ON_A_TERMINAL, SECONDS_ELSEWHERE = 1.0, 60.0
 class Status:
     """The progress of a search."""
 
-    # The number of soups in the haul and in the running batches.
+    # The number of soups in the haul, plus the soups that later batches have run so far.
     soups: int
     # The number of soups that this call has run.
     run: int

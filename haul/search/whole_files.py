@@ -73,8 +73,8 @@ def replace_file(path: str, lines: Iterable[bytes], rights_of: str) -> Stamp | N
 
 
 def write_file(new: str, lines: Iterable[bytes], rights_of: str) -> None:
-    """Writes a file that doesn't exist yet, with the permissions of the file `rights_of`. If that
-    fails, no file is left."""
+    """Writes a file that doesn't exist yet, with the permissions of the file `rights_of` if there
+    is such a file. If the writing fails, no new file is left."""
     number = os.open(new, os.O_WRONLY | os.O_CREAT | os.O_EXCL | os.O_CLOEXEC, ANY_RIGHTS)
     with removed_on_failure(new), open(number, "wb") as file:
         with suppress(FileNotFoundError):

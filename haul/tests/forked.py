@@ -11,7 +11,7 @@ import traceback
 from collections.abc import Callable
 from typing import NoReturn
 
-# Files with numbers from 3 up to this number are closed.
+# Files with numbers from 3 to `FILES - 1` are closed.
 FILES = 100
 
 

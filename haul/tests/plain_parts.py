@@ -91,7 +91,7 @@ def text_of(cells: Cells) -> str | None:
 
 def recurring(rule: Rule, cells: Cells) -> tuple[int, Cell, list[Cells]] | None:
     """Returns the period, the displacement and the phases of a pattern, or `None` if it doesn't
-    recur."""
+    recur within 64 generations."""
     phases = [cells]
     for period in range(1, 65):
         later = next_of(rule, phases[-1])

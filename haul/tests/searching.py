@@ -27,10 +27,10 @@ from haul.search.stopping import Stopping
 from haul.search.untold import Untold
 from haul.tests.called import CENSUS, HAUL, as_haul, census
 
-# A soup of the empty seed that leaves a clock, and the code of the clock. 100,000 soups leave two
-# clocks.
+# A soup of the empty seed that leaves a clock, and the code of the clock. The first 100,000 soups
+# leave two clocks.
 CLOCK_SOUP, CLOCK = 23473, "xp2_2a54"
-# A profile under which a soup takes no time.
+# A profile under which a soup takes hardly any time.
 QUICK = ["--period=1", "--horizon=1", "--stride=1", "--limit=0"]
 
 
@@ -42,7 +42,8 @@ def of_take(haul: Haul) -> bytes:
 def make_search(
     plan: Plan, haul: Haul, keeper: Keeper, client: Census, stopping: Stopping, output: TextIO
 ) -> Search:
-    """Returns a search that continues with a haul, and that has no late soups and no finds."""
+    """Returns a search that continues with a haul, keeps no late soups, and has no finds of an
+    earlier search to report."""
     late_file, finds_file = (
         Companion(keeper.path, keeper.name, suffix, client.terminal.complain)
         for suffix in ("late", "finds")

@@ -49,7 +49,7 @@ class Apgsearch(unittest.TestCase):
         return str(path)
 
     def refused(self, *words: str) -> str:
-        """Returns why a call is refused, after the name of the file."""
+        """Returns the reason that a refused call gives after the name of the file."""
         status, printed, told = run(*words)
         self.assertEqual((status, printed), (3, ""), words)
         self.assertEqual(told.count("\n"), 1, told)
@@ -157,7 +157,7 @@ class Apgsearch(unittest.TestCase):
         self.assertEqual((status, printed), (7, "xs4_33: soup 0 leaves no such part\n"))
 
     def test_totals(self) -> None:
-        """The census of as many soups shows which totals differ."""
+        """`check --totals` runs as many soups as the haul has, and reports which totals differ."""
         haul = census("take", "--seed=k_abc", "--count", "100")
         (self.folder / "own").write_bytes(haul)
         rows = csv.DictReader(run("table", "--csv", str(self.folder / "own"))[1].splitlines())
@@ -178,7 +178,7 @@ class Apgsearch(unittest.TestCase):
         # With `--first 1`, other soups are run, so the totals differ.
         status, printed, _ = run("check", "--totals", "--first", "1", self.write("same", same))
         self.assertEqual(status, 7)
-        # The soups up to the highest number, and one soup more.
+        # First the last soup has the highest number that is allowed, then a number too high by one.
         status, _, told = run("check", "--totals", "--first", str(2**40 - 100), self.file)
         self.assertEqual((status, told), (7, ""))
         status, printed, told = run("check", "--totals", "--first", str(2**40 - 99), self.file)

@@ -153,8 +153,8 @@ class Choices(unittest.TestCase):
         self.assertEqual(FileChoice(["a", "a"], 2, "x").choose(), ["a", "a"])
 
     def test_the_chance_to_miss(self) -> None:
-        """The chance is counted over all choices, which are equally likely and whose number is
-        `comb`."""
+        """All choices are equally likely, so the chance is the share of the choices that have no
+        wrong file."""
         self.assertEqual(
             [count_wrong_files(files) for files in (1, 99, 100, 101, 1000)], [1, 1, 1, 2, 10]
         )

@@ -105,7 +105,7 @@ class Refused(unittest.TestCase):
 
 class Lines(unittest.TestCase):
     def test_a_line_that_is_cut(self) -> None:
-        """The text is read in pieces, and one piece ends within a line."""
+        """The text is read in pieces, and a piece may end within a line."""
         text = b"10 20\n11 20\n12 20\n"
         for limit in range(1, len(text)):
             with patch.object(streams, "PATTERN_LIMIT", limit):

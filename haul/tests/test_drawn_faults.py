@@ -87,8 +87,8 @@ class DrawnFaults(Searches):
 
 
 class Calls(DrawnFaults):
-    """A call of the operating system fails, or all calls from one on, or `haul` is killed instead of
-    a call."""
+    """A call of the operating system fails, or that call and all later ones fail, or `haul` is
+    killed when it makes the call."""
 
     def words(self) -> list[str]:
         return [*WORDS, "--until=700", "--finds", self.finder]

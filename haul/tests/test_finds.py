@@ -149,8 +149,8 @@ class Finds(unittest.TestCase):
             )
 
     def test_a_haul_without_objects(self) -> None:
-        """Although its soups left nothing, they have begun the file, so later batches report
-        finds."""
+        """The soups of the haul have left nothing. But the file has begun with them, so later
+        batches report finds."""
         self.assertEqual(
             found(
                 Finder(

@@ -129,7 +129,8 @@ class Drawings(unittest.TestCase):
         """`census show` refuses these texts, or they are larger than what `census run` reads."""
         for text in ("", "0", "z", "y0", "1y", "1A", "_1", "1_", "1y-", "w0zx"):
             self.assertIsNone(read_wechsler(text))
-        # A run of 39 dead columns is written `yz`. These are 998 dead columns, and one more.
+        # A run of 39 dead columns is written `yz`. Between the two live cells there are 998 dead
+        # columns, and in the second text 999.
         row = "1" + "yz" * 25 + "yj"
         self.assertEqual((39 * 25 + 4 + 19, SIDE), (998, 1000))
         self.assertEqual(read_wechsler(row + "1"), frozenset([(0, 0), (999, 0)]))

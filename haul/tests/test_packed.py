@@ -101,7 +101,7 @@ class Bytes(unittest.TestCase):
 
 
 class Packed(Searches):
-    """The file in a folder beside the program, without any other file of a checkout."""
+    """The packed file and the census program in a folder, without any other file of a checkout."""
 
     def setUp(self) -> None:
         super().setUp()

@@ -700,8 +700,8 @@ class Comparing(unittest.TestCase):
         )
 
     def test_each_under_its_rule(self) -> None:
-        """A table on table falls apart only under the rule of B, and each list has a value for each
-        haul."""
+        """A table on table has two parts only under the rule of B, and each list has a value for
+        each haul."""
         objects = objects_of(compared(self.LIFE, self.OTHER))
         self.assertEqual(
             without_rates(objects["xs12_raar"]),

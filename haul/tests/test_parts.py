@@ -201,8 +201,8 @@ class Parts(unittest.TestCase):
         self.assertTrue(strict("xs4_33").is_strict() and not parts("xs8_rr").is_strict())
 
     def test_many_islands(self) -> None:
-        """Where all cells stay, eleven cells two steps apart are eleven parts. For so many islands,
-        only the separation into single islands is tried."""
+        """Where all cells stay, cells two steps apart are parts, however many there are. For more
+        than `MOST_ISLANDS` islands, only the separation into single islands is tried."""
         for count in (MOST_ISLANDS, MOST_ISLANDS + 1, 30):
             row = "0".join("1" * count)
             self.assertEqual(parts(f"xs{count}_{row}", STILL), Separation(("xs1_1",) * count))
@@ -299,7 +299,8 @@ class Parts(unittest.TestCase):
                 )
 
     def test_the_example(self) -> None:
-        """The totals by parts of 100,000 soups, computed by brute force from the definition."""
+        """The expected totals by parts of 100,000 soups were computed by brute force from the
+        definition."""
         objects = Objects(example(), QUIET)
         by_parts = objects.by_parts()
         self.assertEqual((len(by_parts.totals), by_parts.objects()), (82, 2_188_270))
@@ -351,7 +352,8 @@ class Labels(unittest.TestCase):
         self.assertEqual([mark_label(label, strict("x")) for label in ("block", "")], ["block", ""])
 
 
-# An object about which nothing is known, two blocks in two ways, and strict objects.
+# Strict objects, two blocks in two ways, three blinkers, and an object about which nothing is
+# known.
 CODES = {
     "xs4_33": 50,
     "xs8_rr": 10,

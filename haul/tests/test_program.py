@@ -365,8 +365,8 @@ class Pages(unittest.TestCase):
     ]
 
     def test_hostile_seeds(self) -> None:
-        """A shell runs the commands that the page shows, and they print what the program prints for
-        that soup."""
+        """A shell runs the commands that the page shows for a soup, and they print what the program
+        prints for this soup."""
         with tempfile.TemporaryDirectory() as folder:
             os.symlink(CENSUS, os.path.join(folder, "census"))
             for seed in self.HOSTILE:

@@ -78,7 +78,7 @@ class Bitmaps(unittest.TestCase):
                 self.assertEqual(bits, bits_of(later))
 
     def test_corners_and_rooms(self) -> None:
-        """A room has three more columns and rows on each side than the box of a pattern."""
+        """A room extends three columns or rows beyond each side of a pattern's bounding box."""
         for cells in draw_patterns(60):
             bits = bits_of(cells)
             self.assertEqual(bitmaps.find_corner(bits), CORNER)
@@ -158,7 +158,7 @@ class Quick(unittest.TestCase):
         quick = QuickSeparator(LIFE)
         self.assertIsNotNone(quick.run(bits, 12))
         self.assertIsNone(quick.run(bits, 16))
-        # In this object, which has two codes here, the blocks are at both ends of two rows.
+        # This object, which has two codes here, is two blocks far apart in the same two rows.
         for code in ("xs8_33yy33", "xs8_33yy33z0"):
             self.assertEqual(
                 Separator(LIFE).separate_quickly(code), Separator(LIFE).separate_by_definition(code)

@@ -162,8 +162,8 @@ class Faults(unittest.TestCase):
             self.assertEqual(fault(second + after), place, after)
 
     def test_a_line_that_lost_its_end(self) -> None:
-        """What is left of the line is bad where its last field begins, or at its end if that field
-        is right, unless it is a good line itself."""
+        """A line that is cut off is bad where its last field begins, or at its end if that field is
+        right. If the cut leaves a whole line, that line is good."""
         for end, place in (
             ("", 0),
             ("repor", 0),

@@ -49,7 +49,7 @@ def boxed(rows: list[str]) -> list[str]:
 
 
 def drawn_rows(draw: random.Random, most: int) -> list[str]:
-    """Returns random rows whose bounding box begins at the corner, with any density."""
+    """Returns random rows with one of three densities, whose bounding box begins at the corner."""
     width, height, density = (
         draw.randint(1, most),
         draw.randint(1, most),

@@ -171,7 +171,7 @@ from    to  settled
         self.assertIn("1 soup, 1 unsettled, 0 for good\nno soup has settled\n", output)
 
     def test_small_bars(self) -> None:
-        """A bar that stands for at least one soup has a character."""
+        """A bar that stands for at least one soup has at least one character."""
         lines = [
             f"report 2 {JOB} worker=1 soup={soup} at={0 if soup else 700} good=yes"
             for soup in range(101)
@@ -471,7 +471,8 @@ class UnsettledSoups(unittest.TestCase):
             self.assertEqual(Path(f"{path}.read").read_text().splitlines(), make_soup("a0"))
 
     def test_a_large_pattern(self) -> None:
-        """`census run` prints 300 MB here, and nothing of it is kept in memory."""
+        """The program that stands in for `census` prints 300 MB, and `haul` doesn't keep them in
+        memory."""
         line = "report 2 rule=b3s23 profile=1,1,1,0 seed=a worker=1 soup=0 unsettled"
         with tempfile.NamedTemporaryFile() as cells, program(f"cat{f' {cells.name}' * 30}") as path:
             cells.write(b"O" * 10**7)

@@ -77,8 +77,7 @@ class Codes(unittest.TestCase):
                 code = "x" * length
                 text = text_of(made({code: 3}, [(2**40 - 3, 3)], samples={code: numbers}))
                 self.assertEqual(run("join", text=text.encode()), (0, text, ""))
-                # A second haul has a large total and a further range, which nearly all others don't
-                # have.
+                # The second haul also has a large total and a second range.
                 text = text_of(
                     made({code: 2**63}, [(0, 1), (2**40 - 3, 3)], samples={code: numbers})
                 )

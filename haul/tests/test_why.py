@@ -151,7 +151,7 @@ class WiderRest(unittest.TestCase):
             self.assertEqual(look_for_rest(LIFE, cells_of(rle), STANDARD), Rest([code]))
 
     def test_objects_that_a_census_knows(self) -> None:
-        """This includes objects that are several clusters in some phases, or that are near one
+        """Some of the objects are several clusters in some phases, and some are near one
         another."""
         for rle in ("2o$2o!", "3o!", PULSAR, "bo$2bo$3o!", "2o3b2o$2o3b2o!", "3o4$3o!", "10o!"):
             field = Field(LIFE, cells_of(rle))
@@ -178,7 +178,7 @@ class WiderRest(unittest.TestCase):
         self.assertIsNone(look_for_rest(LIFE, cells_of(GUN), STANDARD))
 
     def test_periods(self) -> None:
-        """An object may recur later than a census requires."""
+        """An object may have a longer period than a census looks for."""
         short = STANDARD._replace(period=2)
         self.assertEqual(look_for_rest(LIFE, cells_of(PULSAR), short), Rest(periods=[3]))
         few = STANDARD._replace(period=4)
@@ -194,7 +194,8 @@ class WiderRest(unittest.TestCase):
             self.assertIsNone(look_for_rest(rule, cells_of("o!"), STANDARD))
 
     def test_meetings(self) -> None:
-        """A glider comes near a block in the generation that a plain run finds."""
+        """A glider comes near a block in the generation that a plain run finds, unless that is
+        after generation 512."""
         for away in (60, 100, 150):
             glider = {cell + pack((-away, -away)) for cell in cells_of("bo$2bo$3o!")}
             block = cells_of("2o$2o!")
@@ -301,7 +302,8 @@ class Told(unittest.TestCase):
     def test_formats_of_a_pattern(self) -> None:
         gliders = "bo$2bo$3o!", ".O.\n..O\nOOO\n", "1 0\n2 1\n0 2\n1 2\n2 2\n"
         self.assertEqual({why_pattern(text) for text in gliders}, {"settled 0"})
-        # The rule in a header is used, unless another rule is given. A blinker dies without survivals.
+        # The rule in a header is used, unless another rule is given. A blinker dies under B3/S,
+        # where no cell survives.
         header = "x = 3, y = 1, rule = B3/S\n3o!"
         self.assertEqual(why_pattern(header), "settled 101")
         self.assertEqual(why_pattern(header, "--rule=b3s23"), "settled 0")

@@ -93,7 +93,7 @@ class Cell:
     # the first haul has no such object.
     ratio: float | None = None
     # The probability, if both rates are equal, that a haul differs from the first haul at least as
-    # much as this one. It is `None` if it can't be computed.
+    # much as this one. It is `None` in the first haul itself, and if it can't be computed.
     p_value: float | None = None
 
     @property

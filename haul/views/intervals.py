@@ -96,7 +96,7 @@ def expand(count: float, apart: float) -> float:
         half_square = apart * apart * (1 / 2 - apart * (1 / 3 - apart / 4))
     else:
         half_square = apart - log1p(apart)
-    # mutant: equal because 0 has one root
+    # mutant: equal because the root of 0 is 0 with either sign
     eta = sqrt(2 * half_square) if apart > 0 else -sqrt(2 * half_square)
     # 2 mutants: equal because the change is smaller than the terms that are left out
     first = -1 / 3 + eta * (1 / 12 + eta * (-2 / 135 + eta * (1 / 864 + eta / 2835)))

@@ -21,8 +21,8 @@ NOT_COUNTED = "no object that `census` counts, so the reference can't have it"
 
 
 def describe_rarity(separator: Separator, code: str) -> Iterator[str]:
-    """Yields the lines about an object. A pseudo-object has a line of its own and a line for each
-    part."""
+    """Yields the lines about an object. A pseudo-object has a line of its own, and a line for each
+    code among its parts."""
     separation = separator.separate(code)
     if len(separation.parts) == 1:
         unsure = "" if separation.is_separated else f", {NOT_SEPARATED}"

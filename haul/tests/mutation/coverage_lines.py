@@ -58,7 +58,8 @@ os._exit, os.kill = exit_after_keeping, kill_after_keeping
 
 
 def find_tests() -> list[str]:
-    """Returns the names of all tests, except for the test that changes `haul`."""
+    """Returns the names of all tests, except for those in test_mutants.py, which run tests
+    themselves."""
     suite = unittest.defaultTestLoader.discover(str(TOP / "haul" / "tests"), top_level_dir=str(TOP))
     return [name for name in list_tests(suite) if ".test_mutants." not in name]
 

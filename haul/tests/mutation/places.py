@@ -109,7 +109,7 @@ def find_truths(tree: ast.Module) -> set[int]:
 
 def find_signals(tree: ast.Module) -> set[int]:
     """Returns the ids of the nodes in calls that send signals. With a changed number, a signal
-    would go to other users' processes: `killpg(1, ..)` ends all processes."""
+    could go to unrelated processes: `killpg(1, ..)` sends it to every process."""
     return {
         id(node)
         for call in ast.walk(tree)

@@ -35,8 +35,8 @@ PR_SET_CHILD_SUBREAPER = 36
 
 
 class Trial(NamedTuple):
-    """A changed file, given by its path below haul/, and the tests that may notice the change, each
-    with the seconds that it takes."""
+    """A changed file, given by its path below haul/ and its new text, and the tests that may notice
+    the change, each with the seconds that it takes."""
 
     file: str
     text: str
@@ -117,8 +117,8 @@ def run_tests(copy: Path, tests: dict[str, float], errors: int) -> int | None:
         start_new_session=True,
         preexec_fn=lambda: go_on(partial(run_tests_here, copy, list(tests))),
     )
-    # Here a signal also ends the tests. At any other time it ends this process at once, even if the
-    # process is waiting for a lock.
+    # While the tests run, SIGTERM also ends them. At any other time, it ends this process at once,
+    # even if the process is waiting for a lock.
     signal.signal(signal.SIGTERM, end)
     try:
         return program.wait(MOST_SECONDS + sum(tests.values()))
