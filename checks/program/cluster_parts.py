@@ -1,5 +1,7 @@
-"""Tests single parts of a census: lines with cluster/part, and hauls with cluster/take-part and
-cluster/take-with-slurm."""
+"""Tests cluster/part, which makes the report lines of one part of a census; cluster/take-part, which
+takes the haul of one part; and cluster/take-with-slurm, which takes the hauls of all parts and joins
+them.
+"""
 
 from __future__ import annotations
 

@@ -25,8 +25,8 @@ def read(lines: list[str]) -> Haul:
 
 
 class OneWrongThing(unittest.TestCase):
-    """A right haul in which one row is changed, at each place. The expected message is composed
-    from the lines of the haul."""
+    """Each test makes one fault in a right haul, at one place after another, and composes the
+    expected messages from the lines of the haul."""
 
     def setUp(self) -> None:
         self.lines = census("take", "--count", "40").decode().splitlines()

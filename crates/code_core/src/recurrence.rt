@@ -1,4 +1,5 @@
-//! How a pattern recurs: it is followed until it does, and its phases are kept.
+//! Finds how a pattern recurs, and its phases: generations are made until one of them is the pattern again, moved or
+//! not, or until a limit is reached.
 //!
 //! ```text
 //! phase 0  ->  phase 1  ->  ..  ->  phase p - 1  ->  phase 0 again, moved by (dx, dy)

@@ -105,7 +105,7 @@ bare_line x (y ∷ ys) one =
     ap (λ b. cond b ([] ∷ remainder) (begun_with x remainder)) (ne_eqb x 10 (All-head IsNotFeed x (y ∷ ys) one))
     ∙ ap (begun_with x) (bare_line y ys (All-tail IsNotFeed x (y ∷ ys) one))
 
--- if the bytes read are ended lines, these are all their lines
+-- if the bytes that were read are `lines`, each ended by a line feed, `input_lines` splits them into exactly `lines`
 pub lines_ended : (read : List ℕ) (lines : List (List ℕ)) → AreEnded read lines → input_lines (read ++ []) ≡ lines
 lines_ended read lines ended =
     ap (λ l. input_lines (l ++ [])) ended.spelled ∙ ended_lines lines [] ended.whole ∙ append-nil lines
