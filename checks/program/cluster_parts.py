@@ -1,6 +1,6 @@
-"""Tests cluster/part, which makes the report lines of one part of a census; cluster/take-part, which
-takes the haul of one part; and cluster/take-with-slurm, which takes the hauls of all parts and joins
-them.
+"""Tests cluster/part, which makes the report lines of one part of a census; cluster/take-part,
+which takes the haul of one part; and cluster/take-with-slurm, which takes the hauls of all parts
+and joins them.
 """
 
 from __future__ import annotations

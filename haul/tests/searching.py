@@ -131,7 +131,7 @@ class Searches(unittest.TestCase):
         return self.haul().soups if self.file.exists() else 0
 
     def wait_for(self, soups: int) -> None:
-        """Waits until the file has `soups` soups."""
+        """Waits until the file has at least `soups` soups."""
         for _ in range(3000):
             if self.soups() >= soups:
                 return

@@ -1,4 +1,4 @@
--- Patterns with the same apgcode are one object.
+-- Two patterns with the same apgcode are one object, if the apgcode contains a text.
 use Rattle.std.proofs.Common.{◌≡◌, ◌∙◌, sym, ap, refl, subst, ℕ, zero, suc, ◌+◌, ◌-◌, ◌/◌, ◌%◌, ◌<◌, ◌==◌, Bool, true, false, not, cond, List, [], ◌∷◌, ◌++◌}
 use Rattle.std.proofs.Common.{Option, None, Some, Ok, decimal, get_or, arith, neg_ℤ}
 use Rattle.std.specs.Fmt.{digit_glyph, digits, digits_onto}

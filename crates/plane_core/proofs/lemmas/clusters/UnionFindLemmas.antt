@@ -344,7 +344,8 @@ row_skipped cells row place first from is least most left = record {
   later = is.later;
 }
 
--- the rows above a place are still right without the places that were skipped
+-- if the two rows above a cell begin later, at `first` and at `second`, and `IsRow` still holds for each of them, then
+-- `AreRowsAbove` still holds
 pub later_rows : (cells : List Cell) (rows : RowsAbove) (place first second : ℕ) (above top : Cell) → AreRowsAbove cells rows place
     → above ≡ moved_by (negsuc 1) (negsuc 0) (cell_of cells place) → top ≡ moved_by (negsuc 1) (negsuc 1) (cell_of cells place)
     → IsRow cells (record { from = first; end = rows.above.end }) place above → IsRow cells (record { from = second; end = rows.top.end }) place top
