@@ -35,7 +35,7 @@ get_cpu() {
 }
 
 # Writes the stamp of the program. $1 is the basis from before the build, and $2 the level of processors that the
-# program was built for. Fails if the basis has changed since then.
+# program was built for. Fails if there is no program, or if the basis is no longer $1.
 write_stamp() {
     [[ -x $top/$program && $(basis) == "$1" ]] || return
     # The stamp gets its name last, so that an incomplete stamp is never read.

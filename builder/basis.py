@@ -15,7 +15,7 @@ from builder.crates import Crates
 from builder.failure import cannot_build
 from builder.places import Places
 
-# Finds the crate's name in the line of a file.
+# Finds the crate of a file in the line with the file's digest.
 OF_CRATE = re.compile(r"  crates/([^/]*)")
 
 
@@ -49,8 +49,8 @@ class Built:
         return self._called("is_fresh") is not None
 
     def write_stamp(self, basis: str, cpu: str) -> bool:
-        """Writes the stamp of the program, unless the basis has changed since the given one.
-        Returns whether it was written.
+        """Writes the stamp of the program, unless the basis is no longer the given one. Returns
+        whether the stamp was written.
         """
         return self._called('write_stamp "$(cat)" "$1"', cpu, given=basis) is not None
 

@@ -51,8 +51,8 @@ def copies_for_longest() -> int:
 
 
 def copies_with(processors: int, kilobytes: int | None) -> int:
-    """Returns one copy for each processor, or fewer if there isn't enough memory for them. `None`
-    means that the memory isn't known.
+    """Returns the number of copies: one for each processor, but at most `MOST_COPIES`, and fewer if
+    there isn't enough memory for them. `None` means that the memory isn't known.
     """
     copies = min(processors, MOST_COPIES)
     return copies if kilobytes is None else max(1, min(copies, kilobytes // COPY_KILOBYTES))
@@ -67,7 +67,7 @@ class Share:
 
 
 class Work(Protocol):
-    """The functions that a schedule calls for each crate."""
+    """The functions that a schedule calls."""
 
     def is_kept(self, crate: str) -> bool:
         """Checks whether an earlier call has proved the crate."""

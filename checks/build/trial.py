@@ -68,8 +68,8 @@ class Trial:
         return run(call, env=with_variables(**(variables or {})), umask=umask)
 
     def away(self, *words: str | Path, given: bytes = b"", **variables: str) -> Ended:
-        """Calls a command in an empty folder, without a toolchain and with nothing else in the
-        environment."""
+        """Calls a command in an empty folder. Its environment has only `variables`, HOME, LC_ALL,
+        and a PATH without a toolchain."""
         return run(words, given=given, cwd=self.room / "away", env=self.bare | variables)
 
     # ---- The clone

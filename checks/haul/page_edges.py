@@ -15,8 +15,8 @@ from checks.haul.page_dialogs import wait_for_object
 SHIFT_TAB, LEFT, RIGHT = "\ue008\ue004", "\ue012", "\ue014"
 HARD_WIDTHS = (390, 800, 1400)
 STEPS_BACK = 22
-# Finds the element with the focus if a sticky part at the top of the page or of the dialog covers
-# its middle.
+# Finds the element with the focus if a point near its top is above the window, or is covered by a
+# sticky part at the top of the page or of the dialog.
 COVERED = """
 const one = document.activeElement, { left, right, top, bottom } = one.getBoundingClientRect();
 if (one === document.body || right <= 0) return '';

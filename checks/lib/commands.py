@@ -15,8 +15,8 @@ MOST_SECONDS = 600.0
 
 
 class Ended(NamedTuple):
-    """How a command ended: its exit status, or minus the signal that ended it, and what it
-    printed."""
+    """How a command ended: its exit status, or minus the number of the signal that ended it, and
+    what it printed."""
 
     status: int
     output: bytes

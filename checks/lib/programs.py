@@ -39,7 +39,7 @@ def build_programs(folder: Path, *options: str) -> bool:
 
 
 def call_programs(*words: str, stderr: int | None = None) -> bool:
-    """Calls bin/programs. What it prints goes to standard error."""
+    """Calls bin/programs, whose output goes to standard error. Returns whether it succeeds."""
     call = [str(TOP / "bin" / "programs"), *words]
     ended = subprocess.run(
         call, stdin=subprocess.DEVNULL, stdout=sys.stderr, stderr=stderr, check=False

@@ -76,7 +76,7 @@ def drawn(cells: Cells) -> bytes:
 
 
 def generations() -> Iterator[Call]:
-    """Yields calls of `run` with a blinker, a glider, and both far apart, for many numbers of
+    """Yields calls of `run` with a blinker, a glider, and both far apart, for 0 to 100,000
     generations.
     """
     phases = [later(RULE, GLIDER, k) for k in range(4)]
@@ -105,7 +105,7 @@ def generations() -> Iterator[Call]:
 
 
 def live_cells() -> Iterator[Call]:
-    """Yields calls of `run 0` with patterns of up to 1,000,000 live cells, in full rows of 1,000 and
+    """Yields calls of `run 0` with patterns of 0 to 1,000,000 live cells, in full rows of 1,000 and
     a last row with the rest.
     """
     for count in numbers(10**6):
@@ -115,8 +115,8 @@ def live_cells() -> Iterator[Call]:
 
 
 def places() -> Iterator[Call]:
-    """Yields calls of `run` with a blinker far to the right of a block, or far below it, for one
-    generation.
+    """Yields calls of `run` for one generation, with a block and a blinker that is 6 to 996 cells
+    further right or further down.
     """
     for far in numbers(996, 996):
         if far < 6:
@@ -154,7 +154,7 @@ def rules() -> Iterator[Call]:
 
 
 def clusters() -> Iterator[Call]:
-    """Yields calls of `name` with many blocks, and with many blinkers."""
+    """Yields calls of `name` with 0 to 40,000 blocks, and with 0 to 5,000 blinkers."""
     for count in numbers(40_000):
         said = b"settled 0\n" + b"xs4_33 %d\n" % count * (count > 0)
         yield Call(
@@ -171,7 +171,7 @@ def clusters() -> Iterator[Call]:
 
 
 def members() -> Iterator[Call]:
-    """Yields calls of `name` with one cluster of many cells of which none dies."""
+    """Yields calls of `name` with one cluster of up to 1,000,000 cells, of which none dies."""
     for count in numbers(1600):
         cells = frozenset((place % 40, place // 40) for place in range(count))
         said = f"settled 0\n{code_of([cells], cells)} 1\n" if cells else "settled 0\n"
@@ -207,7 +207,7 @@ def shelved(shapes: list[Shape]) -> list[str]:
 
 
 def kinds() -> Iterator[Call]:
-    """Yields calls of `name` with many full rectangles, all of different kinds."""
+    """Yields calls of `name` with 0 to 465 full rectangles, all of different kinds."""
     shapes = sorted(
         ((w, h) for w in range(1, 31) for h in range(1, w + 1)),
         key=lambda shape: (shape[1], shape[0]),
@@ -227,8 +227,8 @@ def kinds() -> Iterator[Call]:
 
 
 def profiles() -> Iterator[Call]:
-    """Yields calls of `name` with seven cells in a row, which settle, under each horizon, stride
-    and limit; and with objects under each period.
+    """Yields calls of `name` with seven cells in a row under many horizons, strides and limits,
+    with a blinker that never settles, and with four known patterns under each period.
     """
     row = frozenset((x, 0) for x in range(7))
     first = next(
@@ -326,8 +326,8 @@ def fleet() -> list[Cells]:
 
 
 def spaceships() -> Iterator[Call]:
-    """Yields calls of `name` with many gliders that fly side by side, and with many that fly away
-    from an R-pentomino.
+    """Yields calls of `name` with 0 to 2,500 gliders that fly side by side, and with 0 to 304 that
+    fly away from an R-pentomino.
     """
     for count in numbers(2500):
         said = b"settled 0\n" + b"xq4_153 %d\n" % count * (count > 0)
@@ -382,8 +382,8 @@ def soups_by_number() -> Iterator[Call]:
 
 
 def codes() -> Iterator[Call]:
-    """Yields calls of `show` with codes of many bytes. All bytes except two stand for columns or
-    strips without live cells.
+    """Yields calls of `show` with codes of 2 to 10,002 bytes. All bytes except two stand for
+    columns or strips without live cells.
     """
     for length in numbers(10_002):
         if length < 2:

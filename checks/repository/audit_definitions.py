@@ -77,7 +77,7 @@ class Definition:
 
 @dataclass
 class Names:
-    """The imports of a file: names, and other names of whole modules."""
+    """The imports of a file: names, the aliases of whole modules, and re-exported names."""
 
     single: dict[str, Key] = field(default_factory=dict)
     modules: dict[str, str] = field(default_factory=dict)

@@ -3,8 +3,8 @@ places.md.
 
 A contract says what a call returns, but not that it ends soon, that it leaks nothing, or that a
 sleeping thread is woken. So these places are listed, each with a reason: loops that may not end and
-numbers of 2^32 or more, which could be the bound of a loop; the witnesses of failures that are
-made; the steps on memory that threads share, in the order of the source; the fields that a
+numbers of 2^32 or more, which could be the bound of a loop; the code that makes witnesses of
+failures; the steps on memory that threads share, in the order of the source; the fields that a
 hand-written `drop` doesn't drop; and the lines of `main`.
 """
 
