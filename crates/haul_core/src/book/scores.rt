@@ -209,7 +209,7 @@ fn put_together(scores: &mut IndexMap<Apgcode, Score>, code: &Apgcode, score: &S
     scores[index] = joined;
 }
 
-/// Makes a blank score for each code of these objects that doesn't have a score yet. If there is no memory, the scores
+/// Makes a blank score for each code of these objects that doesn't have a score yet. If memory runs out, the scores
 /// are unchanged.
 pub(crate) fn make_scores(
     alloc: Global,
