@@ -49,7 +49,7 @@ class Built:
         return self._called("is_fresh") is not None
 
     def write_stamp(self, basis: str, cpu: str) -> bool:
-        """Writes the stamp of the program, unless the basis has changed since. Returns
+        """Writes the stamp of the program, unless the basis differs from the given one. Returns
         whether the stamp was written.
         """
         return self._called('write_stamp "$(cat)" "$1"', cpu, given=basis) is not None

@@ -4,7 +4,7 @@ are proved side by side if neither is above the other.
 The crate with the longest path to the program starts first, and gets a copy of the prover for each
 processor. A crate that starts beside it gets a copy for each processor that has none yet, but at
 least one. It has a higher niceness, so it uses the processor time that the longer path leaves. A
-small crate gets fewer copies, since each copy loads the libraries.
+small crate gets fewer copies: more take more processor time, and hardly make it faster.
 """
 
 from __future__ import annotations
