@@ -1,10 +1,11 @@
 """The order in which crates are proved. Each crate comes after the crates that it uses. Two crates
 are proved side by side if neither is above the other.
 
-The crate with the longest path to the program starts first, and gets a copy of the prover for each
-processor. A crate that starts beside it gets a copy for each processor that has none yet, but at
-least one. It has a higher niceness, so it uses the processor time that the longer path leaves. A
-small crate gets fewer copies: more take more processor time, and hardly make it faster.
+The crate with the longest path to the program starts first. It gets a copy of the prover for each
+processor or, if another crate can be proved beside it, for three quarters of the processors. That
+crate gets a copy for each processor that is left, but at least one, and a higher niceness. No third
+crate starts beside these two: more copies than processors take more processor time, and hardly make
+the build faster. For the same reason, a small crate gets fewer copies.
 """
 
 from __future__ import annotations
@@ -21,6 +22,8 @@ from builder.crates import Crates
 
 # More copies need more memory and aren't faster.
 MOST_COPIES = 8
+# The most crates that are proved at the same time.
+MOST_CRATES = 2
 # The memory that each copy needs.
 COPY_KILOBYTES = 1_500_000
 # The weight per copy: a crate of twice this weight gets at most two copies.
@@ -95,17 +98,21 @@ class Schedule:
         self.weights = weights
         self.ways = crates.ways(weights)
         self.copies = copies
+        # The crates that can be proved now.
+        self.waiting: list[str] = []
         # The copies of each crate that is being proved.
         self.running: dict[str, int] = {}
 
     def share_of(self, crate: str) -> Share:
-        """Returns the share of a crate that starts now, beside the crates that are running."""
-        useful = max(1, self.weights[crate] // COPY_WEIGHT)
-        longer = [other for other in self.running if self._rank(other) < self._rank(crate)]
-        if not longer:
-            return Share(min(useful, self.copies()), 0)
+        """Returns the share of a crate that starts now, beside the crates that are running and
+        before those that are waiting.
+        """
+        useful, copies = max(1, self.weights[crate] // COPY_WEIGHT), self.copies()
+        if not any(self._rank(other) < self._rank(crate) for other in self.running):
+            is_alone = not self.running and not self.waiting
+            return Share(min(useful, copies if is_alone else copies - copies // 4), 0)
         rank = sorted(self.crates.order, key=self._rank).index(crate)
-        left = max(1, self.copies() - sum(self.running.values()))
+        left = max(1, copies - sum(self.running.values()))
         return Share(min(useful, left), min(MOST_YIELDING, 1 + rank))
 
     def _rank(self, crate: str) -> tuple[int, int]:
@@ -133,8 +140,10 @@ class Schedule:
         proved: set[str] = set()
         futures: dict[Future[None], str] = {}
         while sorter.is_active():
-            ready = self._after_kept(sorter, work, proved)
-            for crate in sorted(ready, key=self._rank):
+            self.waiting += self._after_kept(sorter, work, proved)
+            self.waiting.sort(key=self._rank)
+            while self.waiting and len(self.running) < MOST_CRATES:
+                crate = self.waiting.pop(0)
                 work.begin(crate)
                 share = self.share_of(crate)
                 futures[pool.submit(work.prove, crate, share)] = crate

@@ -20,15 +20,16 @@ from haul.formats.report_lines import LINE_LIMIT
 FIND = "find"
 # mutant: equal because the size of a read doesn't change what is printed
 BYTES_AT_A_TIME = 65_536
-# The most bytes that a program may print, and the further bytes for each soup that it takes; and
-# the most bytes that it may write to standard error, apart from progress lines and report lines.
+# A program may print at most `MOST_PRINTED` bytes, and `BYTES_OF_A_SOUP` more for each soup that it
+# takes. It may write at most `MOST_COMPLAINED` bytes to standard error, apart from progress lines
+# and report lines.
 MOST_PRINTED, BYTES_OF_A_SOUP, MOST_COMPLAINED = 2**26, 4096, 2**20
 # How long to wait at a time for a program that has closed its streams.
 SECONDS_TO_END = 0.05
 # The progress line of `census take`.
 PROGRESS = re.compile(rb"([0-9]{1,8}) of [0-9]{1,8} soups")
-# How the report lines of `census take` begin, how many of them are kept whenever there are more
-# than twice as many, and the pattern that finds the soup's number in one.
+# How a report line of `census take` begins, and the expression that finds the soup's number in it.
+# If there are more than twice `MOST_REPORTS` such lines, only `MOST_REPORTS` of them are kept.
 REPORT_BEGINS = b"report "
 MOST_REPORTS = 100_000
 REPORT_OF = re.compile(rb"report [^\n]*? soup=([0-9]{1,13}) ")
@@ -64,12 +65,12 @@ class BackgroundProgram:
     def __init__(
         self, waiter: StreamWaiter, how: str, words: list[str], stderr: int | None
     ) -> None:
-        """Starts a program with `launcher.py`. `how` is `LAUNCH_CENSUS` or `FIND`. Raises `OSError`
-        if that fails."""
+        """Starts a program with `launcher.py`, in the mode `how`: `LAUNCH_CENSUS` or `FIND`. Raises
+        `OSError` if the start fails."""
         self.waiter = waiter
         self.process = children.start(words, subprocess.PIPE, stderr, apart=how)
         self.printed, self.complained = bytearray(), bytearray()
-        # The name of the stream on which the program has written too much, or `None`.
+        # The name of the stream to which the program has written too much, or `None`.
         self.flooded: str | None = None
         # The number of streams that are still open.
         self.open = 0

@@ -14,8 +14,8 @@ from typing import Protocol, TypeVar
 
 from haul.census.starters import list_starter_words
 
-# The reasons for which starting fails if there is no program at the path, or none for this machine.
-# If starting fails for any other reason, there may be one.
+# The errors of a start if there is no program at the path, or none that this machine can run. If a
+# start fails with any other error, there may be such a program.
 NOT_THERE = (
     errno.ENOENT,
     errno.ENOTDIR,
@@ -86,8 +86,8 @@ class Children:
         stdin: int = subprocess.DEVNULL,
         apart: str | None = None,
     ) -> subprocess.Popen[bytes]:
-        """Starts a program. If `apart` is given, `launcher.py` starts it in this mode, in a session
-        of its own. Raises `OSError` if that fails."""
+        """Starts a program. If `apart` is given, it is a mode of `launcher.py`, which then runs the
+        program in a session of its own. Raises `OSError` if the start fails."""
         starter = [] if apart is None else list_starter_words(apart)
         with block_interrupts() if starter else nullcontext():
             return self.add(

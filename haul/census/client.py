@@ -27,7 +27,7 @@ FAILED = 5
 BYTES_AT_A_TIME = 2**20
 LIVE = b"O"
 
-# The part of a line of `work` that follows the job: the soup's number, and what was found.
+# The part of a report line that follows `soup=`: the soup's number, and what was found.
 REPORT = re.compile(rb"([0-9]{1,13}) ([a-z0-9_=* ]+)")
 
 Asked = TypeVar("Asked")
@@ -35,8 +35,8 @@ Said = TypeVar("Said")
 
 
 class Ended(Exception):
-    """Raised if the program ended with a status other than 0. Has the last line that the program
-    wrote to standard error."""
+    """Raised if the program failed. Has the exit status for `haul`, and a line that says what went
+    wrong."""
 
     def __init__(self, status: int, line: str) -> None:
         super().__init__(line)
@@ -84,7 +84,7 @@ class Census:
         answers in order. `done_what` is the end of the progress line."""
         parts = [asked[start : start + size] for start in range(0, len(asked), size)]
         done = 0
-        # mutant: equal because the size of a read doesn't change what is printed
+        # mutant: equal because the number of threads doesn't change what is printed
         with ThreadPoolExecutor(len(os.sched_getaffinity(0))) as pool:
             for part, said in zip(parts, ask_all(pool, ask, parts), strict=True):
                 done += len(part)

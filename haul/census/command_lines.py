@@ -40,7 +40,7 @@ def list_work_arguments(job: Job, ranges: list[Range]) -> list[str]:
 
 
 def list_name_arguments(job: Job) -> list[str]:
-    """Returns the arguments for naming what a pattern becomes. A pattern has no seed."""
+    """Returns the arguments for naming what a pattern becomes. The job's seed isn't used."""
     return ["name", *list_pattern_options(job)]
 
 
@@ -55,8 +55,8 @@ def list_coordinates_arguments(rule: str, generations: int) -> list[str]:
 
 
 def list_sizes_arguments(rule: str, first: int, last: int) -> list[str]:
-    """Returns the arguments for the sizes of a pattern, from generation `first` to generation
-    `last`."""
+    """Returns the arguments for the population and the bounding box of a pattern in each generation
+    from `first` to `last`."""
     return ["run", f"--rule={rule}", f"--sizes={first}", str(last)]
 
 

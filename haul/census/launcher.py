@@ -3,7 +3,7 @@ its own, whose text `haul` passes to Python.
 
 usage: python3 -I -S -c TEXT HOW PARENT PROGRAM [ARGUMENT ..]
 
-It runs in its own session. PARENT is the process that started it. HOW is one of:
+The launcher runs in its own session. PARENT is the process that started it. HOW is one of:
 
     census    runs PROGRAM, and ends in the same way
     find      runs PROGRAM with standard input and output closed, and prints `done` or what went
@@ -25,8 +25,8 @@ SIGKILL = 9
 PR_SET_PDEATHSIG = 1
 # With this option, orphaned descendants of the process become its children.
 PR_SET_CHILD_SUBREAPER = 36
-# The reasons for which a program can't be started if there is none at the path. FAILED is the
-# status for any other reason.
+# The system's messages if a program can't be started because there is none at the path. After any
+# other message, the exit status is `FAILED`.
 NOT_THERE = (
     "No such file or directory",
     "Not a directory",
@@ -41,7 +41,7 @@ DONE = "done"
 
 def drop_interrupts() -> None:
     """Drops a Ctrl-C that came before this process was in its own session, and lets later ones
-    through. `haul` blocks the signal until then."""
+    through. `haul` blocked the signal before it started this process."""
     # This is `signal` without its enums, which take long to import. mypy doesn't know it.
     import _signal  # type: ignore[import]
 
@@ -95,7 +95,8 @@ def run_find(parent: int, words: list[str]) -> None:
 def run_program(parent: int, words: list[str], closes_streams: bool) -> tuple[int, str]:
     """Runs a program to its end, then ends all processes that it has left, even those in sessions
     of their own. Returns the program's exit status (below 0 for a signal), and the reason if it
-    can't be started. If the parent ends or SIGTERM is received, ends together with all of them."""
+    can't be started. If the parent ends, or if this process receives SIGTERM, kills the program,
+    the processes that it has started, and this process."""
     import _signal
 
     # Orphaned processes of the program become children of this one.

@@ -21,7 +21,7 @@ pub record Command : Type 0 where
   pub name : Text
   pub parameters : List Entry
 
--- the argument is written with `--` and its name, not by its position
+-- the argument is given by its name, as `--name`, and not by its position
 abbrev pub is_named : Place → Bool
 is_named place.Position = false
 is_named (place.Named shown) = true
@@ -49,11 +49,11 @@ position name kind = record { name = name; is_named = false; kind = kind; defaul
 abbrev pub option : Text → ValueKind → Text → Entry
 option name kind default = record { name = name; is_named = true; kind = kind; default = Some default }
 
--- `--name`, which must be given
+-- `--name`, which must be given: it has no default, and its kind isn't `OptionalNumber`
 abbrev pub required : Text → ValueKind → Entry
 required name kind = record { name = name; is_named = true; kind = kind; default = None }
 
--- `--name`, which may be left out
+-- `--name`, which may be left out: it has no default, but its kind is `OptionalNumber`
 abbrev pub optional : Text → ValueKind → Entry
 optional name kind = record { name = name; is_named = true; kind = kind; default = None }
 

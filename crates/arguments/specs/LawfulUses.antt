@@ -1,4 +1,4 @@
--- Which arguments, with which values, a command takes, and which it refuses.
+-- The arguments and values that a command takes, and those that it refuses.
 use Rattle.std.specs.Prelude.{◌≡◌, ◌⊎◌, ◌≤◌, ◌&&◌, ℕ, Bool, false, true, not, List, [], ◌∷◌, Option, Some, ⊤, codes, is_some, slice_get}
 use Rattle.std.specs.List.{list_any}
 use Rattle.std.specs.Str.{bytes_eq, chars}
@@ -21,14 +21,14 @@ pub record IsNumberFromTo (least most : ℕ) (text : Text) : Type 0 where
   pub low : least ≤ digits_value 10 text
   pub high : digits_value 10 text ≤ most
 
--- the value is allowed for an argument of this kind; for a flag, it is `true`
+-- the value is allowed for an argument of this kind; the only value of a flag is `true`
 abbrev pub IsOfKind : ValueKind → Text → Type 0
 IsOfKind (kind.Number least most) value = IsNumberFromTo least most value
 IsOfKind (kind.OptionalNumber least most) value = IsNumberFromTo least most value
 IsOfKind kind.Flag value = value ≡ codes "true"
 IsOfKind kind.Text value = ⊤
 
--- an argument of the command, in an allowed form and with a value that it takes
+-- an argument of the command, in an allowed form and with an allowed value
 pub record IsUse (command : Command) (u : Use) : Type 0 where
   pub parameter : IsIn (entry_in u) command.parameters
   pub stands : Stands u
@@ -79,7 +79,7 @@ pub record IsShort (argument : Text) : Type 0 where
   pub is_short : short_of argument ≡ Some letters
   pub first : slice_get (chars letters) 0 ≡ Some letter
 
--- `--name` or `--name=VALUE`, where the name is neither that of an option of the command nor `help`
+-- `--name` or `--name=VALUE`, where `name` isn't an option of the command and isn't `help`
 pub record IsUnknown (command : Command) (argument : Text) : Type 0 where
   pub name : Text
   pub value : Option Text

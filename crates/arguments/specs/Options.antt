@@ -3,7 +3,7 @@ use Rattle.std.specs.Prelude.{◌-◌, ◌^◌, ℕ, [], codes}
 use Rattle.arguments.specs.declared.options.ValueKind.TheVariants as kind
 use Rattle.arguments.specs.Entries.{Entry, flag, option, optional, position, required}
 
--- the most workers that a haul may have, and so the highest number of a worker
+-- the most workers that a haul may have, and so the highest number that a worker may have
 abbrev pub most_workers : ℕ
 most_workers = 16
 

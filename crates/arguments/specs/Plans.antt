@@ -1,4 +1,4 @@
--- Plans: the soups to survey and how, put together from the values that were found for the arguments.
+-- Plans (which soups to survey, and how), made from the values that were found for the arguments.
 use Rattle.std.specs.Prelude.{ℕ, List, Option, None, Some}
 use Rattle.clap.specs.Words.{Row, Text}
 use Rattle.requests.specs.declared.plan.Plan.{Plan}

@@ -17,7 +17,7 @@ pub record IsUsageText (text : List ℕ) : Type 0 where
   pub some : 0 < length prefix
   pub ended : text ≡ prefix ++ codes "\n"
 
--- the reason has a usage text, or is that memory ran out
+-- the reason is a usage text, or an error that says that memory ran out
 abbrev pub SaysWhy : Unasked → Type 0
 SaysWhy (Usage text) = IsUsageText (string_bytes text)
 SaysWhy (Unread error) = kind_of error ≡ OutOfMemory

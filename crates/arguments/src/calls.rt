@@ -149,8 +149,8 @@ fn request_named<'a>(name: &str, found: &ArgMatches<'a>) -> Option<Request<'a>>
     }
 }
 
-/// Returns [`Unasked::Usage`] with the text of `clap`'s error. If memory ran out before, or runs out for the text,
-/// returns the error that says so.
+/// Returns [`Unasked::Unread`] if memory ran out while `clap` read the arguments. Otherwise returns [`Unasked::Usage`]
+/// with the text of `clap`'s error, or [`Unasked::Memory`] if memory runs out for this text.
 fn unasked_by(alloc: Global, error: clap::Error) -> Unasked
     ensures usage { IsUsage result → kind_of error ≢ ErrorKind.OutOfMemory }
     ensures why { SaysWhy result }

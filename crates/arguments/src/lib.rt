@@ -6,12 +6,12 @@
 //!          `--------------------->  reading  ->  Request
 //! ```
 //!
-//! This crate knows nothing about Life: a rule, a seed or a code is a text here that hasn't been parsed yet.
+//! This crate knows nothing about Life. It takes a rule, a seed or a code as a text and doesn't parse the text.
 #![tactic(auto)]
 
 /// The commands and their arguments, as `clap` knows them.
 pub mod application;
-/// From the arguments of a call to its request, or to an error.
+/// Reads the arguments of a call, and returns a request or an error.
 pub mod calls;
 /// The table of commands.
 pub mod commands;

@@ -2,7 +2,7 @@
 //! rows of each command.
 //!
 //! How `clap` reads arguments, what a request takes from them, and the laws about arguments all come from these rows. A
-//! new option is one more row in the lists of the commands that have it.
+//! new option is one more row here, and each command that has the option lists the row.
 
 /// The kind of value that an argument has.
 #[derive(Clone, Copy)]
@@ -22,8 +22,8 @@ pub enum ValueKind {
 pub enum Place {
     /// By itself: the first argument that isn't an option.
     Position,
-    /// After `--` and the argument's name. The value is the next argument, or follows `=`. Help shows this word in
-    /// place of the value. For a flag, which has no value, the word is empty.
+    /// After `--` and the argument's name. The value is the next argument, or follows `=`. The field is the word that
+    /// help shows in place of the value. For a flag, which has no value, the word is empty.
     Named(&'static str),
 }
 
@@ -214,7 +214,7 @@ pub const WORKERS: Parameter = Parameter {
          is the same for any number",
 };
 
-/// The highest number of a worker whose report lines `gather` takes.
+/// The highest number that a worker may have: `gather` takes the report lines of workers 1 to this number.
 pub const REPORTERS: Parameter = Parameter {
     name: "workers",
     place: Place::Named("WORKERS"),

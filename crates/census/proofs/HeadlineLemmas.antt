@@ -1,4 +1,4 @@
--- Proves the headline, from what the arguments ask for and what was done.
+-- Proves the headline: a call of `take`, `name` or `gather` that was done has printed what its arguments ask for.
 use Rattle.std.proofs.Common.{◌≡◌, ◌∙◌, ◌↔◌, suc, arith, ◌^◌, ℕ, Bool, true, false, List, Option, None, Some, Result, Ok, Err, IsSomeAnd, ap, length, nat_le, nat_lt, refl, subst, sym}
 use Rattle.std.specs.Prelude.{IsOkAnd, if◌then◌else◌, position}
 use Rattle.std.specs.Result.{result_map_both}
@@ -195,7 +195,7 @@ name_prints arguments reader before after errors missing done uses call =
 
 -- ---- what `gather` printed
 
--- if what `gather` made is of correct lines, its census is that of those soups of the call that have a correct line
+-- if `IsOfCorrectLines` holds for what `gather` made, its census is over the soups of the call with a correct line
 gathered_of : (uses : List Use) (bytes : List ℕ) (made : Made) (code : ℕ)
     → (lines : IsOfCorrectLines (plan_given uses) (number_given table.workers uses) bytes made) → (code ≡ 0) ↔ (made.missing ≡ 0)
     → IsCensusOfLines uses bytes code lines.tells.census

@@ -37,7 +37,7 @@ pub record IsCall (command : Command) (uses : List Use) (arguments : List Text) 
   pub permitted : AreUses command uses
   pub complete : lacks_some command uses ≡ false
 
--- the text is that of the rule, such as b3s23
+-- the text spells the rule, as b3s23 spells Life
 pub record IsRuleOf (text : List ℕ) (rule : Numbers) : Type 0 where
   pub complete : IsRule rule
   pub spelled : rule_text rule ≡ text
@@ -55,7 +55,7 @@ pub record AreSoupsOf (uses : List Use) (ranges : List Range) : Type 0 where
   pub spelled : list_text listed ≡ text_given also uses
   pub all : ranges ≡ listed ++ record { first = number_given first uses; count = number_given count uses } ∷ []
 
--- the census of a call: for its job, over all of its soups, each once
+-- the census of a call: the census for the call's job over all soups of the call, each counted once
 pub record IsCensusOfCall (uses : List Use) (census : Census) : Type 0 where
   pub job : Job
   pub job_is : IsJobOf uses job

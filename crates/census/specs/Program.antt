@@ -17,8 +17,8 @@ use Rattle.census.specs.Requests.{DoesArguments, right_for}
 abbrev pub not_text_line : List ℕ
 not_text_line = codes "census: the words are not UTF-8\n"
 
--- the bytes of a writer after the program; if there was no memory for its buffer, the writer isn't returned and its
--- bytes are unchanged
+-- the bytes of a writer after the program has ended; if there was no memory for the writer's buffer, the writer isn't
+-- returned and its bytes are unchanged
 abbrev pub left_by : {V : Type 0} → (V → Option (List ℕ)) → V → Option V → Option (List ℕ)
 left_by contents old None = contents old
 left_by contents old (Some new) = contents new
@@ -59,8 +59,8 @@ pub record HasWriteFailedLine (diagnostics errors : Stream) : Type 0 where
   pub line : diagnostics.failed ≡ false → HasLine (since diagnostics errors) write_failed_line
   pub stays : diagnostics.failed ≡ true → errors.failed ≡ true
 
--- the command ended with a complaint, whose exit code is that of the program; or the command printed its text, but
--- flushing the text failed
+-- the command ended with a complaint, and the program has the complaint's exit code; or the command printed its text,
+-- but flushing the text failed
 abbrev pub EndsBadly : Status → ℕ → Stream → Stream → Type 0
 EndsBadly status number diagnostics errors =
     ((has_printed status ≡ false) × (number ≡ exit_code status) × (errors ≡ diagnostics))

@@ -5,7 +5,7 @@ use Rattle.arguments.specs.Requests.{Text, asked_by}
 use Rattle.census.specs.Program.{Complains, IsDone, left_by}
 use Rattle.census.specs.Requests.{TellsUsage, is_whole, reads_input, refuses_input, writes_lines}
 
--- What is left unchanged, by the exit code. `input` says that the reader is unchanged, `output` that the writer of
+-- What is left unchanged, for each exit code. `input` says that the reader is unchanged, `output` that the writer of
 -- standard output is unchanged, and `unprinted` that this writer is unchanged if it is returned.
 pub record LeavesAlone (arguments : List Text) (code : ℕ) (errors : Stream) (input output unprinted : Type 0) : Type 0 where
   -- code 2: the arguments ask for nothing
@@ -33,7 +33,7 @@ pub record ProgramEnds {V : Type 0} (contents : V → Option (List ℕ)) (argume
   pub silent : code ≡ 0 → IfSome (asked_by arguments) (λ request. writes_lines request ≡ false → Has errors [])
   -- code 6: what the arguments ask for was done, except that soups are missing
   pub incomplete : code ≡ 6 → IsSomeAnd back (λ writer. (less : ℕ) × IsDone arguments reader (contents given) (contents writer) errors (suc less))
-  -- any code except 0, 2 and 6: the complaint that ended the command, with its line
+  -- any code except 0, 2 and 6: the program ended with a complaint
   pub complains : code ≢ 0 → code ≢ 2 → code ≢ 6 → Complains arguments reader code (contents given) (left_by contents given back) errors
   -- any code: what is left unchanged
   pub leaves : LeavesAlone arguments code errors input (back ≡ Some given) (IfSome back (λ writer. writer ≡ given))

@@ -80,17 +80,17 @@ is_over_sets request = false
 abbrev pub right_for : Request → List ℕ → Makes
 right_for request = (behaviour_of request).right
 
--- What a request leaves unchanged. `input` says that the reader is unchanged: this holds if the command doesn't read
--- its input, and after a refusal if the command can't refuse its input. `output` says that standard output is
--- unchanged: this holds after a refusal, and if memory ran out and the text is complete before its first byte is
--- written.
+-- What a request leaves unchanged. `input` says that the reader is unchanged, and `output` that standard output is. The
+-- reader is unchanged if the command doesn't read its input, or if it refused something but can't refuse its input.
+-- Standard output is unchanged after a refusal. If memory ran out, it is unchanged for a command whose text is complete
+-- before its first byte is written.
 pub record Spares (request : Request) (status : Status) (input output : Type 0) : Type 0 where
   pub unread : reads_input request ≡ false → input
   pub unread_refused : status ≡ Refused → refuses_input request ≡ false → input
   pub untouched : status ≡ Refused → output
   pub no_memory : status ≡ Memory → is_whole request ≡ true → output
 
--- the command of a request has ended as its behaviour allows for the input
+-- on the input of `reader`, the command of a request has ended in a way that its behaviour allows
 pub record DoesRequest (reader : Option (List ℕ)) (status : Status) (output errors : Stream) (request : Request) : Type 0 where
   pub bytes : List ℕ
   pub input : IsInput reader bytes

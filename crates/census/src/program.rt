@@ -1,4 +1,4 @@
-//! From the arguments of the process to its output and its exit code.
+//! Runs the program: from the arguments of the process to its output and its exit code.
 //!
 //! ```text
 //! arguments ── do_arguments ── buffer ── send_buffered ── standard output
@@ -89,8 +89,8 @@ pub fn run_program<
     // With code 2, a text on standard error says why, whatever the arguments are.
     ensures tells_usage { result.code ≡ 2 → TellsUsage (stream E.contents machine.old.errors machine.new.errors) }
 
-    // If the arguments couldn't be read, the code is 4 if memory ran out, and otherwise 2: they aren't UTF-8. Nothing
-    // was read from the input or written to the output.
+    // If the arguments couldn't be read, the code is 4 if memory ran out, and otherwise 2, because they aren't UTF-8.
+    // Nothing was read from the input or written to the output.
     ensures not_text { IfErr arguments (λ error. error_kind error ≢ ErrorKind.OutOfMemory → (result.code ≡ 2)
         × HasLine (stream E.contents machine.old.errors machine.new.errors) not_text_line) }
     ensures no_memory { IfErr arguments (λ error. error_kind error ≡ ErrorKind.OutOfMemory → (result.code ≡ 4)
@@ -117,7 +117,7 @@ pub fn run_program<
 }
 
 /// Does what `arguments` ask for, and writes to `output` through a buffer. Only the version, which takes no memory, is
-/// written without the buffer. Returns the status, and `output`, or `None` in its place if there was no memory for the
+/// written without the buffer. Returns the status and `output`, or the status and `None` if there was no memory for the
 /// buffer.
 fn do_buffered<T: Threads + Wait + Sync, R: Read, W: Write + Drop, E: Write, P: Write, C: Clock>(
     machine: &mut Machine<'_, T, E, ProgressLine<P, C>>,

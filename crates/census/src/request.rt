@@ -1,4 +1,4 @@
-//! From the arguments of a call to the command that they ask for.
+//! Runs the command that the arguments of a call ask for.
 //!
 //! ```text
 //! arguments ── request_of ──┬─ request ── do_request ──┬─ take, work, gather
@@ -107,7 +107,7 @@ fn end_without_memory<E: Write>(error: &clap::Error, errors: &mut Out<E>) -> Sta
 ///
 /// Each number of the request has to be in its range, and no earlier write to either writer may have failed. Nothing of
 /// the input is read if the request doesn't need it, or if its rule, profile, seed or set is refused. The machine's
-/// observer receives the progress, and nothing else depends on it.
+/// observer receives the progress, and nothing else depends on the observer.
 ///
 /// # Errors
 ///

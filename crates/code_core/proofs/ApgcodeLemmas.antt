@@ -1,4 +1,4 @@
--- What is read from an apgcode, and that apgcodes have their shape: how long they are, and which bytes they have.
+-- Proves which kind and number are read from an apgcode, and that an apgcode has the shape `HasCodeShape`.
 use Rattle.std.proofs.Common.{◌≡◌, ◌∙◌, ap, refl, ℕ, ◌+◌, ◌<◌, ◌≤◌, ◌^◌, Bool, true, List, [], ◌∷◌, ◌++◌, length, Option, None, Some, take_while}
 use Rattle.std.proofs.Common.{decimal, arith}
 use Rattle.std.specs.Prelude.{IfSome}
@@ -26,7 +26,7 @@ kind_of_name Oscillator number (Some t) = refl
 kind_of_name Ship number None = refl
 kind_of_name Ship number (Some t) = refl
 
--- the digits with which a text begins are those before the first byte that isn't a digit
+-- if digits are followed by a remainder that doesn't begin with a digit, exactly these digits are read
 digits_in_prefix : (ds remainder : List ℕ) → AllDigits 10 ds → take_while is_digit remainder ≡ [] → take_while is_digit (ds ++ remainder) ≡ ds
 digits_in_prefix [] remainder all end = end
 digits_in_prefix (d ∷ ds) remainder all end =
@@ -54,17 +54,17 @@ after_letter Oscillator number (Some t) = refl
 after_letter Ship number None = refl
 after_letter Ship number (Some t) = refl
 
--- the number that is read from an apgcode is the number that it was made with, if that is below 2^64
+-- the number that is read from an apgcode is the number that it was made with, if this number is below 2^64
 pub number_of_name : (kind : Kind) (number : ℕ) (text : Option (List ℕ)) → number < 2 ^ 64 → number_in (code_text kind number text) ≡ number
 number_of_name kind number text low = after_letter kind number text ∙ number_in_prefix number (ending text) low (no_digits text)
 
--- ---- the shape of a name
+-- ---- the shape of an apgcode
 
--- if all bytes of two texts pass a test, so do all bytes of the two joined
+-- if all bytes of two texts pass a test, all bytes of the joined text pass the test
 all_on : (p : ℕ → Bool) (xs ys : List ℕ) → list_all p xs ≡ true → list_all p ys ≡ true → list_all p (xs ++ ys) ≡ true
 all_on p xs ys h k = list_all-append p xs ys ∙ and_from _ _ h k
 
--- digits, and the characters of a text, are bytes that a name may have
+-- digits and the characters of a text are bytes that an apgcode may have
 digit_byte : (b : ℕ) → 48 ≤ b → b ≤ 57 → is_code_byte b ≡ true
 unfolding is_character
 digit_byte b low high = rw (le-leb 48 b low, le-leb b 57 high) refl
@@ -79,7 +79,7 @@ character_bytes (b ∷ bs) all =
     let parts = and_parts (is_character b) (list_all is_character bs) all in
     and_from _ _ (rw parts.0 refl) (character_bytes bs parts.1)
 
--- the end of a name (which has the text), its opening and its letter are short and have bytes that a name may have
+-- the ending (with the text), the opening and the letter are short, and have only bytes that an apgcode may have
 ending_bytes : (text : Option (List ℕ)) → IfSome text HasTextShape → list_all is_code_byte (ending text) ≡ true
 unfolding is_character
 ending_bytes None shape = refl
@@ -109,7 +109,7 @@ letter_length Still = refl
 letter_length Oscillator = refl
 letter_length Ship = refl
 
--- a name whose text has the shape of texts has the shape of names
+-- if the number is below 2^64, and the text has the shape `HasTextShape`, the apgcode has the shape `HasCodeShape`
 pub shape_of_name : (kind : Kind) (number : ℕ) (text : Option (List ℕ)) → number < 2 ^ 64 → IfSome text HasTextShape → HasCodeShape (code_text kind number text)
 unfolding code_text
 shape_of_name kind number text low shape =
@@ -127,7 +127,7 @@ shape_of_name kind number text low shape =
           (all_on is_code_byte digits (ending text) (digit_bytes digits (decimal_is_IsNumeral number low).0.1) (ending_bytes text shape)));
     }
 
--- the kind and the number of a name can be read from it, and it has the shape of names
+-- the kind and the number of an apgcode can be read from it, and it has the shape `HasCodeShape`
 pub says_name : (kind : Kind) (number : ℕ) (text : Option (List ℕ)) (code : List ℕ) → number < 2 ^ 64 → IfSome text HasTextShape
     → code ≡ code_text kind number text → (kind_in code ≡ kind) × (number_in code ≡ number) × HasCodeShape code
 says_name kind number text code low shape is =

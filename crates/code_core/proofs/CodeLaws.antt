@@ -1,4 +1,4 @@
--- The laws of names: a pattern has only one name, and names have their shape.
+-- The laws of apgcodes: a pattern that isn't empty has at most one, and each apgcode has the shape `HasCodeShape`.
 use Rattle.std.proofs.Common.{◌≡◌, ◌≢◌, ◌∙◌, sym, ap, refl, subst, ℕ, ℤ, ◌+ℤ◌, ◌<◌, ◌≤◌, List, [], ◌∷◌, length, Option, None, Some, arith, inl, inr}
 use Rattle.std.proofs.Common.{Ordering, Less, Equal, Greater, nat_cmp}
 use Rattle.std.proofs.lemmas.Int.{ints}
@@ -33,7 +33,7 @@ texts_tie a b e = slice_cmp-IsAntisymmetric nat_cmp-IsAntisymmetric a b (second_
     second_ties Equal q e = e
     second_ties Greater q e = cc
 
--- two texts, neither of which comes after the other, tie
+-- two texts tie if neither comes after the other
 text_cmp-tie : (a b : List ℕ) → text_cmp a b ≢ Greater → text_cmp b a ≢ Greater → text_cmp a b ≡ Equal
 text_cmp-tie a b one other = go (text_cmp a b) refl
   where
@@ -71,7 +71,7 @@ recurs_once rule cells limit q r some one other =
     not_less : (a b : ℕ) → (a < b → ⊥) → b ≤ a
     not_less a b never = elim (le_or_lt b a) [ inl low ↦ low | inr less ↦ absurd (never less) ]
 
--- so the name of a nonempty pattern is unique
+-- so the apgcode of a nonempty pattern is unique
 pub codes_are_determined : CodesAreDetermined
 codes_are_determined rule cells limit one other some h k =
     let recurrence : h.recurrence ≡ k.recurrence = recurs_once rule cells limit h.recurrence k.recurrence some h.recurs k.recurs in
@@ -80,7 +80,7 @@ codes_are_determined rule cells limit one other some h k =
     let least : h.least ≡ k.least = least_is_one (IsImageText rule cells h.recurrence.period) h.least k.least h.is_least is_least in
     h.spelled ∙ (λ i. code_text (kind_of (recurrence i)) (number_of (kind_of (recurrence i)) cells (recurrence i)) (least i)) ∙ sym k.spelled
 
--- ---- the shape of a name
+-- ---- the shape of an apgcode
 
 image_shape : (rule : Numbers) (cells : List Cell) (period : ℕ) (least : Option (List ℕ)) → IsLeastOf (IsImageText rule cells period) least
     → IfSome least HasTextShape

@@ -29,7 +29,7 @@ use Rattle.code_core.proofs.ImageLemmas.{and_swap, at_corner-again, box_at_corne
 
 -- ---- the box of an image
 
--- the box of the turned cells of a pattern with this box
+-- the box of a pattern's turned cells, if the pattern has this box
 abbrev turned_box : Orientation → Bounds → Bounds
 turned_box Same b = b
 turned_box Quarter b = record { left = neg_ℤ b.bottom; top = b.left; right = neg_ℤ b.top; bottom = b.right }
@@ -201,7 +201,7 @@ corner-turned AntiDiagonal b wide high = λ i. record {
   bottom = backward b.left b.right wide i;
 }
 
--- the left side of a box isn't right of its right side, and the top isn't below the bottom
+-- the left side of a box is at most the right side, and the top is at most the bottom
 sides : (cs : List Cell) (b : Bounds) → box_of cs ≡ Some b → (b.left ≤ℤ b.right) × (b.top ≤ℤ b.bottom)
 sides [] b is = absurd cc
 sides (c ∷ cs) b is = between (within-box_of (c ∷ cs) b is).0
@@ -331,7 +331,7 @@ image_shown o b rows cs k is all shown r i low near =
 from_zero : (n : ℕ) → distance (pos 0) (pos n) ≡ n
 from_zero n = omega (arith, ints)
 
--- whether a box at the corner is small doesn't change if columns and rows are exchanged
+-- if columns and rows are exchanged, a small box at the corner stays small, and a large one stays large
 fits_to : (m n : ℕ) → fits_forty_square (record { left = pos 0; top = pos 0; right = pos m; bottom = pos n })
     ≡ fits_forty_square (record { left = pos 0; top = pos 0; right = pos n; bottom = pos m })
 fits_to m n = and_swap (nat_lt (distance (pos 0) (pos m)) 40) (nat_lt (distance (pos 0) (pos n)) 40)
@@ -353,7 +353,7 @@ fits-image Flip b = fits_same b
 fits-image Diagonal b = fits_to (distance b.top b.bottom) (distance b.left b.right) ∙ fits_same b
 fits-image AntiDiagonal b = fits_to (distance b.top b.bottom) (distance b.left b.right) ∙ fits_same b
 
--- the text that spells the tokens of a pattern at the corner, whose box has the size of this box
+-- the text that spells the tokens of a pattern at the corner; the pattern's box has the size of this box
 abbrev pub spelled_in : List Cell → Bounds → List ℕ
 spelled_in cells b = flat_map spelling (tokens_of cells (distance b.left b.right) (distance b.top b.bottom))
 

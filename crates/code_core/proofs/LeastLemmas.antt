@@ -98,7 +98,8 @@ first_of_two P Q R (Some a) (Some b) left right split p q = go (text_cmp a b) re
     go Equal is = stays (λ e. cc)
     go Greater is = changes is
 
--- the least text of n + 1 groups is the earlier of the least text of the first n groups and that of the last group
+-- the least text of n + 1 groups is the earlier of two texts: the least text of the first n groups, and the least text
+-- of the last group
 pub least_of_more : (IsIn : ℕ → List ℕ → Type 0) (n : ℕ) (a b : Option (List ℕ)) → IsLeastOf (Among IsIn n) a → IsLeastOf (IsIn n) b
     → IsLeastOf (Among IsIn (n + 1)) (earlier_text a b)
 least_of_more IsIn n a b p q = first_of_two (Among IsIn n) (IsIn n) (Among IsIn (n + 1)) a b (λ t one. (one.0, omega (arith, one.1), one.2))

@@ -88,7 +88,7 @@ text-unshifted dx dy rule cells period t order h =
     subst (λ (S : List Cell). IsImageText rule S period t) (shifted-back dx dy cells)
     (text-shifted (neg_ℤ dx) (neg_ℤ dy) rule (shifted dx dy cells) period t (in_order-shifted dx dy cells order) h)
 
--- the number in a name depends on the cells only by their population
+-- the number in a name is the same for two patterns with the same kind, recurrence and population
 pub number-same : (kind : Kind) (S T : List Cell) (r : Recurrence) → length S ≡ length T → number_of kind S r ≡ number_of kind T r
 number-same Still S T r is = is
 number-same Oscillator S T r is = refl

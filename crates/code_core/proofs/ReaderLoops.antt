@@ -1,4 +1,4 @@
--- What the loops of the reader have done when they have come to a remainder of the text.
+-- The invariants of the two loops that go through a text token by token, and their consequences when a loop ends.
 use Rattle.std.proofs.Common.{◌≡◌, ◌<◌, ◌≤◌, ◌+◌, ◌-◌, ◌*◌, ℕ, Bool, true, false, ◌||◌, List, [], ◌∷◌, ◌++◌, length, refl, sym, ◌∙◌, ap, arith}
 use Rattle.std.proofs.Common.{append_assoc, append-nil, length-append, Some, None, Result, Ok, Err}
 use Rattle.std.specs.List.{All, list_all, list_any, flat_map}
@@ -68,7 +68,8 @@ Passed_fault text remainder has_cell fault p stuck e =
     rw (tokens_at-stops p.tokens remainder text 0 (length text - length remainder) fault p.each p.whole at
     (tokens_at-stuck (length text - length remainder) remainder fault stuck e)) refl
 
--- if the remainder has no fault, it is empty; then the tokens spell the text, and `has_cell` says whether it has a cell
+-- if there is no fault at the remainder, the remainder is empty; then the tokens spell the whole text, and `has_cell`
+-- says whether the pattern of the text has a live cell
 fault_at-none : (place : ℕ) (remainder : List ℕ) → fault_without_token place remainder ≡ None → remainder ≡ []
 fault_at-none place [] e = refl
 fault_at-none place (b ∷ remainder) e = absurd (cc)
@@ -86,7 +87,7 @@ pub Passed_cells : (text remainder : List ℕ) (has_cell : Bool) (place : ℕ) �
     → result_err (wechsler_pattern text) ≡ None
 Passed_cells text remainder has_cell place p e some = rw (Passed_spells text remainder has_cell place p e, unless_empty-some p.tokens p.each (sym p.columns ∙ some)) refl
 
--- a token that begins a text is the first of the tokens that spell the text
+-- if a text begins with a token, the tokens that spell the text are this token, then tokens that spell the remainder
 pub record TokensAfter (token : Token) (after : List ℕ) (tokens : List Token) : Type 0 where
   pub more : List Token
   pub spells : Spells more after

@@ -36,7 +36,7 @@ short-read text cells e = go (nat_lt 10000 (length text)) refl
     go true h = absurd (let k = rw h at e in cc)
     go false h = grind (arith, nat_tests)
 
--- a text that is read as a pattern says this pattern
+-- a text that is read as a pattern describes this pattern (`Says`)
 Says-pattern_of : (text : List ℕ) (r : Result (List Token) WechslerFault) (cells : List Cell) → tokens_at 0 text ≡ r → pattern_of_tokens r ≡ Ok cells → Says text cells
 Says-pattern_of text (Ok tokens) cells t e = record { tokens = tokens; spells = Spells-tokens_at tokens text 0 t; pattern = go (token_cells tokens) refl e }
   where
@@ -48,7 +48,7 @@ Says-pattern_of text (Err fault) cells t e = absurd (cc)
 pub Says-read : (text : List ℕ) (cells : List Cell) → wechsler_read text ≡ Ok cells → Says text cells
 Says-read text cells e = Says-pattern_of text (tokens_at 0 text) cells refl (sym (read-short text (short-read text cells e)) ∙ e)
 
--- a nonempty pattern that a short text says is read from the text
+-- if a text of at most 10,000 bytes describes a nonempty pattern, the text is read as this pattern
 unless_empty-some : (cells : List Cell) → cells ≢ [] → unless_empty cells ≡ Ok cells
 unless_empty-some [] some = absurd (some refl)
 unless_empty-some (c ∷ cells) some = refl
@@ -78,7 +78,7 @@ too_long text = (λ e. go (nat_lt 10000 (length text)) refl e, λ h. read-long t
     go false h e = let other : TooLong ≢ Empty = λ k. cc in absurd
         (tokens_at-other text TooLong (λ o. o) (pattern_of-err (tokens_at 0 text) TooLong other (rw h at e)))
 
--- a short text is read as the fault `Empty` if and only if it says the empty pattern
+-- a text of at most 10,000 bytes has the fault `Empty` if and only if it describes the empty pattern
 pub no_cell : (text : List ℕ) → length text ≤ 10000 → (wechsler_read text ≡ Err Empty) ↔ Says text []
 no_cell text short = (
   λ e. there (tokens_at 0 text) refl (sym (read-short text short) ∙ e),
@@ -95,9 +95,9 @@ no_cell text short = (
     there (Err fault) t e = let k : fault ≡ Empty = cc in let f : tokens_at 0 text ≡ Err Empty = t ∙ ap (λ (g : WechslerFault). Err g) k in
         absurd (tokens_at-other text Empty (λ o. o) f)
 
--- For the two faults that have a place: tokens spell the text up to the place, and a faulty remainder begins there
--- (`Stops`), if and only if the bytes at the place are as the definition of the fault says (`IsBadByte`, `IsShortRun`).
--- This is also when reading finds the fault.
+-- The two faults that have a place: `Stops` says that tokens spell the text up to the place and that a faulty remainder
+-- begins there. This is equivalent to the definition of the fault (`IsBadByte` or `IsShortRun`), and reading finds the
+-- fault at the place exactly when the definition holds.
 IsBadByte-Stops : (text : List ℕ) (place : ℕ) → Stops IsBad 0 text place → IsBadByte text place
 IsBadByte-Stops text place s = go s.remainder s.whole s.so
   where
@@ -177,7 +177,8 @@ short_run text place short =
       λ s. read-short text short ∙ rw (tokens_at-Stops_short text 0 place (Stops-IsShortRun text place s)) refl,
     )
 
--- if a result has a fault exactly if reading finds it, a law about when reading finds it is a law about the result
+-- if a result has the fault exactly when reading finds the fault, and reading finds it exactly when P holds, then the
+-- result has the fault exactly when P holds
 pub told : (P : Type 0) (text : List ℕ) (r : Result (List Cell) WechslerError) (fault : WechslerFault)
     → (IsErrOf r (Fault fault) ↔ (wechsler_read text ≡ Err fault)) → (wechsler_read text ≡ Err fault) ↔ P → IsErrOf r (Fault fault) ↔ P
 told P text r fault f law = (λ e. law.0 (f.0 e), λ p. f.1 (law.1 p))

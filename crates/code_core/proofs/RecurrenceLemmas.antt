@@ -45,7 +45,8 @@ pub inside-more : (rule : Numbers) (cells : List Cell) (n : ℕ) (before : List 
     → (g : ℕ) → g < n + 1 → touches_edge (after rule cells g) ≡ false
 inside-more rule cells n before latest h off = below_more _ _ h.inside (ap touches_edge (sym h.latest) ∙ off)
 
--- the search goes on with the next generation if this isn't the pattern again, and the latest doesn't touch the edge
+-- the search goes on with the next generation if the latest one doesn't touch the edge and the next one isn't the
+-- pattern again
 pub follows-more : (rule : Numbers) (cells : List Cell) (n : ℕ) (before : List (List Cell)) (latest later : List Cell) → Follows rule cells n before latest
     → touches_edge latest ≡ false → later ≡ next rule latest → ((dx dy : ℤ) → shifted dx dy cells ≢ later)
     → Follows rule cells (n + 1) (before ++ latest ∷ []) later
@@ -65,7 +66,8 @@ follows-more rule cells n before latest later h off next_is other = record {
       | inr less ↦ h.new p dx dy some (omega arith) back
     ]
 
--- if the next generation is the pattern again, displaced, the pattern recurs with this period and this displacement
+-- if the next generation, n + 1, is the pattern moved by (dx, dy), the pattern recurs with the period n + 1 and the
+-- displacement (dx, dy)
 pub recurs_then : (rule : Numbers) (cells : List Cell) (n limit : ℕ) (before : List (List Cell)) (latest later : List Cell) (dx dy : ℤ)
     → Follows rule cells n before latest
     → n < limit → later ≡ next rule latest → shifted dx dy cells ≡ later → Recurs rule cells limit (record { period = suc n; dx = dx; dy = dy })
@@ -76,7 +78,8 @@ recurs_then rule cells n limit before latest later dx dy h low next_is is = reco
   least = λ p ex ey some less back. h.new p ex ey some (omega arith) back;
 }
 
--- if the next generation is the pattern again, and the latest doesn't touch the edge, no earlier generation does
+-- if the next generation is the pattern again, and the latest one doesn't touch the edge, then no generation before the
+-- next one touches the edge
 pub inside_then : (rule : Numbers) (cells : List Cell) (n : ℕ) (before : List (List Cell)) (latest later : List Cell) (dx dy : ℤ)
     → Follows rule cells n before latest
     → touches_edge latest ≡ false → later ≡ next rule latest → shifted dx dy cells ≡ later → (g : ℕ) → NeverRecurs rule cells g
@@ -87,7 +90,7 @@ inside_then rule cells n before latest later dx dy h off next_is is g new =
       | inr near ↦ inside-more rule cells n before latest h off g near
     ]
 
--- the generations that were kept, and after them the latest one, are the phases
+-- the earlier generations, followed by the latest one, are the first n + 1 phases
 pub phases_then : (rule : Numbers) (cells : List Cell) (n : ℕ) (before : List (List Cell)) (latest : List Cell) → Follows rule cells n before latest
     → before ++ latest ∷ [] ≡ phases rule cells (suc n)
 phases_then rule cells n before latest h =
@@ -95,12 +98,12 @@ phases_then rule cells n before latest h =
 
 -- ---- at the edge
 
--- the search for a pattern that touches the edge meets the edge at once
+-- if the pattern touches the edge, the search meets the edge at once
 pub meets_at_once : (rule : Numbers) (cells : List Cell) (limit : ℕ) → 1 ≤ limit → touches_edge cells ≡ true → MeetsEdge rule cells limit
 meets_at_once rule cells limit some on =
     (0, omega arith, λ p dx dy least most back. absurd (omega arith), ap touches_edge (after-none rule cells) ∙ on)
 
--- the search for a pattern that is far enough from the edge never meets the edge
+-- if the pattern is far enough from the edge, the search never meets the edge
 pub never_meets : (rule : Numbers) (cells : List Cell) (limit reach : ℕ) → lies_within reach cells ≡ true → reach + limit ≤ plane_bound
     → MeetsEdge rule cells limit → ⊥
 never_meets rule cells limit reach inside far (g, low, new, on) = false≢true (sym (run_inside rule cells reach g limit inside far low) ∙ on)

@@ -95,7 +95,7 @@ counted b c d w is =
       omega (arith, ints, w.top, w.bottom),
     )
 
--- moved to the corner, a pattern lies in columns 0 to right - left and rows 0 to bottom - top of its box
+-- a pattern with the box b, moved to the corner, lies in columns 0 to b.right - b.left and rows 0 to b.bottom - b.top
 inside-corner : (cells : List Cell) (b : Bounds) → box_of cells ≡ Some b → LiesInside (at_corner cells) (distance b.left b.right) (distance b.top b.bottom)
 inside-corner cells b e c h =
     let moved : has (shifted (neg_ℤ b.left) (neg_ℤ b.top) cells) c ≡ true = subst (λ o. has (cornered o cells) c ≡ true) e h in

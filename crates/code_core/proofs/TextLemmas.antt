@@ -30,8 +30,8 @@ pub column_at_most : (cells : List Cell) (k x : ℕ) → column cells k x ≤ 31
 unfolding column
 column_at_most cells k x = five_at_most _ _ _ _ _
 
--- the columns that the first token accounts for: a gap of n columns for n + 1, since a column with a live cell follows,
--- and any other token for 1
+-- the number of columns that the first token accounts for: n + 1 for a gap of n columns, because a column with a live
+-- cell follows the gap, and 1 for any other token
 abbrev reach : List Token → ℕ
 reach [] = 0
 reach (Gap n ∷ tokens) = n + 1

@@ -13,7 +13,7 @@ use Rattle.code_core.specs.Tokens.{character, gap_text, spelling, IsToken, Spell
 use Rattle.code_core.specs.Reading.{character_value, single, long_gap, with_token, tokens_at}
 use Rattle.code_core.specs.ReadingSteps.{Begins, IsStuck, has_character}
 
--- each character has a value from 0 to 35, and each value a character
+-- each character has a value from 0 to 35, and each of these values has a character
 pub character_value-small : (b : ℕ) → is_character b ≡ true → character_value b ≤ 35
 unfolding is_character character_value
 character_value-small b h = grind (arith, nat_tests)
@@ -64,7 +64,7 @@ spelling-long_gap c h =
 pub IsToken-long_gap : (c : ℕ) → is_character c ≡ true → IsToken (long_gap c)
 IsToken-long_gap c h = (omega arith, omega (arith, character_value-small c h))
 
--- how a text is read, depending on its first byte, and if that is `y` (121), on the byte after it
+-- how a text is read: this depends on the first byte, and if the first byte is `y` (121), also on the second byte
 pub tokens_at-bad : (place b : ℕ) (remainder : List ℕ) → is_character b ≡ false → tokens_at place (b ∷ remainder) ≡ Err (BadByte place)
 unfolding tokens_at
 tokens_at-bad place b [] bad = rw bad refl
@@ -89,7 +89,7 @@ pub tokens_at-end : (place : ℕ) → tokens_at place (121 ∷ []) ≡ Err (Shor
 unfolding is_character tokens_at
 tokens_at-end place = refl
 
--- a column's character is neither `0` (48) nor `w` (119) or a later letter
+-- the character of a column is neither `0` (48) nor a letter from `w` (119) on
 pub column-character : (v : ℕ) → 1 ≤ v → v ≤ 31 → (k : ℕ) → (k ≡ 48) ⊎ (119 ≤ k) → (character v == k) ≡ false
 unfolding character
 column-character v low high k (inl zero_byte) = grind (arith, nat_tests)
@@ -192,8 +192,8 @@ Begins_single text token b remainder whole is h other =
 pub Begins_long_gap : (c : ℕ) (remainder : List ℕ) → is_character c ≡ true → Begins (121 ∷ c ∷ remainder) (long_gap c) remainder
 Begins_long_gap c remainder h = record { is_token = IsToken-long_gap c h; spelled = ap (λ (text : List ℕ). text ++ remainder) (sym (spelling-long_gap c h)) }
 
--- a nonempty text begins with a byte that isn't a character, with a token, or with `y` (121); after a `y`, there is no
--- character, or both are a token (`long_cases`)
+-- Proofs by cases. A nonempty text begins with a byte that isn't a character, with a token, or with `y` (121). If it
+-- begins with `y` (`long_cases`), either no character follows, or the `y` and the next character are a token.
 prefix_cases : (P : List ℕ → Type 0)
     → ((b : ℕ) (remainder : List ℕ) → is_character b ≡ false → P (b ∷ remainder))
     → ((token : Token) (remainder : List ℕ) → IsToken token → P remainder → P (spelling token ++ remainder))

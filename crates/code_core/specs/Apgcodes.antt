@@ -27,7 +27,7 @@ ending (Some t) = codes "_" ++ t
 unfoldable pub code_text : Kind → ℕ → Option (List ℕ) → List ℕ
 code_text kind number text = opening text ++ (letter kind ++ (decimal number ++ ending text))
 
--- an apgcode from its letter on, which is after `x` or `ov_`
+-- the part of an apgcode after `x` or `ov_`, which begins with the letter of the kind
 abbrev pub from_letter : List ℕ → List ℕ
 from_letter code = if starts_with nat_eq code (codes "ov_") then drop 3 code else drop 1 code
 

@@ -26,7 +26,7 @@ strip_rows k = range_with_len (5 * k) 5
 unfoldable pub column : List Cell → ℕ → ℕ → ℕ
 column cells k x = value_of (map (λ y. has cells (cell_at (pos x) (pos y))) (strip_rows k))
 
--- the live cells of a column with this value, as column x of strip k
+-- the live cells of column x of strip k, if this column has the given value
 unfoldable pub lit_cells : ℕ → ℕ → ℕ → List Cell
 lit_cells k x value = map (λ i. cell_at (pos x) (pos (5 * k + i))) (filter (is_lit value) (range_with_len 0 5))
 

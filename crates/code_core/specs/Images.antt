@@ -1,4 +1,4 @@
--- Where the image of a small pattern is: its box and its cells, both counted from the corner of the image.
+-- The image of a small pattern in an orientation: its box and its cells, both counted from the corner of the image.
 use Rattle.std.specs.Prelude.{ℤ, pos}
 use Rattle.plane_core.specs.declared.plane.bounds.Bounds.{Bounds}
 use Rattle.plane_core.specs.declared.plane.cell.Cell.{Cell}
@@ -21,8 +21,8 @@ image_box Flip b = box_to (pos (distance b.left b.right)) (pos (distance b.top b
 image_box Diagonal b = box_to (pos (distance b.top b.bottom)) (pos (distance b.left b.right))
 image_box AntiDiagonal b = box_to (pos (distance b.top b.bottom)) (pos (distance b.left b.right))
 
--- where a cell of a pattern with this box is in the image: its column and row there are its distances from two sides of
--- the box
+-- the image of cell c of a pattern with this box: the column and the row of the image are the distances of c from two
+-- sides of the box
 abbrev pub image_cell : Orientation → Bounds → Cell → Cell
 image_cell Same b c = cell_at (pos (distance b.left c.x)) (pos (distance b.top c.y))
 image_cell Quarter b c = cell_at (pos (distance c.y b.bottom)) (pos (distance b.left c.x))

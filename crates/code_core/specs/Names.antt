@@ -45,7 +45,7 @@ kind_of r =
     then (if r.period == 1 then Still else Oscillator)
     else Ship
 
--- the number in an apgcode: the population of a still life, or the period of another object
+-- the number in an apgcode: the population of a still life, or the period of any other object
 abbrev pub number_of : Kind → List Cell → Recurrence → ℕ
 number_of Still cells r = length cells
 number_of Oscillator cells r = r.period

@@ -12,8 +12,8 @@ is_character b = is_ascii_digit b || is_ascii_lowercase b
 unfoldable pub character : ℕ → ℕ
 character value = if nat_lt value 10 then 48 + value else 87 + value
 
--- the text of a run of empty columns of this length: `0`, `w` and `x` for 1 to 3, and `y` with the character of the
--- length minus 4 for 4 to 39
+-- the text of a run of n empty columns: `0`, `w` and `x` for n = 1 to 3, and for n = 4 to 39, `y` followed by the
+-- character of n - 4
 unfoldable pub gap_text : ℕ → List ℕ
 gap_text n =
     if n == 1 then codes "0"

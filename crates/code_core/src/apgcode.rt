@@ -53,10 +53,10 @@ impl Kind {
 
 /// The apgcode of a pattern that recurs (LifeWiki, "Apgcode").
 ///
-/// It is `xs` and the population for a still life, `xp` or `xq` and the period for an oscillator or a spaceship, then
-/// `_` and the least of the extended Wechsler texts of all phases in all orientations: shorter texts come first, and
-/// texts of the same length are in ASCII order. An object that is too large for a text has `ov_s`, `ov_p` or `ov_q` and
-/// the same number. Three examples: `xs4_33`, `xq4_153`, `ov_s56`.
+/// It begins with `xs` and the population for a still life, or with `xp` or `xq` and the period for an oscillator or a
+/// spaceship. It ends with `_` and the least of the extended Wechsler texts of all phases in all orientations, where
+/// shorter texts come first, and texts of the same length are in ASCII order. If the object is too large for a text,
+/// the apgcode is only `ov_s`, `ov_p` or `ov_q` and the same number. Three examples: `xs4_33`, `xq4_153`, `ov_s56`.
 ///
 /// Apgcodes are compared and hashed by their texts, byte by byte. Contracts see an apgcode as its text.
 #[derive(Drop)]

@@ -6,7 +6,7 @@ use itoa::{Buffer, Integer};
 use plane_core::output::{Out, WriteError};
 use std::io::Write;
 
-/// Writes `before` and then `number` in decimal to a writer that hasn't failed. It takes no memory.
+/// Writes `before` and then `number` in decimal to a writer that hasn't failed. This takes no memory.
 ///
 /// # Errors
 ///

@@ -34,8 +34,8 @@ use std::alloc::Global;
 use std::cmp::Ordering;
 
 /// Returns the apgcode of `pattern` under `rule` (LifeWiki, "Apgcode"), or `None` if none of the generations 1 to
-/// `limit` is the pattern again, moved or not. All generations of a pattern have the same apgcode, and so has the
-/// pattern if it is moved, turned or mirrored.
+/// `limit` is the pattern again, moved or not. All generations of a pattern that recurs have the same apgcode, and the
+/// apgcode stays the same if the pattern is moved, turned or mirrored.
 ///
 /// `pattern` must not be empty, and `limit` must be from 1 to 64.
 ///

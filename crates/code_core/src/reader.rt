@@ -68,7 +68,7 @@ impl fmt::Debug for WechslerFault {
 /// Why no pattern was read.
 #[derive(Clone, Copy, PartialEq, Eq, Error)]
 pub enum WechslerError {
-    /// The text is too long, or isn't that of a pattern with a live cell.
+    /// The text is too long, or doesn't describe a pattern with a live cell.
     Fault(WechslerFault),
     /// Memory ran out.
     Memory(OutOfMemory),
@@ -113,18 +113,18 @@ pub(crate) enum Token {
 /// strip at (0, 0).
 ///
 /// The text has at most 10,000 bytes. It describes strips of five rows, from the top, which are separated by `z`. In a
-/// strip, columns are listed from the left. `0` to `9` and `a` to `v` are one column with the value 0 to 31: the sum of
-/// its live cells, where the top cell counts 1 and those below it 2, 4, 8 and 16. `w` and `x` are two and three empty
-/// columns. `y` and another character, `0` to `9` or `a` to `z`, are 4 to 39 empty columns.
+/// strip, columns are listed from the left. Each of `0` to `9` and `a` to `v` is one column with a value from 0 to 31:
+/// the sum of its live cells, where the top cell counts 1 and the cells below it count 2, 4, 8 and 16. `w` and `x` are
+/// two and three empty columns. `y` and another character, `0` to `9` or `a` to `z`, are 4 to 39 empty columns.
 ///
-/// Texts that are never written are read too: texts with runs of empty columns at a strip's end or one after another,
-/// and texts with empty strips at the end.
+/// Texts that `wechsler` never writes are read too, such as texts with a run of empty columns at a strip's end, with
+/// two runs one after another, or with empty strips at the end.
 ///
 /// # Errors
 ///
-/// - [`WechslerError::Fault`] if the text is too long or isn't that of a pattern with a live cell, whether there is
-///   memory or not. The fault is `TooLong` if the text has more than 10,000 bytes. Otherwise it is the first `BadByte`
-///   or `ShortRun` from the left, or `Empty` if the text has neither, but no cell is alive.
+/// - [`WechslerError::Fault`] if the text is too long or doesn't describe a pattern with a live cell. A fault is found
+///   before any memory is asked for. The fault is `TooLong` if the text has more than 10,000 bytes. Otherwise it is the
+///   first `BadByte` or `ShortRun` from the left, or `Empty` if there is neither of these and no cell is alive.
 /// - [`WechslerError::Memory`] if memory runs out.
 pub fn read_wechsler(alloc: Global, text: &str) -> Result<Pattern, WechslerError>
     ensures pattern { IfOk result (λ read. wechsler_read text.now ≡ Ok read) }

@@ -58,7 +58,8 @@ impl Recurrence {
     }
 }
 
-/// The most live cells that a pattern may have if its generations are kept before it is known whether it recurs.
+/// The most live cells of a pattern whose generations are kept from the start. A larger pattern is first followed
+/// without keeping its generations, to find out whether it recurs.
 const MOST_KEPT: usize = 4096;
 
 /// A pattern that recurs: its phases, beginning with the pattern itself, and how it recurs.
@@ -68,8 +69,8 @@ pub struct Cycle {
     pub recurrence: Recurrence,
 }
 
-/// Follows the pattern as [`follow`] does, unless a quick test shows that it doesn't recur within `limit` generations.
-/// Then returns `None` at once.
+/// Returns `None` at once if a quick test shows that the pattern doesn't recur within `limit` generations. Otherwise
+/// follows the pattern as [`follow`] does.
 pub(crate) fn follow_or_reject(
     alloc: Global,
     pattern: &Pattern,

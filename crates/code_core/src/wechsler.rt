@@ -1,5 +1,6 @@
-//! Writes a pattern as a text, strip by strip from the top, and in a strip column by column from the left. Each cell of
-//! a column has a weight, and the sum of the weights of the live cells is the column's value.
+//! Writes a pattern as a text in extended Wechsler format. The text describes strips of five rows, from the top, and
+//! each strip column by column from the left. Each cell of a column has a weight, and the column's value is the sum of
+//! the weights of its live cells.
 //!
 //! ```text
 //! weight
@@ -34,7 +35,7 @@ use plane_core::plane::orientation::Orientation;
 use plane_core::plane::pattern::Pattern;
 use std::alloc::Global;
 
-/// The most columns and the most rows of a pattern's box, if the pattern has a text.
+/// A pattern has a text only if its bounding box has at most this many columns and at most this many rows.
 pub const CODE_SIDE_LIMIT: u32 = 40;
 
 /// The number of rows of a strip.
@@ -122,8 +123,8 @@ fn text_in(alloc: Global, rows: &[u64; 64], bounds: Bounds) -> Result<String, Ou
     Ok(text)
 }
 
-/// Appends the text of strip `k`, 0 to 7, of a pattern whose box is `bounds`. `rows` are its rows, counted from the
-/// corner of the box. A `z` separates the strip from the one before it.
+/// Appends the text of strip `k`, 0 to 7. The pattern's box is `bounds`, and `rows` are its rows, counted from the
+/// corner of the box. If `k` isn't 0, a `z` is appended before the strip.
 fn push_strip(
     text: &mut String,
     rows: &[u64; 64],
@@ -152,7 +153,7 @@ fn push_strip(
     Ok(())
 }
 
-/// Appends a run of `gap` empty columns, 0 to 39, and then a column with a live cell, whose value is 1 to 31.
+/// Appends a run of `gap` empty columns, 0 to 39, and then a column with the value `value`, 1 to 31.
 fn push_column(text: &mut String, gap: u8, value: u8) -> Result<(), OutOfMemory>
     requires gap { gap ≤ 39 }
     requires least { 1 ≤ value }
@@ -214,7 +215,7 @@ fn character(value: u8) -> u8
     }
 }
 
-/// Returns the value, 0 to 31, of column `x` of strip `k` of a pattern whose box is `bounds`. `rows` are its rows.
+/// Returns the value, 0 to 31, of column `x` in strip `k`. The pattern's box is `bounds`, and `rows` are its rows.
 /// Strips, columns and rows are counted from the corner of the box.
 fn column(rows: &[u64; 64], bounds: Bounds, k: u32, x: u32) -> u8
     requires width { x < CODE_SIDE_LIMIT }

@@ -42,7 +42,7 @@ pub(crate) const GLIDER: [Cell; 5] = [
     Cell { y: 2, x: 2 },
 ];
 
-// The code is that of LifeWiki's page on the glider. The codes of other known objects are tested by the cases in
+// The code is from LifeWiki's page on the glider. The codes of other known objects are tested by the cases in
 // `checks/cases`.
 #[test]
 fn names_a_glider(rt: HostRuntime) -> Result<(), Fail> {
@@ -74,8 +74,8 @@ fn push_block(cells: &mut Vec<Cell>, top: u8, left: u8) -> Result<(), OutOfMemor
 
 const STARTS: [u8; 13] = [0, 4, 7, 10, 13, 16, 19, 22, 25, 28, 31, 34, 38];
 
-/// Returns the cells of 13 rows of 13 blocks, in a square of 40 by 40 cells. There is one empty row or column between
-/// neighbouring blocks, but there are two between the first two blocks and between the last two.
+/// Returns the cells of 13 rows of 13 blocks, in a square of 40 by 40 cells. One empty row or column separates
+/// neighbouring blocks, but in each direction, the first gap and the last gap are two rows or columns wide.
 fn grid_of_blocks(alloc: Global) -> Result<Vec<Cell>, OutOfMemory> {
     let mut cells = Vec::new(alloc);
     for top in STARTS {
@@ -86,7 +86,8 @@ fn grid_of_blocks(alloc: Global) -> Result<Vec<Cell>, OutOfMemory> {
     Ok(cells)
 }
 
-// The grid is a still life, and each of its images is the grid. In each strip all columns with live cells are the same.
+// The grid is a still life, and looks the same in all eight orientations. Within a strip, all columns with live cells
+// are equal.
 const GRID: &str = "xs676_\
     jjwjj0jj0jj0jj0jj0jj0jj0jj0jj0jj0jjwjjz\
     ddwdd0dd0dd0dd0dd0dd0dd0dd0dd0dd0ddwddz\
@@ -125,7 +126,8 @@ const BLINKER: [Cell; 3] = [
     Cell { y: 1, x: 999_999 },
 ];
 
-// If only a later generation touches the edge of the plane, the contracts also allow `Memory` in place of `Edge`.
+// The blinker itself doesn't touch the edge of the plane, but generation 1 does. In this case, the contracts also allow
+// `Memory` in place of `Edge`.
 #[test]
 fn stops_a_step_from_the_edge(rt: HostRuntime) -> Result<(), Fail> {
     let blinker = placed(rt.alloc(), &BLINKER)?;

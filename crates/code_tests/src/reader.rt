@@ -1,9 +1,9 @@
-//! Tests reading the longest texts in extended Wechsler format.
+//! Tests of `read_wechsler` with texts of 10,000 bytes, the longest that it reads.
 use code_core::reader::read_wechsler;
 use std::test::Fail;
 
-// Texts of a column or two are tested by cases of `show`. The two texts of these tests have 10,000 full columns in one
-// strip, and one cell in the last of 10,000 strips.
+// Other texts are tested by the cases of `show` in `checks/cases`. The first text here has 10,000 full columns in one
+// strip. The second text has 10,000 strips, and one live cell in the last strip.
 #[test]
 fn reads_a_wide_text(rt: HostRuntime) -> Result<(), Fail> {
     let wide = read_wechsler(rt.alloc(), std::str::from_utf8(&[b'v'; 10_000])?)?;

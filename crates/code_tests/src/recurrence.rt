@@ -1,4 +1,4 @@
-//! Tests when small patterns recur, and that no recurrence past the limit is found.
+//! Tests that `Recurrence::find` returns how small patterns recur, and that it finds no recurrence past the limit.
 use crate::name::{GLIDER, placed};
 use code_core::recurrence::Recurrence;
 use plane_core::plane::cell::Cell;
@@ -19,9 +19,9 @@ const BLINKER: [Cell; 3] = [
     Cell { y: 0, x: 2 },
 ];
 
-/// Patterns, each with a limit, and with the period and the move of its recurrence, if it recurs within the limit. A
-/// glider moves by one cell to the right and one cell down in four generations, a block stays as it is, and a blinker
-/// is itself again after two generations.
+/// Each entry has a pattern, a limit, and the period and the move (dx, dy) of the pattern's recurrence, or `None` if
+/// the pattern doesn't recur within the limit. A glider moves by one cell to the right and one cell down in four
+/// generations, a block stays as it is, and a blinker is itself again after two generations.
 const RECURRENCES: [(&[Cell], u32, Option<(u32, i32, i32)>); 6] = [
     (&GLIDER, 4, Some((4, 1, 1))),
     (&GLIDER, 64, Some((4, 1, 1))),

@@ -22,8 +22,9 @@ fn spells_texts(rt: HostRuntime) -> Result<(), Fail> {
     Ok(())
 }
 
-// Texts, each with its picture: those of a block and a beehive, which are parts of the apgcodes `xs4_33` and `xs6_696`
-// (LifeWiki, "Apgcode"); columns that grow, gaps, strips, and the eight orientations of the eater.
+// Each text is followed by its picture. The first two are a block and a beehive: their texts end the apgcodes `xs4_33`
+// and `xs6_696` (LifeWiki, "Apgcode"). The others test columns of growing height, gaps, strips, and the eight
+// orientations of the eater.
 const TEXTS: &str = "\
 33
 OO

@@ -87,7 +87,7 @@ fn tells_all_lines_before_a_failed_read(rt: HostRuntime) {
     );
 }
 
-/// Runs `gather` on `LINES`, with this writer of standard error.
+/// Runs `gather` on `LINES`, with this writer as standard error.
 fn left_by_writes(alloc: Global, errors: FaultyWriter) -> Left {
     left_by(
         alloc,

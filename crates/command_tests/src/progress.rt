@@ -95,7 +95,7 @@ fn told(rt: &impl AllocGlobal, is_shown: bool, is_asked: bool) -> Vec<u8> {
     screen
 }
 
-// A line on a terminal is shown whether it is asked for or not.
+// A line that is asked for is shown. On a terminal (`is_shown`), the line is shown whether it is asked for or not.
 #[test]
 fn tells_nothing_unless_it_is_to_be_shown(rt: HostRuntime) {
     assert!(rt; told(&rt, false, false).is_empty());

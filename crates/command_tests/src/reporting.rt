@@ -33,7 +33,7 @@ fn left_by<R: AllocGlobal + Threads + Wait + Sync, H: ProgressObserver + Drop>(
     Left::new(status, output, machine.errors)
 }
 
-/// Takes soups 0 to 2 with one worker, and reports unsettled soups to this writer of standard error.
+/// Takes soups 0 to 2 with one worker, and reports unsettled soups on standard error, which is this writer.
 fn left_by_errors<R: AllocGlobal + Threads + Wait + Sync>(rt: &R, errors: FaultyWriter) -> Left {
     left_by(rt, "", slow_writer(rt.alloc(), 0), errors, NoObserver)
 }
@@ -101,8 +101,8 @@ fn tells_that_the_haul_is_cut_after_all_lines(rt: HostRuntime) {
     );
 }
 
-// The clock is read at the beginning, and at each of the five reports of the progress: at 0, 100, 200 milliseconds and
-// so on. A progress line that was wiped for a report line is drawn again as it was.
+// The clock is read at the beginning, and at each of the five calls of `taken`: at 0, 100, 200 milliseconds and so on.
+// A progress line that was wiped for a report line is drawn again as it was.
 #[test]
 fn wipes_the_line_of_progress(rt: HostRuntime) {
     let mut screen = Vec::new(rt.alloc());

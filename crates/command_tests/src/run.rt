@@ -1,4 +1,4 @@
-//! Tests of `run`.
+//! Tests of how `run`, `run --sizes` and `show` use their streams, and of `send_buffered`.
 
 use crate::streams::{FaultyReader, FaultyWriter, Left, quick_writer, reader, slow_writer};
 use pattern_commands::ending::status::Status;
@@ -84,7 +84,7 @@ fn left_by_reads(alloc: Global, bad: usize, kind: ErrorKind) -> Left {
     )
 }
 
-/// Runs the blinker for one generation, with this writer of standard output.
+/// Runs the blinker for one generation, with this writer as standard output.
 fn left_by_writes(alloc: Global, output: FaultyWriter) -> Left {
     left_by(
         reader(BLINKER, 0, ErrorKind::Other),

@@ -37,7 +37,7 @@ pub(crate) fn plan_of(count: u64, also: &str) -> Plan<'_>
 }
 
 /// Returns the haul text for the plan of the first `count` soups, if `soups` of them were taken and none of these
-/// settled. A live cell of each of the soups 0 to 7 of the empty seed dies in the first generation, so none of these
+/// settled. In each of the soups 0 to 7 of the empty seed, a live cell dies in the first generation, so none of these
 /// eight soups is a still life.
 fn haul_text(alloc: Global, count: u64, soups: u64) -> Result<String, OutOfMemory> {
     let text = format!(in alloc;

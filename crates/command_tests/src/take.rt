@@ -31,8 +31,8 @@ fn left_by<G: Gate + Sync, R: AllocGlobal + Threads + Wait + Sync, H: ProgressOb
     Left::new(status, output, machine.errors)
 }
 
-// The progress line is due at 0, 200, 400 and 600 milliseconds. The progress is reported before each of the five notes
-// of the worker, and at the end.
+// The progress line is due at 0, 200, 400 and 600 milliseconds. The progress is reported before each of the worker's
+// five notes (four reports and `Done`), and at the end.
 #[test]
 fn takes_soups_under_a_line_of_progress(rt: HostRuntime) {
     let mut screen = Vec::new(rt.alloc());

@@ -10,8 +10,8 @@ use std::io::{self, ErrorKind, Write};
 /// The length of `report 2 rule=b3s23 profile=1,1,1,0 seed= worker=2 soup=0 unsettled` with its line feed.
 const LINE: usize = 68;
 
-/// A writer that counts bytes, flushes, and the lines that begin before the previous line was flushed. After `most`
-/// flushes, each further one fails.
+/// A writer that counts the bytes, the flushes, and the lines that begin before the previous line was flushed. After
+/// `most` flushes, every flush fails.
 #[derive(Drop)]
 struct Counting {
     written: usize,

@@ -2,7 +2,7 @@
 use Rattle.std.proofs.Common.{◌≡◌, ◌≤◌, ◌+◌, ◌-◌, ◌∙◌, ℕ, List, ap, arith, drop, drop-drop, length, length-take, slice_range, sym, take}
 use Rattle.std.proofs.lemmas.List.{drop-take}
 
--- if some bytes from `start` on are used, they are dropped from the beginning of the bytes that aren't used yet
+-- if `start` moves on by `amount`, the first `amount` of the bytes that aren't used yet are dropped
 pub further : (bytes : List ℕ) (start end amount : ℕ) → amount ≤ length (slice_range bytes start end)
     → slice_range bytes (start + amount) end ≡ drop amount (slice_range bytes start end)
 further bytes start end amount within =

@@ -1,4 +1,4 @@
--- `gather` takes exactly the numbers for which its input has correct lines.
+-- `gather` takes exactly the soups of its set for which its input has correct lines.
 use Rattle.std.proofs.Common.{◌≡◌, ◌∙◌, ap, sym, refl, subst, ℕ, zero, suc, ◌≤◌, ◌^◌, ◌&&◌, ◌||◌, ◌⊎◌, inl, inr, Bool, true, false, cond, nat_eq, nat_le}
 use Rattle.std.proofs.Common.{List, [], ◌∷◌, ◌++◌, Any, Result, Ok, Err, Option, arith, append-nil, count_by, filter, length, map}
 use Rattle.std.specs.List.{list_any}
@@ -147,8 +147,8 @@ offers-closed (r ∷ reports) = ap (λ (more : List Reported). r ∷ more) (offe
 abbrev pub IsOfLawful : Terms → ℕ → List ℕ → Type 0
 IsOfLawful terms n line = (report : Reported) × IsLookedAt terms.job line (Ok report) × IsLawfulFor terms n report
 
--- The arrivals are offers of the reports of lines. Each lawful report comes from a line, and each number of the set
--- that has a correct line has a lawful report.
+-- Each arrival offers a report. Each lawful report comes from a line, and each number of the set that has a correct
+-- line has a lawful report.
 pub record AreOfLines (terms : Terms) (lines : List (List ℕ)) (arrivals : List Arrival) : Type 0 where
   pub reports : List Reported
   pub offers : arrivals ≡ map Offer reports

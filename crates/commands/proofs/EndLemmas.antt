@@ -54,7 +54,7 @@ list_hides plan workers bytes job named listed (ReadFailed error) is = absurd is
 list_hides plan workers bytes job named listed TooLong is = tt
 list_hides plan workers bytes job named listed (WriteFailed error) is = absurd is
 
--- if the job is refused, the complaint about it is a right end of `gather` if nothing was written
+-- if the job is refused and nothing was written, the complaint about the job is a right end of `gather`
 gathers_job : (plan : Plan) (workers : ℕ) (bytes : List ℕ) (reader : Option (List ℕ)) (complaint : Complaint)
     (output errors : Stream) → job_named plan ≡ Err complaint → IsSilent output errors
     → Reaches (gather_behaviour plan workers) reader bytes (Err complaint) output errors
@@ -64,8 +64,8 @@ gathers_job plan workers bytes reader (ReadFailed error) output errors named sil
 gathers_job plan workers bytes reader TooLong output errors named silent = absurd (job_refused plan TooLong named)
 gathers_job plan workers bytes reader (WriteFailed error) output errors named silent = absurd (job_refused plan (WriteFailed error) named)
 
--- if the set is refused, or memory runs out before this is known, the complaint is a right end of `gather` if nothing
--- was written
+-- if the job is valid and nothing was written, a refusal of the set is a right end of `gather`, and so is out of memory
+-- if the set's range list is valid
 gathers_set : (plan : Plan) (workers : ℕ) (bytes : List ℕ) (reader : Option (List ℕ)) (job : Job)
     (complaint : Complaint) (output errors : Stream) → job_named plan ≡ Ok job → StopsSet plan.set complaint → IsSilent output errors
     → Reaches (gather_behaviour plan workers) reader bytes (Err complaint) output errors
@@ -80,7 +80,7 @@ gathers_set plan workers bytes reader job (ReadFailed error) output errors named
 gathers_set plan workers bytes reader job TooLong output errors named stops silent = absurd stops
 gathers_set plan workers bytes reader job (WriteFailed error) output errors named stops silent = absurd stops
 
--- a complaint because of which no haul was opened is a right end of `gather` if nothing was written
+-- if a complaint ended `gather` before a haul was opened, and nothing was written, the complaint is a right end
 pub gathers_opening : (plan : Plan) (workers : ℕ) (bytes : List ℕ) (reader : Option (List ℕ)) (complaint : Complaint)
     (output errors : Stream) → StopsOpening plan complaint → IsSilent output errors
     → Reaches (gather_behaviour plan workers) reader bytes (Err complaint) output errors
@@ -118,7 +118,7 @@ is_gathered terms held closed census n reader left errors all same kept took clo
       missing_is = many ∙ ap (λ (t : Terms). length (missing_of t.ranges held.taken)) same;
     }
 
--- once a haul is open, the only complaint that can be right is that the input is too long, and that needs memory
+-- once a haul is open, the only complaint that can be right is `TooLong`, which can't be found without memory
 long_hides : (terms : Terms) (bytes : List ℕ) → NeedsMemoryAlone (gathered_right terms bytes)
 long_hides terms bytes (Refused refusal) is = absurd is
 long_hides terms bytes (Memory error) is = absurd is
@@ -136,8 +136,8 @@ gathers_memory terms bytes reader output errors begun nothing fine = record {
   fine = fine;
 }
 
--- a complaint that ends the gathering of lines is a right end of `gather` for these bytes as its input; if the
--- complaint is `TooLong`, they must be more than 2^32
+-- a complaint that ends the gathering of lines is a right end of `gather` for the input `bytes`; if the complaint is
+-- `TooLong`, there must be more than 2^32 bytes
 gathers_on : (terms : Terms) (bytes : List ℕ) (reader left : Option (List ℕ)) (complaint : Complaint) (output errors : Stream)
     → (complaint ≡ TooLong → 2 ^ 32 < length bytes)
     → EndsLines terms reader left errors complaint → Has output []
@@ -213,7 +213,7 @@ gathers_haul terms held closed reader left outcome output errors all same kept t
     go (Err TooLong) is = absurd is
     go (Err (Refused refusal)) is = absurd is
 
--- a haul that was opened for a set and a number of workers is a haul over this set with these workers
+-- `IsHaulOver` holds for the terms of a haul that was opened
 pub is_over : (job : Job) (set : SoupSet) (workers : ℕ) (held : Held) → IsOpened job set workers held → IsHaulOver set workers job held.terms
 is_over job set workers held open_ = record {
   ranges = open_.over.ranges;
@@ -225,7 +225,7 @@ is_over job set workers held open_ = record {
   workers_are = open_.workers_are;
 }
 
--- a haul over a plan's set may be opened for the plan; this holds for all terms that are equal to those of the haul
+-- `gather_opens` holds for the terms of a haul over a plan's set, and for all terms that equal them
 opens_over : (plan : Plan) (workers : ℕ) (job : Job) (terms others : Terms) → job_named plan ≡ Ok job
     → IsHaulOver plan.set workers job terms → others ≡ terms → gather_opens plan workers others
 opens_over plan workers job terms others named over same =
@@ -330,7 +330,7 @@ stops_finished terms held remaining old new (Err (ReadFailed error)) output erro
 stops_finished terms held remaining old new (Err TooLong) output errors all same is = absurd is
 stops_finished terms held remaining old new (Err (WriteFailed error)) output errors all same is = tt
 
--- how far the input was read is right for the plan if it is right for an open haul over the plan's set
+-- `HasReadUpTo` holds for the plan if it holds for an open haul over the plan's set
 pub stops_over : {R : Type 0} (plan : Plan) (workers : ℕ) (job : Job) (terms : Terms) (remaining : R → Option (List ℕ)) (old new : R)
     (errors : Stream) (outcome : Outcome) → job_named plan ≡ Ok job → IsHaulOver plan.set workers job terms
     → HasReadUpTo (IsSame terms) remaining old new errors outcome

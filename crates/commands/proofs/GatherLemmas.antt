@@ -38,7 +38,7 @@ use Rattle.commands.specs.Lines.{HasReadLine, HasReadPart, IsLongerThan, IsOneLi
 use Rattle.commands.proofs.LineLemmas.{after_read, all_lines, all_read, bare_part, ended_more, first_lines, lines_and, lines_bare, lines_ended, long_read, part_lines, with_ahead}
 use Rattle.commands.specs.GatheredLines.{Faulty, Front, Gathered, IsChecked, IsPrefixFault, IsLookedAt, IsWrong, ComesOf, Next, Offered, Start, Whole, offer_fault, fault_lines}
 
--- a line that is bad, of another job or disagrees causes no arrival
+-- a line causes no arrival if it is bad, is of another job, or disagrees with the finding of its soup
 pub faulty : {terms : Terms} {line : List ℕ} {fault : LineFault} {held : Held} (arrivals : List Arrival) → IsLookedAt terms.job line (Err fault)
     → StandsFor arrivals held → (arrived : List Arrival) × ComesOf terms arrivals line arrived (Some fault) × StandsFor (arrivals ++ arrived) held
 faulty {fault} {held} arrivals is stands =
@@ -54,8 +54,8 @@ taken {terms} {line} arrivals report is (inl reply) stands =
     (Offer report ∷ [], subst P (sym (ap (offer_fault report) reply)) (Offered report is), stands)
 taken arrivals report is (inr reply) stands = absurd (cc (reply.0))
 
--- a report that the haul refuses is still the arrival of its line, and the line has the fault for the reason; out of
--- memory is excluded
+-- a report that the haul refuses is also the arrival of its line, and `offer_fault` gives the line's fault; the reason
+-- of the refusal isn't out of memory
 pub refused : {terms : Terms} {line : List ℕ} {held : Held} (arrivals : List Arrival) (report : Reported) (reason : OfferError) (fault : Option LineFault)
     → IsLookedAt terms.job line (Ok report) → IsReply (Some reason) (refusal_of terms arrivals report) → reason ≢ offer_error.Memory out_of_memory
     → fault ≡ offer_fault report (Some reason) → StandsFor (arrivals ++ Offer report ∷ []) held
@@ -276,7 +276,7 @@ pub goes_no_further : (way : Passage) (held : Held) (end : LineEnd) → end ≡ 
 goes_no_further way held Feed is gathered = let bad : Feed ≡ Input = is in cc
 goes_no_further way held Input is all = all
 
--- if the bytes read and `room` make at least 2^32, and more than `room` bytes are left, the input is too long
+-- if the number of bytes read plus `room` is at least 2^32, and more than `room` bytes are left, the input is too long
 longer : (room : ℕ) (reader left : Option (List ℕ)) (read : List ℕ) → Consumes reader left read → 2 ^ 32 ≤ length read + room
     → IsLongerThan room left → IsTooLong reader
 longer room None left read consumed whole long = tt
@@ -299,15 +299,15 @@ many_lines way held gathered many =
     long_read (2 ^ 32) way.reader way.left gathered.read gathered.consumed
     (omega (arith, spelled, count, many, bytes_of_lines gathered.lines))
 
--- if the bytes used and those ahead are at most `most`, at most `most` bytes were read
+-- if the number of bytes used or ahead is at most `most`, no more than `most` bytes were read
 pub read_so_far : (most : ℕ) (reader left : Option (List ℕ)) (ahead : List ℕ) (errors : Stream) (count size : ℕ) (held : Held)
     → HasGatheredLines (passage reader (prepend_known ahead left) errors count size) held → size + length ahead ≤ most
     → HasReadAtMost most reader left
 read_so_far most reader left ahead errors count size held gathered few =
     let size_is = gathered.size_is in with_ahead most reader left gathered.read ahead gathered.consumed (omega (arith, size_is, few))
 
--- if the gathered lines have `size` bytes, at most `room` more bytes were read, and `size + room` is at most `most`,
--- then at most `most` bytes were read
+-- The gathered lines have `size` bytes, and then up to `room` more bytes were read. If `size + room ≤ most`, no more
+-- than `most` bytes were read in all.
 pub read_further : (room most : ℕ) (reader left new : Option (List ℕ)) (errors : Stream) (count size : ℕ) (held : Held)
     → HasGatheredLines (passage reader left errors count size) held → size + room ≤ most → HasReadAtMost room left new
     → HasReadAtMost most reader new

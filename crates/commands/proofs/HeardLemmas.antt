@@ -19,7 +19,7 @@ use Rattle.commands.specs.TakeSteps.{IsOpenedFor}
 use Rattle.commands.proofs.TakeLemmas.{in_set}
 use native.Mathlib.Decide.{dec_le}
 
--- a soup occurs in a subsequence of reports at most as often as in all of them
+-- a subsequence of reports has no more reports on a soup than the whole list
 times_part : (n : ℕ) (part reports : List Reported) → IsSubsequence part reports → times_reported n part ≤ times_reported n reports
 times_part n part [] p = let same = ap (times_reported n) p in omega (arith, same)
 times_part n part (r ∷ rs) p =

@@ -16,7 +16,7 @@ module _ {V : Type 0} (contents : V → Option (List ℕ)) (from : ℕ) (report 
   lines_are : (b : Bool) → is_late from report.finding ≡ b → late_lines from (report ∷ []) ≡ (if b then report_text report else [])
   lines_are b is = append-nil _ ∙ ap (λ (c : Bool). if c then report_text report else []) is
 
-  -- a report that isn't late puts nothing
+  -- if a report isn't late, nothing is written
   pub put_early : (s : Output V) → is_late from report.finding ≡ false → PutsReports contents from s s (report ∷ [])
   put_early s early = record {
     right = all_right;
@@ -25,7 +25,7 @@ module _ {V : Type 0} (contents : V → Option (List ℕ)) (from : ℕ) (report 
     stays = λ failed. refl;
   }
 
-  -- after a failed write, a report puts nothing
+  -- after a failed write, nothing is written for a report
   pub put_after_failure : (s : Output V) → s.failed ≡ true → PutsReports contents from s s (report ∷ [])
   put_after_failure s failed = record {
     right = all_right;
@@ -34,7 +34,7 @@ module _ {V : Type 0} (contents : V → Option (List ℕ)) (from : ℕ) (report 
     stays = λ again. refl;
   }
 
-  -- a late report puts its line, or a prefix of the line if the write fails
+  -- the line of a late report is written, or a prefix of the line if the write fails
   pub put_late : {E : Type 0} (s t : Output V) (result : Result (Unit {0}) E) → is_late from report.finding ≡ true → s.failed ≡ false
       → Writes contents s t result (report_text report) → PutsReports contents from s t (report ∷ [])
   put_late s t (Ok done) late fine put = record {

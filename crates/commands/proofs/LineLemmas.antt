@@ -1,4 +1,4 @@
--- Inputs, line by line.
+-- Lemmas about reading an input line by line.
 use Rattle.std.proofs.Common.{◌≡◌, ◌≢◌, ◌<◌, ◌≤◌, ◌+◌, ◌-◌, ◌^◌, ◌∙◌, ◌++◌, ℕ, zero, suc, ne_eqb}
 use Rattle.std.proofs.Common.{List, [], ◌∷◌, All, Option, None, Some, IfSome, ap, ap₂, append-nil, append_assoc, arith, cond, drop, drop_of_length-le, flat_map, length, length-append, length-take, length-take-le, refl, subst, sym, take, take-append-drop}
 use Rattle.std.proofs.lemmas.Grind.{flat_map-append}
@@ -29,7 +29,7 @@ kept_more (suc n) (x ∷ xs) piece = ap (λ l. x ∷ l) (kept_more n xs piece)
 pub kept_short : (n : ℕ) (kept prefix : List ℕ) → kept ≡ take n prefix → length kept ≤ n
 kept_short n kept prefix is = subst (λ (l : List ℕ). length l ≤ n) (sym is) (omega (arith, length-take n prefix))
 
--- what holds for the prefix of a line that was read holds after one more piece of the line
+-- what holds after a prefix of a line was read also holds after one more piece of the line was read
 pub read_more : (start old new : Option (List ℕ)) (kept after prefix more : List ℕ) (size : ℕ) (piece : Piece)
     → kept ≡ take (2 ^ 24 + 1) prefix
     → IsOneLine prefix → Consumes start old prefix → size ≡ length prefix → after ≡ take (2 ^ 24 + 1) (kept ++ more)
@@ -55,7 +55,7 @@ long_read most None left read consumed long = tt
 long_read most (Some xs) None read consumed long = absurd consumed
 long_read most (Some xs) (Some ys) read consumed long = let all = ap length consumed ∙ length-append read ys in omega (arith, all, long)
 
--- if bytes were read from `start`, which left `old`, and `old` was then spent, `start` is spent too
+-- if reading `prefix` from `start` left `old`, and then all of `old` was read, all of `start` was read
 pub spent_from : (start old new : Option (List ℕ)) (prefix : List ℕ) → Consumes start old prefix → IsSpent old new → IsSpent start new
 spent_from None old new prefix consumed spent = tt
 spent_from (Some all) None new prefix consumed spent = absurd consumed
@@ -81,7 +81,7 @@ ended_more read lines line before one = record {
   whole = All-push IsOneLine lines line before.whole one;
 }
 
--- the lines of `line`, a line feed and `more` are `line` and then the lines of `more`
+-- `input_lines` splits `line`, a line feed and `more` into `line` and the lines of `more`
 first_line : (line more : List ℕ) → IsOneLine line → input_lines ((line ++ 10 ∷ []) ++ more) ≡ line ∷ input_lines more
 first_line [] more one = refl
 first_line (x ∷ xs) more one =
@@ -97,7 +97,7 @@ ended_lines (line ∷ lines) more whole =
     ap input_lines (append_assoc (line ++ 10 ∷ []) remainder more) ∙ first_line line (remainder ++ more) (All-head IsOneLine line lines whole)
     ∙ ap (λ l. line ∷ l) (ended_lines lines more (All-tail IsOneLine line lines whole))
 
--- bytes without a line feed, if there are any, are one line
+-- one or more bytes without a line feed are one line
 bare_line : (x : ℕ) (xs : List ℕ) → IsOneLine (x ∷ xs) → input_lines (x ∷ xs) ≡ (x ∷ xs) ∷ []
 bare_line x [] one = ap (λ b. cond b ([] ∷ []) (begun_with x [])) (ne_eqb x 10 (All-head IsNotFeed x [] one))
 bare_line x (y ∷ ys) one =
@@ -142,7 +142,7 @@ all_spent (Some all) (Some ys) ahead bytes input consumed = none ys (omega (arit
     none [] is = refl
     none (x ∷ xs) is = absurd (omega (arith, is))
 
--- if all was read, the lines of the bytes are all lines of the input
+-- if the whole input was read, the lines of the bytes read are all lines of the input
 pub all_lines : (reader : Option (List ℕ)) (read : List ℕ) → IsInput reader read
     → IfSome reader (λ bytes. (more : List (List ℕ)) × (input_lines bytes ≡ input_lines read ++ more))
 all_lines None read input = tt
@@ -159,7 +159,7 @@ part_lines line (Some Input) one = subst (λ (l : List ℕ). length (input_lines
 part_lines line (Some Feed) one =
     let is = ap length (ap input_lines (sym (append-nil (line ++ 10 ∷ []))) ∙ first_line line [] one) in omega (arith, is)
 
--- the lines of ended lines and more bytes are those lines, followed by the lines of the bytes
+-- if `read` consists of ended lines, the lines of `read ++ more` are these lines, followed by the lines of `more`
 pub lines_and : (read : List ℕ) (lines : List (List ℕ)) (more : List ℕ) → AreEnded read lines
     → input_lines (read ++ more) ≡ lines ++ input_lines more
 lines_and read lines more ended = ap (λ l. input_lines (l ++ more)) ended.spelled ∙ ended_lines lines more ended.whole
@@ -215,7 +215,7 @@ piece_taken old left ahead shown next read same piece kept is end =
 
 -- ---- how much was read
 
--- if the bytes used and those ahead are at most `most`, at most `most` bytes were read
+-- if the number of bytes used or ahead is at most `most`, no more than `most` bytes were read
 pub with_ahead : (most : ℕ) (old left : Option (List ℕ)) (read ahead : List ℕ) → Consumes old (prepend_known ahead left) read
     → length read + length ahead ≤ most → HasReadAtMost most old left
 with_ahead most old left read ahead consumed few =
@@ -242,7 +242,8 @@ little_more room once size more old left read ahead consumed is short few =
 pub less_room : (room size more : ℕ) → 0 < more → size + more ≤ room → room + 1 - (size + more) < room + 1 - size
 less_room room size more some within = omega arith
 
--- if `read` and then at most `room` bytes were read, and both add up to at most `most`, at most `most` bytes were read
+-- After the bytes `read`, up to `room` more bytes were read. If `length read + room ≤ most`, no more than `most` bytes
+-- were read in all.
 pub after_read : (room most : ℕ) (reader old new : Option (List ℕ)) (read : List ℕ) → Consumes reader old read → length read + room ≤ most
     → HasReadAtMost room old new → HasReadAtMost most reader new
 after_read room most reader old new read consumed few (more, next, short) =

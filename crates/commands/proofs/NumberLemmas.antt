@@ -1,4 +1,4 @@
--- The numbers of ranges, one by one.
+-- Lemmas about the list of all numbers in a range or in several ranges.
 use Rattle.std.proofs.Common.{◌≡◌, ◌∙◌, ◌+◌, ◌<◌, ◌≤◌, ℕ, zero, suc, true}
 use Rattle.std.proofs.Common.{List, [], ◌∷◌, ◌++◌, add-one, add-zero, ap, sym, arith}
 use Rattle.std.proofs.lemmas.Bool.{and_from}

@@ -30,8 +30,8 @@ use Rattle.commands.proofs.GrownLemmas.{grown_by_added}
 use Rattle.commands.proofs.HeardLemmas.{reports_of_plan, reports_on_all}
 use Rattle.commands.proofs.TakeLemmas.{Stops_memory, complete_right, not_done, prints_right, right_given}
 
--- if a complaint stops the command before a haul is open, and nothing was written to either stream before the line of
--- the complaint, the command ends as it should
+-- if a complaint stops the command before a haul is open, and nothing was written to either stream, the complaint is a
+-- right end of the command
 pub reporting_stops : (plan : Plan) (workers from : ℕ) (reader : Option (List ℕ)) (bytes : List ℕ) (complaint : Complaint) (output errors : Stream)
     → Stops (take_right plan) complaint → Has output [] → IsUntouched errors
     → Reaches (reporting_behaviour plan workers from) reader bytes (Err complaint) output errors

@@ -93,7 +93,7 @@ Stops_list set text (list_error.BadList place) is complete fault memory =
     Bad_list not_list place (subst (λ (t : List ℕ). IsFirstListFault t place) is (fault place refl)) refl
 Stops_list set text (list_error.Memory refused) is complete fault memory = subst IsListText is (memory refl)
 
--- a command that a complaint stops ends with that complaint, with nothing on the output
+-- if a complaint stops a command, the command ends with this complaint, and nothing was written to the output
 pub Reaches_stopped : (right : Right) (complaint : Complaint) (output : Stream) → Stops right complaint → Has output []
     → ReachesText false false right (Err complaint) output
 Reaches_stopped right (Refused refusal) output stops nothing = (stops, nothing)
@@ -316,7 +316,7 @@ taken_told may_stop lets workers plan held census missing h many none is = go mi
 
 -- ---- how `take` ends
 
--- a command that a complaint stops ends with that complaint, with nothing on the output
+-- if a complaint stops a command, the command ends with this complaint, and nothing was written to the output
 pub take_stops : (may_stop lets : ℕ → ℕ → Type 0) (workers : ℕ) (plan : Plan) (reader : Option (List ℕ)) (bytes : List ℕ)
     (complaint : Complaint) (output errors : Stream) → Stops (take_right plan) complaint → Has output [] → IsUntouched errors
     → Reaches (gated_behaviour may_stop lets plan workers) reader bytes (Err complaint) output errors

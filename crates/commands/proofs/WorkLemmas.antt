@@ -118,7 +118,7 @@ puts_then job worker ns ms (Err (ReadFailed error)) x y z was failed one two = a
 puts_then job worker ns ms (Err TooLong) x y z was failed one two = absurd two
 puts_then job worker ns ms (Err (Refused refusal)) x y z was failed one two = absurd two
 
--- a complaint that ends the reports on `ns` ends those on `ns ++ ms`
+-- if a complaint ends the reports on `ns`, it also ends the reports on `ns ++ ms`
 pub puts_stops : (job : Job) (worker : ℕ) (ns ms : List ℕ) (complaint : Complaint) (output : Stream)
     → Puts (reports_on job worker ns) (Err complaint) output
     → Puts (reports_on job worker (ns ++ ms)) (Err complaint) output
@@ -166,7 +166,7 @@ puts_next job worker first number outcome x y z was failed low one two =
     (sym (range_more first (number - first) number (omega arith)) ∙ ap (range_with_len first) one_more)
     (puts_then job worker (range_with_len first (number - first)) (number ∷ []) outcome x y z was failed one two)
 
--- a complaint that ends the reports at one number of a range ends those on the range
+-- if a complaint ends the reports at one number of a range, it ends the reports on the whole range
 pub puts_short : (job : Job) (worker first number count : ℕ) (complaint : Complaint) (output : Stream) → first ≤ number → number < first + count
     → Puts (reports_on job worker (range_with_len first (number + 1 - first))) (Err complaint) output
     → Puts (reports_on job worker (range_with_len first count)) (Err complaint) output
@@ -189,7 +189,7 @@ puts_more job worker ranges i d outcome x y z was failed more one two =
     ∙ ap (λ (ns : List ℕ). numbers_of (take i ranges) ++ ns) (append-nil (numbers_of_range r))))
     (puts_then job worker (numbers_of (take i ranges)) (numbers_of_range r) outcome x y z was failed one two)
 
--- a complaint that ends the reports on the first `k` ranges ends those on all of them
+-- if a complaint ends the reports on the first `k` ranges, it ends the reports on all ranges
 pub puts_early : (job : Job) (worker : ℕ) (ranges : List Range) (k : ℕ) (complaint : Complaint) (output : Stream)
     → Puts (reports_on job worker (numbers_of (take k ranges))) (Err complaint) output
     → Puts (reports_on job worker (numbers_of ranges)) (Err complaint) output

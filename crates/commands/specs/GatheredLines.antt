@@ -45,8 +45,8 @@ pub data IsLookedAt (job : Job) (line : List ℕ) : Result Reported LineFault �
   Whole : {outcome : Result Reported LineFault} → length line ≤ 2 ^ 24 → IsChecked job line outcome → IsLookedAt job line outcome
   Front : (place : ℕ) → 2 ^ 24 < length line → IsPrefixFault (take (2 ^ 24) line) place → IsLookedAt job line (Err (BadLine place))
 
--- The fault of a line whose report a haul refuses for one of these three reasons, and otherwise `None`. An open haul
--- refuses a report of its job for no other reason.
+-- The fault of a report's line if the haul refuses the report for one of these three reasons, and otherwise `None`. The
+-- only other reasons are a closed haul, a report of another job, and out of memory.
 abbrev pub offer_fault : Reported → Option OfferError → Option LineFault
 offer_fault report (Some offer_error.UnknownWorker) = Some (UnknownWorker report.worker)
 offer_fault report (Some offer_error.OutOfRange) = Some (OutOfRange report.number)

@@ -20,8 +20,8 @@ late_line from report = if is_late from report.finding then report_text report e
 abbrev pub late_lines : ℕ → List Reported → List ℕ
 late_lines from reports = flat_map (late_line from) reports
 
--- These reports are right, and the lines of those whose soups are late were written to a writer: all of these lines if
--- no write failed, and otherwise a prefix of them. Nothing is written after a failed write.
+-- These reports are right, and the report lines of late soups were written to a writer: all of these lines if no write
+-- failed, and otherwise a prefix of their text. Nothing is written after a failed write.
 pub record PutsReports {V : Type 0} (contents : V → Option (List ℕ)) (from : ℕ) (old new : Output V) (reports : List Reported) : Type 0 where
   pub right : All IsReport reports
   pub whole : new.failed ≡ false → (old.failed ≡ false) × Appends (contents old.writer) (contents new.writer) (late_lines from reports)

@@ -8,7 +8,7 @@ use Rattle.commands.specs.declared.lines.LineEnd.TheVariants.{Feed, Input}
 use Rattle.commands.specs.declared.lines.LineRead.{LineRead}
 use Rattle.commands.specs.declared.lines.Piece.{Piece}
 
--- these lines, with a byte put at the beginning of the first line, or as a line of its own if there are no lines
+-- these lines, with a byte added at the beginning of the first line; if there are no lines, the byte is the only line
 abbrev pub begun_with : ℕ → List (List ℕ) → List (List ℕ)
 begun_with byte [] = (byte ∷ []) ∷ []
 begun_with byte (line ∷ more) = (byte ∷ line) ∷ more
@@ -39,8 +39,8 @@ IsSpent old new = IfSome old (λ _. IsAtEnd new)
 abbrev pub IsLongerThan : ℕ → Option (List ℕ) → Type 0
 IsLongerThan most reader = IfSome reader (λ bytes. most < length bytes)
 
--- A line of at most `room` bytes, with its line feed, was read, and its first 2^24 + 1 bytes are kept. If no line feed
--- ends the line, the input is at its end.
+-- A line of at most `room` bytes, including its line feed, was read, and its first 2^24 + 1 bytes are kept. If no line
+-- feed ends the line, the input is at its end.
 pub record HasReadLine (room : ℕ) (old new : Option (List ℕ)) (kept : List ℕ) (read : LineRead) : Type 0 where
   pub line : List ℕ
   pub kept_is : kept ≡ take (2 ^ 24 + 1) line
@@ -50,12 +50,12 @@ pub record HasReadLine (room : ℕ) (old new : Option (List ℕ)) (kept : List �
   pub short : read.size ≤ room
   pub last : read.end ≡ Input → IsSpent old new
 
--- the bytes of the line end of a piece: none if the line goes on after the piece
+-- the bytes that end the line after a piece: none if the line goes on
 abbrev pub piece_end : Option LineEnd → List ℕ
 piece_end None = []
 piece_end (Some end) = end_bytes end
 
--- the part of a line that these bytes have: all up to their first line feed
+-- the part of a line at the beginning of these bytes: all bytes before the first line feed, or all if there is none
 pub record IsPieceOf (bytes : List ℕ) (read : Piece) : Type 0 where
   pub within : read.length ≤ length bytes
   pub bound : read.size ≤ length bytes
@@ -65,7 +65,7 @@ pub record IsPieceOf (bytes : List ℕ) (read : Piece) : Type 0 where
   pub whole : read.end ≡ None → read.size ≡ length bytes
   pub some : read.end ≡ None → 0 < read.size
 
--- this part of a line was read, with the line feed if the line ends there
+-- this part of a line was read, and then the line feed if the line ends with one here
 pub record HasPiece (old new : Option (List ℕ)) (piece : List ℕ) (read : Piece) : Type 0 where
   pub one : IsOneLine piece
   pub consumed : Consumes old new (piece ++ piece_end read.end)
@@ -73,7 +73,7 @@ pub record HasPiece (old new : Option (List ℕ)) (piece : List ℕ) (read : Pie
   pub last : read.end ≡ Some Input → IsSpent old new
   pub some : read.end ≡ None → 0 < read.size
 
--- how the part of a line that was read before a complaint may end: if a read failed, it has no line end
+-- what may end the part of a line that was read before a complaint: nothing if a read failed, and otherwise anything
 abbrev pub MayEnd : Complaint → Option LineEnd → Type 0
 MayEnd (ReadFailed error) end = end ≡ None
 MayEnd _ end = Unit {0}

@@ -29,8 +29,8 @@ pub record HasCome (lines : List (List ℕ)) (held : Held) (diagnostics : List �
   pub gathered : Gathered held.terms lines arrivals diagnostics
   pub stands : StandsFor arrivals held
 
--- The lines were gathered in the haul. The diagnostics about them begin with `diagnostics`, and the others were added
--- to standard error.
+-- The lines were gathered in the haul. The diagnostics about them are `diagnostics`, followed by `more`, which was
+-- written to standard error.
 pub record HasComeBy (lines : List (List ℕ)) (held : Held) (diagnostics : List ℕ) (errors : Stream) : Type 0 where
   pub more : List ℕ
   pub come : HasCome lines held (diagnostics ++ more)

@@ -26,7 +26,7 @@ pub record IsLetIn (lets : ℕ → ℕ → Type 0) (workers : ℕ) (entry : ℕ 
   pub let_in : lets entry.0 entry.1
 
 -- The text has the census of a job over those soups of a set that were taken, and `missing` is the number of the other
--- soups (at least one). Each soup was taken once, from a worker that the gate had let survey it.
+-- soups (at least one). No soup was taken twice, and the gate had let each soup's worker survey it.
 pub record TellsTaken (lets : ℕ → ℕ → Type 0) (workers : ℕ) (job : Job) (ranges : List Range) (missing : ℕ) (text : List ℕ) : Type 0 where
   pub normal : List Range
   pub form : IsNormalForm ranges normal
@@ -40,14 +40,14 @@ pub record TellsTaken (lets : ℕ → ℕ → Type 0) (workers : ℕ) (job : Job
   pub counted : IsCensus job normal (numbers_in taken) census
   pub text_is : text ≡ haul_text census
 
--- What is right if the gate may have stopped a worker: the haul text of an incomplete haul, which lacks this many
+-- What is right if the gate may have stopped a worker: the haul text of an incomplete haul, which lacks `missing`
 -- soups. The parts of the job are checked before the set.
 abbrev pub stopped_right : (may_stop lets : ℕ → ℕ → Type 0) → Plan → (workers missing : ℕ) → Right
 stopped_right may_stop lets plan workers missing =
     IsRightGiven (job_named plan) (λ job. IsRightForSet plan.set (λ ranges text.
     MayStop may_stop ranges × TellsTaken lets workers job ranges missing text))
 
--- `whole` for 0 missing numbers, and otherwise `stopped` for the number of missing ones
+-- `whole` if no soup is missing, and otherwise `stopped` for the number of missing soups
 abbrev pub right_if : Right → (ℕ → Right) → ℕ → Right
 right_if whole stopped zero = whole
 right_if whole stopped (suc n) = stopped (suc n)

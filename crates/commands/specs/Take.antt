@@ -13,7 +13,7 @@ use Rattle.pattern_commands.specs.Answers.{Right, IsRightGiven}
 use Rattle.commands.specs.SoupSets.{AreRangesOf, job_named, IsRightForSet}
 use Rattle.pattern_commands.specs.Behaviours.{Behaviour, text_behaviour}
 
--- the text is the haul text of the census of a job over all soups of these ranges, with the ranges in normal form
+-- the text is the haul text of a job's census of all soups in these ranges; the census has the ranges in normal form
 pub record TellsAll (job : Job) (ranges : List Range) (text : List ℕ) : Type 0 where
   pub numbers : List ℕ
   pub all : AreAll ranges numbers

@@ -18,8 +18,8 @@ use Rattle.pattern_commands.specs.Answers.{NeedsMemory, Right}
 use Rattle.commands.specs.SoupSets.{AreRangesOf, IsRefused, job_named}
 use Rattle.commands.specs.Stopped.{IsLetIn}
 
--- a complaint that may end a command before it writes: a refusal that is right, or out of memory, if every right
--- complaint needs memory to be found
+-- A complaint that may end a command before it writes: a refusal that is right, or out of memory. Out of memory may end
+-- the command only if every right complaint needs memory to be found.
 abbrev pub Stops : Right → Complaint → Type 0
 Stops right (Refused refusal) = right (Err (Refused refusal))
 Stops right (Memory error) = (complaint : Complaint) → right (Err complaint) → NeedsMemory complaint
@@ -77,14 +77,14 @@ pub record HasTakenMore (old new : Held) : Type 0 where
   pub more : List (ℕ × ℕ)
   pub taken : new.taken ≡ old.taken ++ more
 
--- each soup that the haul has taken since its old state comes from a worker that the gate let survey the soup
+-- for each soup that the haul has taken since its old state, the gate let the soup's worker survey it
 pub record HasLetIn (lets : ℕ → ℕ → Type 0) (workers : ℕ) (old new : Held) : Type 0 where
   pub more : List (ℕ × ℕ)
   pub taken : new.taken ≡ old.taken ++ more
   pub let_in : All (IsLetIn lets workers) more
 
--- A crew has worked on a haul that was opened over the set of a plan. The haul has taken soups of the set, none twice,
--- each from a worker that the gate let survey it.
+-- A crew has worked on a haul that was opened over the set of a plan. The haul has taken soups of the set, none of them
+-- twice, and the gate let each soup's worker survey it.
 pub record IsTaken (may_stop lets : ℕ → ℕ → Type 0) (plan : Plan) (workers : ℕ) (held : Held) : Type 0 where
   pub opened : Held
   pub is : IsOpenedFor plan workers opened

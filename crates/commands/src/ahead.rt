@@ -79,7 +79,7 @@ impl Ahead {
         Ok(())
     }
 
-    /// Marks the first `amount` unread bytes as used.
+    /// Marks the first `amount` unused bytes as used.
     pub(crate) fn consume(&mut self, amount: usize)
         requires { amount ≤ length self.old }
         ensures { self.new ≡ drop amount self.old }

@@ -57,10 +57,10 @@ use survey_core::surveyor::Surveyor;
 ///
 /// A line ends with a line feed, which the last line may lack. If a line isn't taken, its number, counted from 1, and
 /// its fault are written to `errors`, and reading continues. Only the first 2^24 bytes of a line are examined: a longer
-/// line is bad at the first fault in these bytes, or at 2^24. Each number of the profile has to be in its range,
-/// `workers` is from 1 to 16, and no earlier write to either writer may have failed. Refusals are tested in the order
-/// of [`do_take`](crate::take::do_take), before anything is read. Only the haul, one line, a buffer and a surveyor are
-/// kept in memory. `census gather` is this call with the standard streams.
+/// line is bad at the first fault in these bytes, or at 2^24 if they have no fault. Each number of the profile has to
+/// be in its range, `workers` is from 1 to 16, and no earlier write to either writer may have failed. Refusals are
+/// tested in the order of [`do_take`](crate::take::do_take), before anything is read. Only the haul, one line, a buffer
+/// and a surveyor are kept in memory. `census gather` is this call with the standard streams.
 ///
 /// # Errors
 ///
@@ -244,8 +244,8 @@ impl Gatherer {
         Ok(read)
     }
 
-    /// Offers the report of line number `before` + 1 to the haul. If the line has a fault, writes it to `errors`.
-    /// `kept` has the first 2^24 + 1 bytes of the line.
+    /// Offers the report of line number `before` + 1 to the haul. If the line has a fault, writes the fault to
+    /// `errors`. `kept` has the first 2^24 + 1 bytes of the line.
     fn gather_line<E: Write>(
         &mut self,
         kept: &[u8],
@@ -307,8 +307,8 @@ fn report_of(
     checked_report(alloc, kept, job, surveyor)
 }
 
-/// Returns the place of the first fault of a line of more than 2^24 bytes: the first fault in `prefix`, which has the
-/// first 2^24 bytes of the line, or 2^24 if the prefix has no fault.
+/// Returns the place of the first fault of a line that is longer than 2^24 bytes. `prefix` has the first 2^24 bytes of
+/// the line. If they have no fault, the place is 2^24.
 fn prefix_fault(alloc: Global, prefix: &[u8]) -> Result<usize, OutOfMemory>
     ensures { IfOk result (IsPrefixFault prefix.now) }
 {
@@ -319,7 +319,7 @@ fn prefix_fault(alloc: Global, prefix: &[u8]) -> Result<usize, OutOfMemory>
     }
 }
 
-/// Reads the claim of a line and checks it. Returns the report that it becomes, or the line's fault.
+/// Reads the claim of a line and checks it. Returns the report that the claim becomes, or the line's fault.
 fn checked_report(
     alloc: Global,
     line: &[u8],
@@ -346,8 +346,8 @@ fn checked_report(
     }
 }
 
-/// Returns the fault of a line of this worker about soup `number`, if the haul refused the line's report for this
-/// reason.
+/// Returns the fault of a report line that the haul refused for `reason`. The report is from worker `worker`, on soup
+/// `number`.
 fn fault_of(reason: OfferError, worker: u8, number: u64) -> Result<Option<LineFault>, OutOfMemory>
     ensures fault { (report : Reported) → report.worker ≡ worker → report.number ≡ number
         → IfOk result (λ fault. fault ≡ offer_fault report (Some reason)) }

@@ -1,8 +1,8 @@
 //! The commands for sets of soups: `take`, `work` and `gather`.
 //!
-//! Each command is a function of plain values, such as [`do_take`](take::do_take). The program reads the values from
-//! its arguments, and lends the streams of the process. `pattern_commands` has the other commands, and defines how a
-//! command ends.
+//! Each command is a function that takes plain values. [`do_take`](take::do_take) is an example. The program reads the
+//! values from its arguments, and lends the streams of the process. `pattern_commands` has the other commands, and
+//! defines how a command ends.
 #![tactic(auto)]
 
 /// Input that was read and isn't used yet.

@@ -12,8 +12,8 @@ use std::io::Write;
 /// Why a report line was not taken.
 #[derive(Clone, Copy)]
 pub enum LineFault {
-    /// The line isn't that of a claim, or is longer than 2^24 bytes. `place` is the offset of the first wrong or
-    /// missing field, or 2^24 if none of the first 2^24 bytes is wrong.
+    /// The line isn't a claim's line, or is longer than 2^24 bytes. `place` is the offset of the first wrong or missing
+    /// field, or 2^24 if the first 2^24 bytes of a longer line have no fault.
     BadLine { place: usize },
     /// The line is about another job.
     OtherJob,
@@ -28,8 +28,8 @@ pub enum LineFault {
 }
 
 impl LineFault {
-    /// Writes the diagnostic about report line `number`, counted from 1, which has this fault, in one write. This takes
-    /// no memory.
+    /// Writes the diagnostic that report line `number`, counted from 1, has this fault. This is one write and takes no
+    /// memory.
     ///
     /// # Errors
     ///

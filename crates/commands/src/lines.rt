@@ -6,8 +6,8 @@
 //! end     Feed         Feed               Input
 //! ```
 //!
-//! Only the first 2^24 bytes of a line and the byte after them are kept, so an input without a line feed needs no more
-//! memory than that.
+//! Only the first 2^24 bytes of a line and the byte after them are kept, so the memory for a line is limited even if
+//! the input has no line feed.
 
 ghost use Rattle.std.specs.Prelude.{◌≡◌, ◌≢◌, ◌≤◌, ◌+◌, ◌^◌, ◌++◌, ℕ, [], Err, List};
 ghost use Rattle.std.specs.Prelude.{IfErr, IfOk, OnErr, length, take};
@@ -86,12 +86,12 @@ impl Lines {
         self.line.as_slice()
     }
 
-    /// Reads the next line, of at most `room` bytes with its line feed. At the end of the input, nothing is read and
-    /// the line is empty.
+    /// Reads the next line, of at most `room` bytes including its line feed. At the end of the input, nothing is read
+    /// and the line is empty.
     ///
     /// # Errors
     ///
-    /// `TooLong` if the line has more than `room` bytes with its line feed; `Memory` if memory runs out; and
+    /// `TooLong` if the line has more than `room` bytes including its line feed; `Memory` if memory runs out; and
     /// `Unreadable` if a read fails for any other reason.
     pub(crate) fn next<R: Read>(&mut self, input: &mut R, room: u64) -> Result<LineRead, InputError>
         requires { room ≤ 2 ^ 32 }
@@ -148,8 +148,8 @@ fn read_piece<R: Read>(
     Ok(piece)
 }
 
-/// Returns the part of a line with which these bytes begin: all bytes up to the first line feed. If there are no bytes,
-/// the input has ended.
+/// Returns the part of a line at the beginning of these bytes: all bytes before the first line feed, or all bytes if
+/// there is none. If `bytes` is empty, the input has ended.
 fn first_piece(bytes: &[u8]) -> Piece
     ensures { IsPieceOf bytes.now result }
 {

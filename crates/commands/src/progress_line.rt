@@ -64,7 +64,7 @@ impl<W: Write, C: Clock> ProgressLine<W, C> {
         }
     }
 
-    /// Shows the line from now on if `is_asked`. Otherwise changes nothing.
+    /// If `is_asked`, shows the line for each haul that is begun from now on. Otherwise changes nothing.
     pub fn ask(&mut self, is_asked: bool)
         ensures hidden { self.old.is_shown ≡ false → is_asked ≡ false → self.new ≡ self.old }
     {

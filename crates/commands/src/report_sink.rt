@@ -51,8 +51,8 @@ impl<'a> Gate for FaultGate<'a> {
 /// An observer that writes the line of each late report, and passes the progress on.
 #[derive(Drop)]
 pub(crate) struct ReportSink<'a, 's, E: Write, H> {
-    /// The generation from which soups count as late: those that settle at this generation or later, and unsettled
-    /// ones.
+    /// The generation from which soups count as late. A soup is late if its checkpoint is this generation or later, or
+    /// if it is unsettled.
     pub(crate) from: u32,
     /// Where the lines are written.
     pub(crate) errors: &'a mut Out<E>,

@@ -46,8 +46,8 @@ use std::thread::Threads;
 ///
 /// # Errors
 ///
-/// As for `do_take`, and `Failed` if a line can't be written. Then nothing is written to standard output, and each
-/// worker surveys at most one more soup. If memory runs out, the lines so far are whole.
+/// As for `do_take`, and `Failed` if a line can't be written. Then nothing is written to the output, and each worker
+/// surveys at most one more soup. If memory runs out, the lines so far are whole.
 pub fn do_take_reporting<W: Write, E: Write, T: Threads + Wait + Sync, H: ProgressObserver>(
     machine: &mut Machine<'_, T, E, H>,
     plan: &Plan<'_>,

@@ -45,10 +45,10 @@ use std::thread::Threads;
 ///
 /// # Errors
 ///
-/// The status is `Refused` for a text that isn't a seed, a horizon below the period, a text that isn't a rule or a list
-/// of ranges, ranges that end past 2^40 or have more than 2^24 numbers together, or ranges that share a number;
-/// `Memory` if memory runs out or no thread can be started; and `Failed` if the output can't be written. In these
-/// cases, a line is written to standard error. A failure to write that line is not reported.
+/// The status is `Refused` if the seed, the rule or the list of ranges isn't valid, if the horizon is below the period,
+/// if a range ends past 2^40, or if the ranges have more than 2^24 numbers together or share a number; `Memory` if
+/// memory runs out or no thread can be started; and `Failed` if the output can't be written. In these cases, a line is
+/// written to standard error. A failure to write that line is not reported.
 pub fn do_take<W: Write, E: Write, T: Threads + Wait + Sync, H: ProgressObserver>(
     machine: &mut Machine<'_, T, E, H>,
     plan: &Plan<'_>,

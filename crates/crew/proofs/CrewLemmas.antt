@@ -110,7 +110,7 @@ double_of closed job over inside None reason c j o i is =
     absurd (cc)
 double_of closed job over inside (Some w) reason c j o i is = (w, refl)
 
--- a soup that was taken from a worker was taken
+-- if `worker_in` finds the worker that a soup was taken from, `is_taken` is true for the soup
 of_worker_taken : (taken : List (ℕ × ℕ)) (n w : ℕ) → worker_in n taken ≡ Some w → is_taken taken n ≡ true
 of_worker_taken [] n w is = absurd (let bad : None ≡ Some w = is in cc)
 of_worker_taken (t ∷ ts) n w is = go (nat_eq n t.1) is (λ h. of_worker_taken ts n w h)
@@ -316,7 +316,7 @@ module _ {O : Type 0} (hears : O → List Reported → O → Type 0)
       → HasHeard old new (λ reports. hears s reports t)
   heard_then s m t nothing h = record { notes = h.notes; got = h.got; heard = hears_more s m t [] (reports_in h.notes) nothing h.heard }
 
-  -- `HasHeard` holds after one more note if the observer was handed the report in it, or nothing if it has none
+  -- `HasHeard` holds after one more note if the observer was handed the note's report, or nothing if the note has none
   pub heard_note : {old new next : Received Note} (note : Note) (s m t : O) → HasHeard old new (λ reports. hears s reports m)
       → GotOne new next note → hears m (report_in note) t → HasHeard old next (λ reports. hears s reports t)
   heard_note {old} note s m t h g more = record {

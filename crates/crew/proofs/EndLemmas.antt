@@ -1,4 +1,4 @@
--- How the workers of a crew end, and the error that follows from it.
+-- How the workers of a crew end, and the error that follows from their ends.
 use Rattle.std.proofs.Common.{◌≡◌, ◌∙◌, ℕ, All, Bool, true, false, List, [], ◌∷◌, ap, cond, map, refl, subst, sym}
 use Rattle.std.specs.Prelude.{IfNone, IfSome, None, Option, Some, option_map}
 use Rattle.std.specs.List.{find, range_with_len}
@@ -19,7 +19,7 @@ use Rattle.crew.specs.declared.take.CrewError.{CrewError}
 use Rattle.crew.specs.declared.take.CrewError.TheVariants as crew_error
 use Rattle.crew.proofs.TakeLemmas.{all_numbers}
 
--- `IfSome o P` holds if `P` holds for each `x` for which `o` is `Some x`
+-- `IfSome o P` holds if `P x` holds whenever `o` is `Some x`
 pub if_some : {X : Type 0} (P : X → Type 0) (o : Option X) → ((x : X) → o ≡ Some x → P x) → IfSome o P
 if_some P None each = tt
 if_some P (Some x) each = each x refl
@@ -85,7 +85,7 @@ memory_of (Some worker) lacking error is = tt
 memory_of None (Some refused) error is = let same : error ≡ crew_error.Memory refused = cc in same
 memory_of None None error is = absurd (cc)
 
--- the ends of workers with these numbers, of which none has begun
+-- the ends of the workers with these numbers, if none of the workers has begun
 abbrev never_begun : (numbers : List ℕ) → List (ℕ × WorkerEnd)
 never_begun numbers = map (λ worker. (worker, NeverBegan)) numbers
 

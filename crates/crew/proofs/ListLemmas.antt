@@ -142,7 +142,7 @@ rises_at missing (t ∷ ts) up rise below =
     (above missing up t ts (rises_head t ts rise) (All-tail (λ s. s < length missing) t ts below))
     (rises_at missing ts up (rises_tail t ts rise) (All-tail (λ s. s < length missing) t ts below))
 
--- what holds for the numbers at these places holds for the number at t, if t is one of the places
+-- what holds for the numbers at these places holds for the number at place `t`, if `t` is one of the places
 pub at_place : (P : ℕ → Type 0) (missing places : List ℕ) (t : ℕ) → All P (map (slice_index missing) places)
     → 1 ≤ count_by (nat_eq t) places → P (slice_index missing t)
 at_place P missing [] t all some = absurd (let none : count_by (nat_eq t) [] ≡ 0 = refl in omega (arith, some, none))

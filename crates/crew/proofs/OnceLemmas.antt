@@ -1,4 +1,5 @@
--- No soup is reported twice: each worker reports only at places that it drew, and no place is drawn twice.
+-- No soup is reported twice: a worker reports on a soup only if it drew the soup's place in the list of missing
+-- numbers, and no place is drawn twice.
 use Rattle.std.proofs.Common.{◌≡◌, ◌≢◌, ◌<◌, ◌≤◌, ◌+◌, ◌++◌, ◌∙◌, ℕ, suc, All, Bool, cond, true, false, List, [], ◌∷◌, ap, arith, drop}
 use Rattle.std.proofs.Common.{get_or, length, map, nat_eq, nat_lt, refl, subst, sym, ⊎_elim}
 use Rattle.std.specs.Prelude.{count_by, slice_index, sum_by}
@@ -29,7 +30,7 @@ times_append n xs ys =
     let number : Reported → ℕ = λ r. r.number in
     ap (count_by (nat_eq n)) (map-append number xs ys) ∙ count_append (nat_eq n) (map number xs) (map number ys)
 
--- the number of reports on soup `n` in a note
+-- how many reports on soup `n` a note has
 abbrev pub on : ℕ → Note → ℕ
 on n note = times_reported n (report_in note)
 
@@ -67,7 +68,8 @@ once_if_some_below m numbers some n =
     let one = one_at_most (nat_lt n m) in
     omega (arith, below, one)
 
--- if the numbers ascend, the number at place `t` occurs at some places at most as often as `t` is one of the places
+-- If the missing numbers ascend, `t` is the only place of its number. So the numbers at `places` include this number at
+-- most as often as `places` includes `t`.
 module _ (missing : List ℕ) (up : Rises missing) (t : ℕ) (lt : t < length missing) where
   other_number : (p : ℕ) → p < length missing → t ≢ p → slice_index missing t ≢ slice_index missing p
   other_number p below apart same =
@@ -101,7 +103,7 @@ drawn_more t places drawn all =
     (λ (last : (n : ℕ) × (drawn ≡ places ++ n ∷ [])).
     let both = ap (count_by (nat_eq t)) last.1 ∙ count_append (nat_eq t) places (last.0 ∷ []) in omega (arith, both)) all
 
--- a worker reports on a soup at most as often as it drew the soup's place
+-- a worker's reports on a soup were received at most as often as the worker drew the soup's place
 module _ {may_stop lets : ℕ → ℕ → Type 0} (shared : Shared) (got : List (ℕ × Note)) (up : Rises shared.missing.items) (t : ℕ)
     (lt : t < length shared.missing.items) where
   pub of_worker_once : (s : WorkerResult) → HasWorked may_stop lets shared s.sender.number s.end s.pass s.sender → IsWhole got s.sender
@@ -124,8 +126,8 @@ module _ {may_stop lets : ℕ → ℕ → Type 0} (shared : Shared) (got : List 
 
 -- ---- all workers
 
--- if the value of the notes received from each worker is at most how often it drew `t`, the sum of the values is at
--- most how often all workers drew `t`
+-- If the sum of `of` over the notes received from each worker is at most how often the worker drew `t`, the sum over
+-- the notes from all these workers is at most how often they drew `t` together.
 pub of_workers : (of : Note → ℕ) (t : ℕ) (got : List (ℕ × Note)) (results : List WorkerResult) (first : ℕ)
     → map (λ s. s.sender.number) results ≡ range_with_len (first + 1) (length results)
     → All (λ s. sum_by of (notes_of s.sender.number got) ≤ count_by (nat_eq t) s.pass.numbers) results

@@ -10,7 +10,7 @@ use Rattle.handover.specs.Belts.{notes_of}
 use Rattle.handover.proofs.BeltLemmas.{notes_first, notes_other}
 use Rattle.crew.specs.declared.note.Note.{Note}
 
--- the sum of `of` over the notes of the workers with numbers up to this one
+-- the sum of `of` over the notes from workers whose number is at most `worker`
 abbrev pub up_to : (Note → ℕ) → ℕ → List (ℕ × Note) → ℕ
 up_to of worker [] = 0
 up_to of worker (m ∷ ms) = cond {A = ℕ} (nat_le m.0 worker) (of m.1) 0 + up_to of worker ms

@@ -1,4 +1,4 @@
--- A crew is run by starting one worker at a time.
+-- A crew is run by recursion: a worker is started, the crew is run with the other endpoints, and the worker comes back.
 use Rattle.std.proofs.Common.{◌≡◌, ◌≢◌, ◌≤◌, ◌+◌, ◌-◌, ◌++◌, ◌∙◌, ◌<◌, ℕ, All, Bool, true, false, List, [], ◌∷◌, ap}
 use Rattle.std.proofs.Common.{arith, cond, length}
 use Rattle.std.proofs.Common.{map, refl, subst, subst₂, sym}
@@ -57,7 +57,7 @@ ready_first shared crew workers passes many senders few away receiver room stopp
       stopped = stopped;
     }
 
--- the flag `answered` is true if memory never ran out
+-- the collector's flag `answered`, which is `not (is_some lacking)`, is true if `lacking` is `None`
 pub heard_if : {E : Type 0} (lacking : Option E) → lacking ≡ None → not (is_some lacking) ≡ true
 heard_if lacking none = ap (λ o. not (is_some o)) none
 
@@ -215,7 +215,7 @@ module _ {may_stop lets : ℕ → ℕ → Type 0} {shared : Shared} where
             subst (λ (n : ℕ). Collected (collector_of n crew) (collector_of 0 new) answered) same collected;
       }
 
-  -- `HasRunAll` holds if the other workers are back, and then the worker that was started first
+  -- `HasRunAll` holds once all the other workers are back, and after them the worker of `endpoint`
   pub run_more : (next : Endpoints) (crew mid new : Crew) (endpoint : Drawn × Presented Note) (worker_result : WorkerResult) (b : Bool) (started : ℕ)
       → IsTakenOut endpoint crew.endpoints next → HasRunAll may_stop lets shared (left_with crew next started) mid
       → Leaves may_stop lets shared endpoint.1.number worker_result → was_started worker_result.end ≡ b → started ≡ bool_byte b

@@ -1,4 +1,4 @@
--- From the notes that each worker presented: which reports the haul has taken, and which an observer was handed.
+-- What follows from the workers' notes: which reports the haul has taken, and which reports an observer was handed.
 use Rattle.std.proofs.Common.{◌≡◌, ◌≢◌, ◌≤◌, ◌+◌, ◌++◌, ◌∙◌, ℕ, zero, suc, Bool, cond, nat_eq, All, List, [], ◌∷◌, ap, arith, drop, filter, get_or, inl, inr}
 use Rattle.std.proofs.Common.{length, map, refl, subst, sym, ⊎_elim}
 use Rattle.std.specs.Prelude.{Contains, IfSome, Option, Some, count_by, slice_index, sum_by}
@@ -37,9 +37,9 @@ use Rattle.crew.proofs.OnceLemmas.{of_reported, of_worker_once, of_workers, on, 
 use Rattle.crew.proofs.SenderSums.{up_to, up_to_all, up_to_none}
 use Rattle.crew.proofs.WorkerLemmas.{of_first_stopped}
 
--- ---- what was received of one worker
+-- ---- what was received from one worker
 
--- a report of the worker for the job, of a missing number that its gate let it survey
+-- a report by this worker, for this job, on a missing number that the gate let the worker survey
 abbrev IsOwn : (ℕ → ℕ → Type 0) → Job → List ℕ → ℕ → Reported → Type 0
 IsOwn lets job missing worker r = IsOwnReport lets job worker r × Contains missing r.number
 
@@ -76,7 +76,7 @@ received_of {lets} shared places got sender up h whole =
           (subst Rises (sym numbers) (rises_at missing places up h.ascending h.below));
     }
 
--- what holds for the number in each result holds for each worker's number
+-- what holds for the worker's number in each result holds for all numbers from 1 to `workers`
 pub each_worker : (P : ℕ → Type 0) (workers : ℕ) (results : List WorkerResult) → map (λ s. s.sender.number) results ≡ range_with_len 1 workers
     → All (λ s. P s.sender.number) results → (worker : ℕ) → 1 ≤ worker → worker ≤ workers → P worker
 each_worker P workers results numbers all worker le ge =
@@ -91,7 +91,7 @@ received_each {lets = lets} shared got results workers up numbers left whole =
     (λ k d lt. let worked = (left k d lt).worked in
     received_of shared worked.places got (get_or results k d).sender up worked.reports (whole k d lt))
 
--- ---- what was received of all workers
+-- ---- what was received from all workers
 
 reported_first : (p : ℕ) (note : Note) (more : List (ℕ × Note)) → reported (notes_of p ((p, note) ∷ more)) ≡ report_in note ++ reported (notes_of p more)
 reported_first p note more = ap reported (notes_first p p note more refl)

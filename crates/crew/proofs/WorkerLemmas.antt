@@ -60,7 +60,7 @@ module _ {lets : ℕ → ℕ → Type 0} (shared : Shared) where
             (All-push (IsOwnReport lets shared.job sender.number) (reported sender.notes) r h.own own);
       }
 
-  -- `reported_more` for the pass after it drew and the sender after it presented the report
+  -- `reported_more`, stated for the places `now` after the draw and the sender `next` after it presented the report
   pub reported_next : (places now : List ℕ) (sender next : Presented Note) (n : ℕ) (r : Reported)
       → HasReported lets shared places sender
       → All (λ m. m < n) places → n < length shared.missing.items → IsOwnReport lets shared.job sender.number r
@@ -112,7 +112,7 @@ module _ {may_stop lets : ℕ → ℕ → Type 0} (shared : Shared) (worker : �
     lacks = λ error lacking. absurd (let bad : false ≡ true = ap lacks_memory lacking in cc);
   }
 
-  -- `HasWorked` holds for a worker that has drawn a number and that its gate then stopped
+  -- `HasWorked` holds for a worker that drew a number and was then stopped by the gate
   pub worked_stopped : (n : ℕ) → new ≡ with_drawn n old → StopsAt may_stop shared.missing.items worker
       → HasWorked may_stop lets shared worker Stopped new sender
   worked_stopped n is stops = record {
@@ -199,7 +199,7 @@ module _ {may_stop lets : ℕ → ℕ → Type 0} (shared : Shared) where
         started = begun_started ended begun;
       })
 
-  -- `Leaves` holds for a worker for which no thread could be started, so that its closure was called without one
+  -- `Leaves` holds for a worker for which no thread could be started, so that its closure ran in the calling thread
   pub unstarted : (worker : ℕ) (worker_result : WorkerResult) (error : OutOfMemory) → Returns may_stop lets shared worker worker_result
       → Leaves may_stop lets shared worker (result_of worker_result.pass worker_result.sender (Unstarted error))
   unstarted worker worker_result error h =

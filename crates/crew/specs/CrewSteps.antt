@@ -29,15 +29,15 @@ pub record IsTakenOut (endpoint : Drawn × Presented Note) (old new : Endpoints)
   pub passes : old.passes.items ≡ new.passes.items ++ endpoint.0 ∷ []
   pub senders : old.senders.items ≡ new.senders.items ++ endpoint.1 ∷ []
 
--- no endpoints, and room for those of this many workers
+-- there are no endpoints, and there is room for the endpoints of this many workers
 pub record HaveRoom (workers : ℕ) (endpoints : Endpoints) : Type 0 where
   pub no_passes : endpoints.passes.items ≡ []
   pub no_senders : endpoints.senders.items ≡ []
   pub for_passes : workers ≤ vec_capacity endpoints.passes
   pub for_senders : workers ≤ vec_capacity endpoints.senders
 
--- What `wanted` workers need to survey the missing soups of a haul: the soups' numbers, a ticket for each number, a
--- belt, an unused pass and a silent sender for each worker, and room for the endpoints of workers that have ended.
+-- A crew of `wanted` workers is ready to survey the missing soups of a haul: there are the soups' numbers, a ticket for
+-- each number, a belt, and for each worker an unused pass, a silent sender, and room for these two when it has ended.
 pub record IsSetUp (held : Held) (wanted : ℕ) (setup : CrewSetup) : Type 0 where
   pub job : setup.shared.job ≡ held.terms.job
   pub missing : setup.shared.missing.items ≡ was_missing held
@@ -51,14 +51,14 @@ pub record IsSetUp (held : Held) (wanted : ℕ) (setup : CrewSetup) : Type 0 whe
   pub receiver : setup.receiver ≡ deaf setup.shared.belt
   pub back : HaveRoom wanted setup.back
 
--- a pass and a sender were appended, and there is as much room as before
+-- a pass and a sender were appended, and the capacities are unchanged
 pub record HasAddedEndpoint (pass : Drawn) (sender : Presented Note) (old new : Endpoints) : Type 0 where
   pub passes : new.passes.items ≡ old.passes.items ++ pass ∷ []
   pub senders : new.senders.items ≡ old.senders.items ++ sender ∷ []
   pub for_passes : vec_capacity new.passes ≡ vec_capacity old.passes
   pub for_senders : vec_capacity new.senders ≡ vec_capacity old.senders
 
--- the first worker that was stopped: one that came back before, or otherwise this one if it was stopped
+-- the first stopped worker: `first` if there is one, otherwise `worker` if it was stopped, and otherwise `None`
 abbrev pub stopped_with : Option ℕ → ℕ → End → Option ℕ
 stopped_with (Some first) worker ended = Some first
 stopped_with None worker ended = if was_stopped ended then Some worker else None
@@ -83,7 +83,7 @@ pub record MayRun (shared : Shared) (crew : Crew) : Type 0 where
   pub stopped : crew.stopped ≡ None
 
 -- The workers of all the old endpoints are back, in the order of the endpoints, with their results. The collector has
--- waited for those that were started, and for those that were away before.
+-- waited for the workers that were started, and for the workers that were already away.
 pub record HasRunAll (may_stop lets : ℕ → ℕ → Type 0) (shared : Shared) (old new : Crew) : Type 0 where
   pub results : List WorkerResult
   pub left : All (λ s. Leaves may_stop lets shared s.sender.number s) results

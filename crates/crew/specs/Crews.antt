@@ -46,7 +46,7 @@ abbrev pub HasComeAll : List Reported → Held → Held → Type 0
 HasComeAll reports old new = (arrivals : List Arrival) → StandsFor arrivals old → StandsFor (arrivals ++ map Offer reports) new
 
 -- A haul has taken only the reports in `part`. One report among `reports` was lost, although the book would take it
--- after the reports that were taken before it.
+-- after the reports in `before`.
 pub record HasLost (reports part : List Reported) (old : Held) : Type 0 where
   pub before : List Reported
   pub report : Reported
@@ -70,8 +70,8 @@ abbrev pub collector_with : ℕ → Received Note → Held → Collector
 collector_with awaited receiver haul = record { awaited = awaited; receiver = receiver; haul = haul }
 
 -- Notes were received from the workers, and each note "done" reduces the number of awaited workers by one. If no worker
--- is awaited any more, the last note (if there are any) is a note "done". The haul has taken some of the reports among
--- the notes: if `answered`, all that the book takes, so that the haul has their soups; otherwise a report was lost.
+-- is awaited any more, the last note, if there is one, is a note "done". The haul has taken some of the reports among
+-- the notes. If `answered`, it has taken all that the book takes, so it has their soups. Otherwise a report was lost.
 pub record Collected (before after : Collector) (answered : Bool) : Type 0 where
   pub notes : List (ℕ × Note)
   pub belt : after.receiver.belt ≡ before.receiver.belt

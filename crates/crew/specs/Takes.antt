@@ -75,7 +75,7 @@ is_stopped (worker, NoneLeft) = false
 is_stopped (worker, LackedMemory) = false
 is_stopped (worker, NeverBegan) = false
 
--- the number of the first worker in the list that the gate stopped, if there is one; the lowest, if the numbers ascend
+-- the number of the first stopped worker in the list, or `None`; if the numbers ascend, this number is the lowest
 abbrev pub lowest_stopped : List (ℕ × WorkerEnd) → Option ℕ
 lowest_stopped ends = option_map (λ e. e.0) (find is_stopped ends)
 

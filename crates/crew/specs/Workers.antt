@@ -32,7 +32,7 @@ pub record HasReported (lets : ℕ → ℕ → Type 0) (shared : Shared) (places
   pub numbers : map (λ r. r.number) (reported sender.notes) ≡ map (slice_index shared.missing.items) places
   pub own : All (IsOwnReport lets shared.job sender.number) (reported sender.notes)
 
--- the sender's number of each pass, in order
+-- the number of each sender, in order
 abbrev pub sender_numbers : List (Presented Note) → List ℕ
 sender_numbers passes = map (λ s. s.number) passes
 

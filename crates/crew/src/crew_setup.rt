@@ -26,7 +26,7 @@ pub(crate) struct CrewSetup {
 }
 
 impl CrewSetup {
-    /// Returns what `workers` workers need to survey what is missing in an open haul.
+    /// Returns the setup for `workers` workers that survey the missing soups of an open haul.
     pub(crate) fn new(alloc: Global, haul: &Haul, workers: u8) -> Result<CrewSetup, OutOfMemory>
         requires some { 1 ≤ workers }
         requires few { workers ≤ haul.now.terms.workers }
@@ -41,7 +41,7 @@ impl CrewSetup {
             Err(TicketsError::BadCount | TicketsError::BadPasses) => unreachable!(),
         };
         let back = Endpoints::with_room(alloc, workers)?;
-        // The belt is opened last, because each `?` after it would drop it, which is expensive to prove.
+        // The belt is opened last, because each later `?` would drop the belt, which is expensive to prove.
         let (belt, senders, receiver) = Belt::open(alloc, ROOM, workers)?;
         let shared = Shared {
             job: haul.job(),

@@ -22,7 +22,7 @@ pub(crate) struct Endpoints {
 }
 
 impl Endpoints {
-    /// Returns no endpoints, with room for those of `workers` workers.
+    /// Returns empty lists of endpoints, with room for the endpoints of `workers` workers.
     pub(crate) fn with_room(alloc: Global, workers: u8) -> Result<Endpoints, OutOfMemory>
         ensures { IfOk result (HaveRoom workers) }
     {

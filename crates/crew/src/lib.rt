@@ -1,4 +1,4 @@
-//! What threads need to take the soups of one haul together, without a lock.
+//! A crew: worker threads that survey the soups of one haul together, without a lock.
 #![tactic(auto)]
 
 /// The collector, which offers what it receives to a haul.

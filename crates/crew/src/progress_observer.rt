@@ -6,8 +6,9 @@ use haul_core::report::Report;
 
 /// Callbacks that receive the progress of a haul, and the workers' reports.
 ///
-/// Contracts hold for any observer, so it can't change what a call promises to return or to write to its output. What
-/// an observer does with reports is its own promise, [`hears`], and `take` says which reports it has received.
+/// Contracts hold for any observer, so it can't change what a call promises to return or to write to its output. With
+/// [`hears`], an observer promises what it does with reports. The contract of `take` says which reports the observer
+/// has received.
 pub trait ProgressObserver {
     /// Says that between two states of an observer, it has received these reports, in this order.
     ghost hears: { Self → List Reported → Self → Type 0 } = { λ _ _ _. ⊤ };
@@ -17,7 +18,7 @@ pub trait ProgressObserver {
         ensures { hears self.old [] self.new }
     {}
 
-    /// Called after the threads were started: the system started `workers` of the workers.
+    /// Called after the threads were started. `workers` is the number of workers for which a thread was started.
     fn started(&mut self, _workers: u8)
         ensures { hears self.old [] self.new }
     {}
@@ -41,7 +42,7 @@ pub trait ProgressObserver {
         ensures { hears self.old [] self.new }
     {}
 
-    /// Between a state and the same state, an observer has received nothing.
+    /// `hears` holds between a state and itself for the empty list of reports.
     ghost hears_none: { (s : Self) → hears s [] s };
 
     /// An observer that has received some reports and then others has received all of them, in this order.

@@ -136,8 +136,8 @@ pub fn take<G: Gate + Sync, R: Threads + Wait + Sync, H: ProgressObserver>(
     Err((haul, cause))
 }
 
-/// Runs workers that survey what is missing in a haul. Returns the haul, and why soups may still be missing, or `None`
-/// if the haul is complete.
+/// Runs workers that survey what is missing in a haul. Returns the haul, and why soups may still be missing. If the
+/// reason is `None`, the haul is complete.
 fn complete_haul<G: Gate + Sync, R: Threads + Wait + Sync, H: ProgressObserver>(
     alloc: Global,
     rt: &R,
@@ -290,7 +290,7 @@ struct Crew {
     away: u8,
     /// The lowest number of a worker that has come back and was stopped.
     stopped: Option<u8>,
-    /// A witness that memory was refused, for a thread, a survey or a report, or `None` if no memory was refused.
+    /// A witness that memory was refused (for a thread, a survey or a report), or `None` if no memory was refused.
     lacking: Option<OutOfMemory>,
 }
 

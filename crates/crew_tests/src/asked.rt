@@ -94,8 +94,9 @@ fn the_gate_is_asked_once_for_each_soup(rt: HostRuntime) -> Result<(), Fail> {
     Ok(())
 }
 
-/// Returns why a crew of three doesn't complete its haul if the gate stops every worker at once. Under the rule b2s, a
-/// soup explodes, and its only checkpoint after generation 0 is generation 10,000, so that a survey takes minutes.
+/// Returns why a crew of three doesn't complete its haul if the gate stops each worker at its first soup. Under the
+/// rule b2s, a soup explodes, and its only checkpoint after generation 0 is generation 10,000, so that a survey takes
+/// minutes.
 fn stopped_at_once<R: AllocGlobal + Threads + Wait + Sync>(
     rt: &R,
 ) -> Result<Option<CrewError>, Fail> {

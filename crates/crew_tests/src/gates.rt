@@ -19,8 +19,8 @@ use std::thread::Threads;
 /// How often a gate looks for other workers before it gives up.
 const TURNS: u32 = 1_000_000;
 
-/// A count of the workers that have come, for which other workers can wait. Each turn of waiting advances a block by
-/// one generation, so that the turn takes some time.
+/// A count of how often workers have come to a gate. A worker can wait until the count reaches a given number. Each
+/// turn of waiting advances a block by one generation, so that the turn takes some time.
 #[derive(Drop)]
 pub(crate) struct Patience {
     alloc: Global,
@@ -49,7 +49,7 @@ impl Patience {
         self.come.fetch_add(1, Ordering::SeqCst);
     }
 
-    /// Waits until `number` workers have come, for at most `TURNS` turns. Returns `Stop` if they haven't come by then.
+    /// Waits until workers have come `number` times, for at most `TURNS` turns. Returns `Stop` if they haven't by then.
     fn wait_for(&self, number: u64) -> Result<(), Stop> {
         for _ in 0..TURNS {
             if self.come.load(Ordering::SeqCst) >= number {
@@ -196,8 +196,8 @@ impl Gate for Shutter {
 }
 
 /// Lets workers go on with a haul under a gate that stops every worker after `calls` soups. Returns the haul, and
-/// whether `calls` soups were taken, or all if fewer were missing. If `calls` is 0, worker 1 also has to be reported as
-/// stopped.
+/// whether the workers took `calls` soups, or all missing soups if there were fewer. If `calls` is 0, worker 1 also has
+/// to be reported as stopped.
 fn goes_on_for<R: AllocGlobal + Threads + Wait + Sync>(
     rt: &R,
     haul: Haul,

@@ -21,7 +21,7 @@ fn text_of(alloc: Global, haul: &Haul) -> Result<Vec<u8>, Fail> {
     Ok(out.into_inner())
 }
 
-/// What became of a haul that was left incomplete, completed, and closed.
+/// What became of a haul that was first left incomplete, then completed, and then closed.
 #[derive(Drop)]
 struct Outcome {
     /// Why the first crew didn't complete the haul, how many soups were missing then, and whether the haul was closed.

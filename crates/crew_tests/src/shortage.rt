@@ -15,7 +15,7 @@ use std::thread::Threads;
 use survey_core::job::Job;
 
 /// Lets `workers` workers take `count` soups. Asserts that they complete the haul or memory runs out, and that another
-/// call completes the haul, which it can only if the haul is still open.
+/// call completes the haul, which is possible only if the haul is still open.
 fn assert_taken<R: Abort + AllocGlobal + Threads + Wait + Sync>(
     rt: &R,
     job: Job,

@@ -93,7 +93,7 @@ fn draws_in_sixteen_threads(rt: HostRuntime) -> Result<(), Fail> {
     Ok(())
 }
 
-/// Each row has how many numbers and passes are asked for, and the error with which no tickets are opened for them.
+/// Each row has how many numbers and passes are asked for, and the error that `Tickets::open` returns.
 const NOT_OPENED: [(u64, u8, TicketsError); 5] = [
     (1, 0, TicketsError::BadPasses),
     (1, 17, TicketsError::BadPasses),

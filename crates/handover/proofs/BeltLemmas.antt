@@ -238,7 +238,7 @@ module _ {N : Type 0} where
             });
       }
 
-  -- one more sender is appended to those made so far
+  -- the senders 1 to n, with the sender n + 1 appended, are the senders 1 to n + 1
   pub senders_more : (name : TableId) (n : ℕ)
       → map (silent {N = N} name) (range_with_len 1 n) ++ silent {N = N} name (n + 1) ∷ [] ≡ map (silent {N = N} name) (range_with_len 1 (n + 1))
   senders_more name n =

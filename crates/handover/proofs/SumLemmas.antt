@@ -29,7 +29,7 @@ module _ {X : Type 0} (f : X → ℕ) where
       let e : f x ≡ f w = ap f (some-injective x w there) in let h = sum_at xs i v at in omega (arith, sum_by-cons f x xs)
   sum_two (x ∷ xs) (suc i) (suc j) v w apart at there = let h = sum_two xs i j v w (λ e. apart (ap suc e)) at there in omega (arith, sum_by-cons f x xs)
 
-  -- a sum is at most another if it is at most the other view by view
+  -- if f is at most g for each view, then the sum of f is at most the sum of g
   pub sum_below : (g : X → ℕ) (l : List X) → ((j : ℕ) (u : X) → get_elem? l j ≡ some u → f u ≤ g u) → sum_by f l ≤ sum_by g l
   sum_below g [] le = omega arith
   sum_below g (x ∷ xs) le =
@@ -68,13 +68,13 @@ module _ {X : Type 0} (f : X → ℕ) where
       remainder g (x ∷ xs) (suc i) v at = let h = remainder g xs i v at in omega (arith, sum_by-cons g x xs)
 
 module _ {X : Type 0} (P : X → Type 0) where
-  -- if one view is replaced, a property that the others and the new view have holds for all
+  -- after one view is replaced, all views have a property if the new view and the others have it
   pub each_set : (l : List X) (i : ℕ) (w : X) → ((j : ℕ) (u : X) → j ≢ i → get_elem? l j ≡ some u → P u) → P w
       → (j : ℕ) (u : X) → get_elem? (set l i w) j ≡ some u → P u
   each_set l i w others mine j u e =
       ⊎_elim (λ (x : (j ≡ i) × (w ≡ u)). subst P x.1 mine) (λ (x : (j ≢ i) × (get_elem? l j ≡ some u)). others j u x.0 x.1) (at_set l i j w u e)
 
-  -- if one view is appended, a property that the others and the new view have holds for all
+  -- after one view is appended, all views have a property if the new view and the others have it
   pub each_push : (l : List X) (w : X) → ((j : ℕ) (u : X) → get_elem? l j ≡ some u → P u) → P w → (j : ℕ) (u : X) → get_elem? (l ++ w ∷ []) j ≡ some u → P u
   each_push l w others mine j u e =
       ⊎_elim (λ (x : get_elem? l j ≡ some u). others j u x) (λ (x : w ≡ u). subst P x mine) (at_snoc l w u j e)

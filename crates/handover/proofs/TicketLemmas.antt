@@ -140,8 +140,8 @@ begins issue few few_passes = record {
     one zero v e = subst (Fits issue 0) (some-injective _ _ e) (record { marks = omega arith; drained = λ h. absurd (omega arith); spent = λ _. refl })
     one (suc j) v e = absurd (some-ne-none v (sym e))
 
--- A thread that reads `n` from the counter can draw: a new holding and an act keep the law, and together they are a
--- draw that found the counter at `n`.
+-- A thread that reads `n` from the counter can draw: for some new holding and some valid act, the step keeps the law
+-- and is a draw that found the counter at `n`.
 abbrev Moves : Issue → ℕ → ℕ → Me (Unit {0}) Holding → State (Unit {0}) Holding → ℕ → Type 0
 Moves issue slots id me s n =
     (w : Holding) × (a : Act (Unit {0})) × Valid s.homes me.1 a × IsLawful issue (stepped s 0 ((n + 1) % 2 ^ 64) id me.1 w a)

@@ -46,7 +46,7 @@ module _ {N : Type 0} where
   abbrev pub with_note : N → Presented N → Presented N
   with_note note pass = record { belt = pass.belt; number = pass.number; notes = pass.notes ++ note ∷ [] }
 
-  -- the receiver's pass after it received a note under the number of one of the belt's senders
+  -- the receiver's pass after it received this note from one of the belt's senders
   pub record GotOne (old new : Received N) (note : N) : Type 0 where
     pub sender : ℕ
     pub some_worker : (1 ≤ sender) × (sender ≤ old.belt.workers)
@@ -58,11 +58,11 @@ module _ {N : Type 0} where
   left_of got pass = (pass.number, drop (length (notes_of pass.number got)) pass.notes)
 
   -- the notes that were received from the sender, followed by those that are left, are the notes that it presented, in
-  -- its order
+  -- the same order
   abbrev pub IsWhole : List (ℕ × N) → Presented N → Type 0
   IsWhole got pass = notes_of pass.number got ++ drop (length (notes_of pass.number got)) pass.notes ≡ pass.notes
 
-  -- the entry, with this note before its other notes if it is the entry of this sender
+  -- the entry `e`; if `e` is the entry of this sender, the note is put before the other notes in it
   abbrev pub with_first : ℕ → N → ℕ × List N → ℕ × List N
   with_first sender note e = (e.0, if nat_eq e.0 sender then note ∷ e.1 else e.1)
 

@@ -39,7 +39,7 @@ new_part v = holding v.issue 1 0 []
 abbrev pub both_holdings : Holding → Holding → Holding
 both_holdings v w = holding v.issue (v.shares + w.shares) (v.marks + w.marks) (w.numbers ++ v.numbers)
 
--- the pass has no more marks than shares, marks only if all numbers are drawn, and numbers only if it has shares
+-- a pass has no more marks than shares; if it has marks, all numbers are drawn; if it has no shares, it has no numbers
 pub record Fits (issue : Issue) (counter : ℕ) (v : Holding) : Type 0 where
   pub marks : v.marks ≤ v.shares
   pub drained : 0 < v.marks → issue.count ≤ counter

@@ -260,7 +260,8 @@ impl<N: Drop> Belt<N> {
         unreachable!()
     }
 
-    /// Closes the belt. Returns the notes that weren't received, of the senders whose passes are handed back.
+    /// Closes the belt. Returns the notes that weren't received. Contracts see those from the senders whose passes are
+    /// handed back.
     pub fn gather(self, senders: Vec<SenderPass<N>>, receiver: ReceiverPass<N>) -> Remainder<N>
         requires senders { All (λ s. s.belt ≡ self.name) senders.items }
         requires receiver { receiver.belt ≡ self }

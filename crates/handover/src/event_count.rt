@@ -8,8 +8,8 @@
 //! ```
 //!
 //! All atomic operations are sequentially consistent, as the proofs assume. The proofs say nothing about waking.
-//! The comment at each operation says what the event count itself needs, and which wake-up a weaker ordering would
-//! lose.
+//! The comment at each operation says which ordering the event count itself needs, and which wake-up would be lost with
+//! a weaker one.
 use std::sync::Wait;
 use std::sync::atomic::{AtomicU64, Ordering};
 use std::time::Duration;

@@ -100,7 +100,7 @@ impl TableRule<(), Holding, Issue> for Law {
     ghost first = { first_holding };
 }
 
-/// The step in which a pass draws the old value of the counter.
+/// The step in which a pass adds 1 to the counter, and draws the old value if it is below the count.
 struct Draw;
 
 impl Play<(), Holding> for Draw {

@@ -73,7 +73,7 @@ find_other n m (r ∷ rs) h = go (cases_Bool (has_number m r)) (find_other n m r
         ap (λ (b : Bool). find (has_number n) (cond (not b) (r ∷ filter (λ s. not (has_number m s)) rs) (filter (λ s. not (has_number m s)) rs))) apart
         ∙ ap (λ (o : Option Reported). cond (has_number n r) (Some r) o) remainder
 
--- the first report on a number is the same among the first reports on each number as among all reports
+-- a search for a number in `first_of_each` finds the same report as a search in the whole list
 pub find_first : (n : ℕ) (rs : List Reported) → find (has_number n) (first_of_each rs) ≡ find (has_number n) rs
 find_first n [] = refl
 find_first n (r ∷ rs) = go (cases_Bool (has_number n r)) (find_first n rs)
@@ -296,7 +296,7 @@ no_memory false true false false worker e = absurd (cc)
 no_memory false true false true None e = absurd (cc)
 no_memory false true false true (Some w) e = absurd (cc)
 
--- if memory runs out for an offer, the book takes the offer
+-- if a haul runs out of memory at an offer, the book would have taken the offer
 pub is_taken : (terms : Terms) (before : List Arrival) (r : Reported) (given : Option OfferError) → IsReply given (refusal_of terms before r)
     → given ≡ Some (Memory out_of_memory) → refusal_of terms before r ≡ None
 is_taken terms before r given (inl same) e = absurd (no_memory (has_closing before) (same_job terms.job r.job) (nat_lt terms.workers r.worker)
@@ -336,7 +336,7 @@ stopped_at r before arrivals prefix next more held new cut same taken s = on_err
     is_next terms before (Offer r) more taken = taken
     is_next terms before Closing more taken = taken
 
--- the items that a vector's iterator has yielded are a prefix of its items
+-- a vector's iterator had the items that it has yielded, followed by the items that it still has
 pub taken_prefix : {X A : Type 0} (s : IntoIter X A) (xs : List X) (t : IntoIter X A) → Yields into_iter_steps s xs t
     → into_iter_items s ≡ xs ++ into_iter_items t
 taken_prefix s [] t y = ap into_iter_items y

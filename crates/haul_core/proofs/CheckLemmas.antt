@@ -59,7 +59,7 @@ one_report determined claim wanted made report m k =
     let finding = determined made.job.rule made.job.profile (soup made.job.seed made.number) made.finding report.finding m.lawful.finding there in
     λ i. record { job = sym job i; worker = sym worker i; number = sym number i; finding = finding i }
 
--- if some report confirms the claim, the claim agrees with the finding that was made
+-- if some report confirms the claim, the claim agrees with the finding of the report that was made
 pub agrees_if_confirmed : FindingsAreDetermined → (claim : Claimed) (wanted : Job) (made report : Reported) → IsMade claim wanted made
     → IsConfirmed claim wanted report → Agrees claim made.finding
 agrees_if_confirmed determined claim wanted made report m k =

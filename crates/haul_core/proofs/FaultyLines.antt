@@ -1,4 +1,4 @@
--- The first fault of a line that isn't a claim's: a field that no claim has at its place, or a missing field.
+-- The first fault of a line that isn't the line of a claim: a field that no claim has there, or a missing field.
 use Rattle.std.proofs.Common.{◌≡◌, ◌≢◌, ◌∙◌, ◌+◌, ◌-◌, ◌<◌, ◌≤◌, ◌++◌, ◌==◌, ◌⊎◌, ◌∷◌, ℕ, List, Option, [], Some, None, ap, sym, refl, length, arith, append-nil}
 use Rattle.std.proofs.Common.{append_assoc, codes, drop, flat_map, get_or, inl, inr, length-append, subst, take, true, false, Bool}
 use Rattle.std.proofs.lemmas.List.{length-take-le, take-append-drop}
@@ -33,7 +33,7 @@ followed_last (b ∷ before) field remainder =
     followed-cons b before (field ++ 32 ∷ remainder) ∙ ap (λ (t : List ℕ). b ++ 32 ∷ t) (followed_last before field remainder)
     ∙ sym (followed-cons b (before ++ field ∷ []) remainder)
 
--- if a line begins with the fields `before`, and then `field` is cut off, the line begins with `before` and `field`
+-- if a line begins with the fields `before`, and `field` is the next field, the line begins with `before` and `field`
 pub follows_more : (line : List ℕ) (before : List (List ℕ)) (here field : List ℕ) (more : Option (List ℕ)) → FollowsFields line before (Some here)
     → Cuts 32 here field more
     → FollowsFields line (before ++ field ∷ []) more
@@ -56,7 +56,7 @@ ends : (more : Option (List ℕ)) → (remainder_of more ≡ []) ⊎ has_byte 32
 ends None = inl refl
 ends (Some more) = inr refl
 
--- a field that no lawful claim has after the fields before it is the first fault
+-- if no lawful claim has this field after the fields `before`, the field is the first fault
 pub bad_at : (line : List ℕ) (before : List (List ℕ)) (here field : List ℕ) (more : Option (List ℕ)) → FollowsFields line before (Some here) → Cuts 32 here field more
     → BeginClaim before → ((claim : Claimed) → IsClaim claim → (remainder : List (List ℕ)) → fields_of claim ≡ before ++ field ∷ remainder → ⊥)
     → IsFirstFaultOf line (length line - length here)
@@ -73,7 +73,7 @@ bad_at line before here field more f c b none =
       is = omega (arith, ap length f, length-append (followed before) here);
     })
 
--- if the line ends where each lawful claim has another field, the missing field is the first fault
+-- if the line ends after the fields `before`, and no lawful claim has just these, the missing field is the first fault
 pub lacks_at : (line : List ℕ) (before : List (List ℕ)) (there : List ℕ) → FollowsFields line before None → there ≡ [] → BeginClaim before
     → ((claim : Claimed) → IsClaim claim → fields_of claim ≢ before) → IsFirstFaultOf line (length line - length there)
 lacks_at line [] there f e b none = absurd f
@@ -107,7 +107,7 @@ cut_anywhere (b ∷ text) = go (b == 32) refl (cut_anywhere text)
         more prefix None k = record { prefix = b ∷ prefix; remainder = None; cut = (ap (λ (t : List ℕ). b ∷ t) k.0, or_from _ _ e k.1) }
         more prefix (Some remainder) k = record { prefix = b ∷ prefix; remainder = Some remainder; cut = (ap (λ (t : List ℕ). b ∷ t) k.0, or_from _ _ e k.1) }
 
--- if no field may follow, the next field is the first fault
+-- if no lawful claim has a field after the fields `before`, but the line has one, this field is the first fault
 pub over_at : (line : List ℕ) (before : List (List ℕ)) (here : List ℕ) → FollowsFields line before (Some here) → BeginClaim before
     → ((claim : Claimed) → IsClaim claim → (field : List ℕ) (remainder : List (List ℕ)) → fields_of claim ≡ before ++ field ∷ remainder → ⊥)
     → IsFirstFaultOf line (length line - length here)
@@ -148,7 +148,7 @@ unfolding found_fields
 some_found None h = absurd (omega arith)
 some_found (Some told) h = absurd (omega arith)
 
--- if the line ends within the head or right after it, the missing next field is the first fault
+-- if the line ends within the head or directly after it, the missing next field is the first fault
 pub head_lacks : (line : List ℕ) (place : ℕ) (head : LineStart) (there : List ℕ) → place ≤ 7 → HasHead line place head None → there ≡ []
     → IsFirstFaultOf line (length line - length there)
 head_lacks line place head there within h e =

@@ -38,7 +38,7 @@ longer_decimal text n m remainder b h fits e =
     let none : (length remainder == 0) ≡ true = ap (λ (r : List ℕ). length r == 0) c.1 in
     absurd (cc)
 
--- fields that have the same name and different texts after it differ
+-- two fields differ if they have the same name but different texts after the name
 pub after_name : (field name remainder more : List ℕ) → field ≡ name ++ remainder → remainder ≢ more → field ≢ name ++ more
 after_name field name remainder more e other f = other (append_cancel_left name remainder more (sym e ∙ f))
 
@@ -81,7 +81,7 @@ cut_none byte (x ∷ xs) h = go (x == byte) refl h (cut_none byte xs)
     go true e h more = absurd (omega arith)
     go false e h more = ap (λ (t : Bool). t || list_any (λ b. b == byte) xs) e ∙ more (omega arith)
 
--- if `position` finds the byte, the text is what comes before it, which lacks the byte, then the byte, then the rest
+-- if `position` finds the byte at `place`, the text consists of a prefix without the byte, the byte, and the rest
 pub cut_found : (byte : ℕ) (text : List ℕ) (place : ℕ) → Some place ≡ position (λ b. b == byte) text
     → (text ≡ take place text ++ byte ∷ take (length text - (place + 1)) (drop (place + 1) text)) × Lacks byte (take place text)
 cut_found byte text place e = go (nat_lt (prefix_of byte text) (length text)) refl e

@@ -1,4 +1,4 @@
--- The head, with one more field filled in.
+-- The head of a report line, with one more field filled in.
 use Rattle.std.proofs.Common.{◌≡◌, ◌<◌, ◌^◌, ◌++◌, ◌∷◌, ℕ, List, Option, [], Some, None, ap, sym, codes, decimal}
 use Rattle.plane_core.specs.plane.Rules.{IsRule, Numbers, rule_text}
 use Rattle.survey_core.specs.Profiles.{IsProfile, Settling}

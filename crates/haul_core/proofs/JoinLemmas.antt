@@ -60,7 +60,7 @@ size_from place bound (r ∷ rs) low h k below =
     let sum : size_of (r ∷ rs) ≡ r.count + size_of rs = sum_by-cons (λ r. r.count) r rs in
     omega arith
 
--- ranges in normal form below a bound have at most as many numbers as the bound
+-- ranges in normal form whose numbers are below `bound` have at most `bound` numbers
 pub size_below : (bound : ℕ) (rs : List Range) → AreNormal rs → AreBelow bound rs → size_of rs ≤ bound
 size_below bound [] h below = omega arith
 size_below bound (r ∷ rs) h below =

@@ -1,4 +1,4 @@
--- The three lowest numbers of two lists are the three lowest among the three lowest of each.
+-- To find the three lowest numbers of two lists together, the three lowest of each list are enough.
 use Rattle.std.proofs.Common.{◌≡◌, ◌∙◌, ◌≤◌, ◌<◌, ◌++◌, ℕ, zero, suc, List, [], ◌∷◌, take, ap, sym, refl, arith, subst, inl, inr, ◌⊎◌}
 use Rattle.std.proofs.lemmas.Bool.{cases_lt}
 use Rattle.std.proofs.lemmas.List.{append_assoc, append-nil}
@@ -44,7 +44,7 @@ ascending-same [] h = refl
 ascending-same (x ∷ []) h = refl
 ascending-same (x ∷ y ∷ xs) h = ap (with_number x) (ascending-same (y ∷ xs) h.1) ∙ with_first x (y ∷ xs) h
 
--- the three lowest of two lists depend on the three lowest of the second list only
+-- replacing the second list by a list with the same three lowest numbers doesn't change the three lowest of both lists
 least_after : (xs ys zs : List ℕ) → least_three ys ≡ least_three zs → least_three (xs ++ ys) ≡ least_three (xs ++ zs)
 least_after [] ys zs h = h
 least_after (x ∷ xs) ys zs h =
@@ -69,7 +69,7 @@ each_is xs (n ∷ ns) =
 pub least_of_both : (xs ys : List ℕ) → with_each (least_three xs) (least_three ys) ≡ least_three (xs ++ ys)
 least_of_both xs ys = each_is xs (least_three ys) ∙ least_after xs (least_three ys) ys (least_of_least ys)
 
--- the three lowest among the three lowest of each list are the three lowest of both lists
+-- if only the three lowest numbers of each list are kept, the three lowest of both lists together stay the same
 pub least_of_leasts : (xs ys : List ℕ) → least_three (least_three xs ++ least_three ys) ≡ least_three (xs ++ ys)
 least_of_leasts xs ys =
     sym (each_is (least_three xs) (least_three ys)) ∙ ap (λ (t : List ℕ). with_each t (least_three ys)) (least_of_least xs)

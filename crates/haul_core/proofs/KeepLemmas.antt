@@ -1,4 +1,4 @@
--- What a haul keeps, one report at a time.
+-- The totals and the invariant of a haul after one more report.
 use Rattle.std.proofs.Common.{◌≡◌, ◌∙◌, ◌+◌, ◌*◌, ◌^◌, ◌<◌, ◌≤◌, ℕ, Bool, true, false, cond, nat_eq, nat_le, nat_lt, ◌||◌, List, [], ◌∷◌}
 use Rattle.std.proofs.Common.{◌++◌, Option, None, Some, ap, sym, subst, refl, arith, inl, inr}
 use Rattle.std.proofs.Common.{◌⊎◌, filter, map, take, length, IfSome, unwrap_or, if◌then◌else◌, add-zero}
@@ -216,7 +216,7 @@ keeps_noted terms closed taken new_taken count workers new_workers sums t w r et
     (subst (λ (ws : List (ℕ × ℕ)). KeepsBook (record { terms = terms; closed = closed; taken = taken ++ entry r ∷ [] }) count ws sums)
     (sym (ew ∙ ap (λ (x : ℕ × ℕ). workers ++ x ∷ []) ew')) k)
 
--- the objects of a finding are in ASCII order, each with a count of at least 1
+-- the codes of a finding are in ASCII order, each with a count of at least 1
 pub lawful_of : (rule : Numbers) (profile : Settling) (cells : List Cell) (finding : Finding) → IsFinding rule profile cells finding
     → HasLawfulObjects finding
 lawful_of rule profile cells (Settled t objects good) h = h.2.counted.lawful

@@ -1,4 +1,4 @@
--- `least_three` has the three lowest of some numbers, and it is the only such list.
+-- The list `least_three numbers` has the three lowest of the numbers, and it is the only such list.
 use Rattle.std.proofs.Common.{◌≡◌, ◌∙◌, ◌+◌, ◌≤◌, ◌++◌, ◌⊎◌, ℕ, zero, suc, cond, nat_eq, List, [], ◌∷◌, All, append-nil, drop, length, take}
 use Rattle.std.proofs.Common.{ap, arith, inl, inr, refl, sym}
 use Rattle.std.specs.List.{AllByRecursion}
@@ -62,7 +62,7 @@ all_ascending : (x : ℕ) (xs : List ℕ) → AllByRecursion (λ y. x ≤ y) xs 
 all_ascending x [] all = tt
 all_ascending x (y ∷ ys) all = all_with x y (ascending ys) all.0 (all_ascending x ys all.1)
 
--- ascending numbers, followed by sorted numbers that aren't lower, ascend
+-- if numbers that aren't lower are sorted and put after ascending numbers, the whole list ascends
 up_both : (xs ys : List ℕ) → IsUp xs → AllByRecursion (λ m. All (λ n. m ≤ n) ys) xs → IsUp (xs ++ ascending ys)
 up_both [] ys up lower = up_ascending ys
 up_both (x ∷ xs) ys up lower =

@@ -128,7 +128,7 @@ filter_all : (xs : List ℕ) → filter (λ n. true) xs ≡ xs
 filter_all [] = refl
 filter_all (x ∷ xs) = ap (λ (ys : List ℕ). x ∷ ys) (filter_all xs)
 
--- a member of a list whose numbers all differ from t isn't t
+-- if all numbers of a list differ from t, each member n of the list differs from t
 apart_in : (n t : ℕ) (ts : List ℕ) → AllByRecursion (λ y. nat_eq t y ≡ false) ts → list_any (nat_eq n) ts ≡ true → nat_eq n t ≡ false
 apart_in n t [] apart h = absurd (false≢true h)
 apart_in n t (x ∷ ts) apart h = elim (cases_Bool (nat_eq n x)) [
@@ -140,7 +140,7 @@ or_right : (b d : Bool) → d ≡ true → (b || d) ≡ true
 or_right true d h = refl
 or_right false d h = h
 
--- filtering out k distinct numbers, each of which occurs once in a list, leaves k numbers fewer
+-- filtering out k distinct numbers, each of which occurs once in a list, makes the list shorter by k
 left_over : (ts xs : List ℕ) → IsDistinct nat_eq ts → ((n : ℕ) → list_any (nat_eq n) ts ≡ true → counted n xs ≡ 1)
     → length (filter (λ n. not (list_any (nat_eq n) ts)) xs) + length ts ≡ length xs
 left_over [] xs distinct each = let all : length (filter (λ n. true) xs) ≡ length xs = ap length (filter_all xs) in omega (arith, all)
@@ -291,7 +291,7 @@ same_missing ranges taken workers turned =
     filter_agree (has_no_worker workers) (λ n. not (is_taken taken n))
     (λ n. ap not (is_some-lookup (nat_eq n) workers ∙ ap (list_any (nat_eq n)) (ap keys_of turned ∙ keys_turned taken))) (numbers_of ranges)
 
--- the numbers without a worker from `place` on, up to the end of a range
+-- the numbers from `place` to below `end` that have no worker
 abbrev pub adds : List (ℕ × ℕ) → ℕ → ℕ → List ℕ
 adds workers place end = filter (has_no_worker workers) (range_with_len place (end - place))
 

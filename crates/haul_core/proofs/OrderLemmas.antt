@@ -20,7 +20,7 @@ last_code-push [] object = refl
 last_code-push (a ∷ []) object = refl
 last_code-push (a ∷ b ∷ more) object = last_code-push (b ∷ more) object
 
--- if counts are in order, the code of each comes after the code before it
+-- if counts are in order, the code of each count comes after the code of the count before it
 pub seam : (counts : Counts) (object : List ℕ × ℕ) (more : Counts) → AreOrdered (counts ++ object ∷ more) → IsAfter (last_code counts) object.0
 unfolding IsStrictlySortedBy
 seam [] object more h = tt

@@ -13,7 +13,7 @@ with_least n x more h = ap (λ (b : Bool). cond b (n ∷ x ∷ more) (x ∷ with
 pub with_greater : (n x : ℕ) (more : List ℕ) → x < n → with_number n (x ∷ more) ≡ x ∷ with_number n more
 with_greater n x more h = ap (λ (b : Bool). cond b (n ∷ x ∷ more) (x ∷ with_number n more)) (lt-leb n x h)
 
--- inserting the first of ascending numbers into the others puts it first
+-- if the first of ascending numbers is inserted into the others, it is the first again
 pub with_first : (x : ℕ) (more : List ℕ) → IsAscending (x ∷ more) → with_number x more ≡ x ∷ more
 with_first x [] h = refl
 with_first x (y ∷ more) h = with_least x y more h.0

@@ -179,7 +179,7 @@ lookup_none {X} test (x ∷ xs) h =
     ap (λ (b : Bool). cond b (Some x.1) (lookup test xs)) (All-head (λ e. test e.0 ≡ false) x xs h)
     ∙ lookup_none test xs (All-tail (λ e. test e.0 ≡ false) x xs h)
 
--- the code of an object isn't among the objects before it
+-- the code of an object differs from the codes of the objects before it
 pub not_before : (objects : List (List ℕ × ℕ)) (i : ℕ) (d : List ℕ × ℕ) → AreObjects objects → i < length objects
     → lookup (is_code (get_or objects i d).0) (take i objects) ≡ None
 not_before objects i d lawful low =

@@ -1,4 +1,4 @@
--- A text is cut at a byte in one way, and no field of a lawful claim has a space in it.
+-- There is only one way to cut a text at the first occurrence of a byte, and no field of a lawful claim has a space.
 use Rattle.std.proofs.Common.{◌≡◌, ◌≢◌, ◌∙◌, ◌+◌, ◌<◌, ◌≤◌, ◌^◌, ◌++◌, ◌==◌, ◌&&◌, ◌⊎◌, ◌∷◌, ℕ, Bool, true, false, List, [], ap, sym, refl, decimal, length, arith}
 use Rattle.std.proofs.Common.{codes, inl, inr, Option, nat_le, None, Some, append_assoc, map, flat_map, rules, subst}
 use Rattle.std.proofs.lemmas.Bool.{eqb-false, leb-true, ne_eqb, or_from, or_parts}
@@ -33,7 +33,7 @@ abbrev pub Stops : ℕ → List ℕ → Type 0
 Stops byte [] = Unit {0}
 Stops byte (c ∷ remainder) = byte ≡ c
 
--- a text is cut in one way into a prefix without the byte and a remainder that is empty or begins with the byte
+-- only one way to cut a text gives a prefix without the byte and a remainder that is empty or begins with the byte
 pub cut_ends : (byte : ℕ) (x y r s : List ℕ) → Lacks byte x → Lacks byte y → Stops byte r → Stops byte s → x ++ r ≡ y ++ s → (x ≡ y) × (r ≡ s)
 cut_ends byte [] [] r s p q h k e = (refl, e)
 cut_ends byte [] (b ∷ y) [] s p q h k e = absurd (cc)
@@ -50,7 +50,7 @@ cut_ends byte (a ∷ x) (b ∷ y) r s p q h k e =
     let more = cut_ends byte x y r s (or_parts _ _ p).1 (or_parts _ _ q).1 h k remainder in
     (λ i. same i ∷ more.0 i, more.1)
 
--- a text that has the byte is cut in one way into a prefix without the byte, the byte and a remainder
+-- there is only one way to cut a text into a prefix without the byte, the byte, and a remainder
 pub cut_once : (byte : ℕ) (x y r s : List ℕ) → Lacks byte x → Lacks byte y → x ++ byte ∷ r ≡ y ++ byte ∷ s → (x ≡ y) × (r ≡ s)
 cut_once byte x y r s p q e =
     let c = cut_ends byte x y (byte ∷ r) (byte ∷ s) p q refl refl e in

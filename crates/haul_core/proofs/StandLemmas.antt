@@ -69,8 +69,8 @@ first_same (r ∷ rs) h =
     ∙ ap (λ (t : List Reported). r ∷ t) (filter_same p rs
     (All-weaker (λ s. has_number r.number s ≡ false) (λ s. p s ≡ true) (λ s k. not_true (has_number r.number s) k) rs h.0))
 
--- if two lists of reports have no number twice, and their numbers are from sets that share none, both lists joined have
--- no number twice
+-- if neither of two lists of reports has a number twice, and their numbers are from two sets that share no number, the
+-- joined list has no number twice
 differ-append : (a b : List Range) (xs ys : List Reported) → ¬ ShareNumber a b → All (λ r. is_in a r.number ≡ true) xs → All (λ r. is_in b r.number ≡ true) ys
     → Differ xs → Differ ys → Differ (xs ++ ys)
 differ-append a b [] ys apart h k d e = e

@@ -9,7 +9,7 @@ use Rattle.survey_core.specs.Jobs.{same_job}
 use Rattle.ranges.specs.Ranges.{is_in}
 use Rattle.haul_core.specs.Reports.{Reported}
 
--- what a haul is opened for: a job, the set of its soup numbers, and the number of workers
+-- what a haul is opened for: a job, a set of soup numbers, and a number of workers
 pub record Terms : Type 0 where
   pub job : Job
   pub ranges : List Range

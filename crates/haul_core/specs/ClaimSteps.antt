@@ -14,7 +14,7 @@ use Rattle.haul_core.specs.LawfulClaims.{Claimed, IsClaim, IsCount, SaidOfSoup}
 abbrev pub head_of : Claimed → List (List ℕ)
 head_of claim = codes "report" ∷ head_fields claim
 
--- what a line says about a soup: when it settled, and these counts; `None` for an unsettled soup
+-- what a line with these counts says about a soup; `None` if the soup is unsettled
 abbrev pub said_with : Option WhenSettled → List (List ℕ × ℕ) → Option SaidOfSoup
 said_with None counts = None
 said_with (Some at_rest) counts = Some (record { checkpoint = at_rest.checkpoint; for_good = at_rest.for_good; counts = counts })
@@ -29,12 +29,12 @@ claimed start counts = record {
   found = said_with start.settled counts;
 }
 
--- the line consists of these fields, at least one
+-- the line consists of these fields, separated by single spaces; there is at least one field
 abbrev pub IsLineOf : List (List ℕ) → List ℕ → Type 0
 IsLineOf [] line = ⊥
 IsLineOf (first ∷ more) line = line ≡ line_of first more
 
--- the line begins with these fields; either it ends there, or a space and the remainder follow
+-- the line has these fields, a space after each, and the remainder; `None` means that it ends with the last field
 abbrev pub FollowsFields : List ℕ → List (List ℕ) → Option (List ℕ) → Type 0
 FollowsFields line fields None = IsLineOf fields line
 FollowsFields line fields (Some remainder) = line ≡ followed fields ++ remainder

@@ -43,7 +43,7 @@ BeginsNumber text (Some first) = IsSmall first.0 × (text ≡ decimal first.0 ++
 abbrev pub numbers_text : Settling → List ℕ
 numbers_text p = decimal p.period ++ 44 ∷ (decimal p.horizon ++ 44 ∷ (decimal p.stride ++ 44 ∷ decimal p.limit))
 
--- what a line says in the field after `soup=`: that the soup didn't settle, or when it did
+-- what a line says in the field after the soup's number: that the soup didn't settle, or when it did
 abbrev pub state_field : Option ℕ → List ℕ
 state_field None = codes "unsettled"
 state_field (Some checkpoint) = codes "at=" ++ decimal checkpoint

@@ -42,7 +42,7 @@ abbrev pub range_lines : List Range → List (List ℕ)
 range_lines [] = range_line (record { first = 0; count = 0 }) ∷ []
 range_lines (range ∷ more) = map range_line (range ∷ more)
 
--- the lines that say how many soups, unsettled soups, soups whose objects stay for good, and objects there are
+-- the lines with the numbers of soups, unsettled soups, soups whose objects stay for good, and objects
 unfoldable pub sum_lines : Census → List (List ℕ)
 sum_lines census =
     line_of_numbers (codes "@NUM_SOUPS") (census.soups ∷ [])

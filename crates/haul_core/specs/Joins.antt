@@ -1,4 +1,4 @@
--- Joined hauls: two closed hauls of one job, whose sets share no number, as one.
+-- Joining hauls: two closed hauls of one job, whose sets share no number, become one haul.
 use Rattle.std.specs.Prelude.{◌≡◌, ◌++◌, true, false, List, [], ◌∷◌, map, max}
 use Rattle.haul_core.specs.declared.book.arrival.Arrival.{Arrival}
 use Rattle.haul_core.specs.declared.book.arrival.Arrival.TheVariants.{Closing, Offer}
@@ -19,7 +19,7 @@ pub record CanJoin (a b : Held) : Type 0 where
   pub job : same_job a.terms.job b.terms.job ≡ true
   pub apart : ¬ ShareNumber a.terms.ranges b.terms.ranges
 
--- what holds if this error is returned, which is the first, in this order, that fits
+-- what holds if this error is returned; if several errors fit, the first of them in this order is returned
 abbrev pub Hinders : Held → Held → JoinError → Type 0
 Hinders a b Open = ¬ AreClosed a b
 Hinders a b OtherJob = AreClosed a b × (same_job a.terms.job b.terms.job ≡ false)

@@ -1,4 +1,4 @@
--- What a haul keeps, besides what contracts see: the totals over the soups that it has taken.
+-- The totals that a haul keeps over its taken soups, and the invariant that ties them to what contracts see.
 use Rattle.std.specs.Prelude.{◌≡◌, ◌<◌, ◌≤◌, ◌^◌, ℕ, All, List, false, map, nat_eq, true}
 use Rattle.std.specs.List.{IsDistinct}
 use Rattle.survey_core.specs.Findings.{objects_in}
@@ -22,7 +22,7 @@ samples surveys code = least_three (numbers_with surveys code)
 abbrev pub score_of : List Survey → List ℕ → Score
 score_of surveys code = record { total = total surveys code; samples = samples surveys code }
 
--- the totals that a haul keeps: a score for each code, and the numbers of unsettled soups and of soups whose objects
+-- the totals that a haul keeps: a score for each code, how many soups are unsettled, and in how many soups all objects
 -- stay for good
 pub record Sums : Type 0 where
   pub scores : List (List ℕ × Score)
@@ -36,8 +36,8 @@ pub record AreSums (surveys : List Survey) (sums : Sums) : Type 0 where
   pub for_good_sum : sums.for_good ≡ for_good surveys
   pub few : All (λ s. objects_in s.finding < 2 ^ 64) surveys
 
--- The invariant of a haul: what contracts see, the size of its set, the worker of each number, and its sums agree. A
--- haul that isn't closed has at most 2^24 numbers in its set.
+-- The invariant of a haul: what contracts see agrees with the haul's `count`, `workers` and `sums`. A haul that isn't
+-- closed has at most 2^24 numbers in its set.
 pub record KeepsBook (held : Held) (count : ℕ) (workers : List (ℕ × ℕ)) (sums : Sums) : Type 0 where
   pub normal : AreNormal held.terms.ranges
   pub below : AreBelow number_bound held.terms.ranges

@@ -19,8 +19,8 @@ pub record SaidOfSoup : Type 0 where
   pub for_good : Option Bool
   pub counts : List (List ℕ × ℕ)
 
--- a claim: the version of its line, the job, the worker, the soup, and what the line says about it, which is
--- `None` if the line says that the soup is unsettled
+-- a claim: the version of its line, the job, the worker, the soup, and what the line says about the soup (`None` if the
+-- line says that the soup is unsettled)
 pub record Claimed : Type 0 where
   pub version : ℕ
   pub job : Job
@@ -28,7 +28,7 @@ pub record Claimed : Type 0 where
   pub number : ℕ
   pub found : Option SaidOfSoup
 
--- a code of 1 to 400 bytes, each of which is `a` to `z`, `0` to `9` or `_`, and a count of 1 to 2^64 - 1
+-- a code (1 to 400 bytes, each of which is `a` to `z`, `0` to `9` or `_`) and its count, 1 to 2^64 - 1
 pub record IsCount (object : List ℕ × ℕ) : Type 0 where
   pub code : HasCodeShape object.0
   pub some : 1 ≤ object.1

@@ -1,4 +1,4 @@
--- How the missing numbers are listed.
+-- A test for a missing number: no worker is recorded for it.
 use Rattle.std.specs.Prelude.{ℕ, Bool, not, List, nat_eq}
 use Rattle.std.specs.Map.{lookup}
 use Rattle.std.specs.Option.{is_some}

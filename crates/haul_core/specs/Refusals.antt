@@ -46,6 +46,6 @@ abbrev pub replies_to : Terms → List Arrival → List Arrival → List Reply
 replies_to terms before [] = []
 replies_to terms before (a ∷ more) = reply_to terms before a ∷ replies_to terms (before ++ a ∷ []) more
 
--- the given reply is the wanted one; for an offer that the book takes, it may also be that memory ran out
+-- the given reply is the wanted reply, or memory ran out at an offer that the book would have taken
 abbrev pub IsReply : Option OfferError → Option OfferError → Type 0
 IsReply given wanted = (given ≡ wanted) ⊎ ((given ≡ Some (Memory out_of_memory)) × (wanted ≡ None))

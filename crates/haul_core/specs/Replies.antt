@@ -13,7 +13,7 @@ use Rattle.survey_core.specs.Jobs.{same_job}
 use Rattle.ranges.specs.Ranges.{is_in}
 use Rattle.haul_core.specs.Reports.{Reported}
 
--- why an offer was refused, by the result of the call; `None` if the report was taken
+-- the reason for the refusal, from the result of an offer, or `None` if the report was taken
 abbrev pub reply_of : Result (Unit {0}) Refused → Option OfferError
 reply_of (Ok u) = None
 reply_of (Err refused) = Some refused.reason
@@ -41,8 +41,8 @@ IsTakenNext terms before [] = ⊥
 IsTakenNext terms before (Offer report ∷ more) = refusal_of terms before report ≡ None
 IsTakenNext terms before (Closing ∷ more) = ⊥
 
--- The haul has received the arrivals `before`, but only a prefix of the arrivals after them, because memory ran out:
--- either before the first of these, or at an offer that the book takes.
+-- The haul has received the arrivals `before`, but then only a prefix of `arrivals`, because memory ran out. Memory ran
+-- out either before the first of `arrivals`, or at an offer that the book takes.
 pub record StandsForPrefix (before arrivals : List Arrival) (held : Held) : Type 0 where
   pub prefix : List Arrival
   pub remainder : List Arrival

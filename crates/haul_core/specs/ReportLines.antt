@@ -1,4 +1,4 @@
--- Report lines: what a worker says about a soup, in fields with one space between each two.
+-- Report lines: what a worker says about a soup, in fields separated by single spaces.
 use Rattle.std.specs.Prelude.{◌==◌, ◌++◌, ℕ, Bool, false, true, List, [], ◌∷◌, Option, None, Some, codes, decimal, map}
 use Rattle.std.specs.Prelude.{if◌then◌else◌}
 use Rattle.plane_core.specs.plane.Rules.{rule_text}
@@ -9,7 +9,7 @@ use Rattle.haul_core.specs.HaulTexts.{ended, line_of}
 use Rattle.haul_core.specs.Reports.{Reported}
 use Rattle.haul_core.specs.LawfulClaims.{SaidOfSoup, Claimed}
 
--- `profile=`, and four decimals with a `,` between each two
+-- `profile=`, and the four numbers of the profile in decimal, separated by commas
 unfoldable pub profile_field : Settling → List ℕ
 profile_field p =
     codes "profile=" ++ (decimal p.period ++ (codes "," ++ (decimal p.horizon ++ (codes "," ++ (decimal p.stride ++ (codes "," ++ decimal p.limit))))))
@@ -25,7 +25,7 @@ head_fields claim =
     ∷ (codes "soup=" ++ decimal claim.number)
     ∷ []
 
--- whether the objects stay for good
+-- the field that says whether the objects stay for good
 unfoldable pub mark_field : Bool → List ℕ
 mark_field true = codes "good=yes"
 mark_field false = codes "good=no"

@@ -25,7 +25,7 @@ pub record IsReport (report : Reported) : Type 0 where
   pub finding : IsFinding report.job.rule report.job.profile (soup report.job.seed report.number) report.finding
   pub few : objects_in report.finding < 2 ^ 64
 
--- a lawful report of this worker on the soup of the job with this number
+-- a lawful report for this job, by this worker, on the soup with this number
 pub record IsReportOf (job : Job) (worker number : ℕ) (report : Reported) : Type 0 where
   pub job_is : report.job ≡ job
   pub worker_is : report.worker ≡ worker

@@ -24,7 +24,7 @@ HasScore scores code = IsSome (found_score scores code)
 abbrev pub score_in : List (List ℕ × Score) → List ℕ → Score
 score_in scores code = unwrap_or (found_score scores code) no_score
 
--- the score of a code after one more soup, with the number `number`, that left `count` objects with the code, or none
+-- a code's score after soup `number` is added; the option is how many of the soup's objects have the code, if any do
 abbrev pub added : Option ℕ → ℕ → Score → Score
 added None number score = score
 added (Some count) number score = record { total = score.total + count; samples = take 3 (with_number number score.samples) }
@@ -39,7 +39,7 @@ pub record Extends (old new : List (List ℕ × Score)) : Type 0 where
   pub is : new ≡ old ++ more
   pub blank : All (λ score. score.1 ≡ no_score) more
 
--- how many objects of a code a finding has, if it has any
+-- how many objects of the finding have this code, if any do
 abbrev pub found_in : List ℕ → Finding → Option ℕ
 found_in code (Settled checkpoint objects for_good) = lookup (is_code code) objects
 found_in code Unsettled = None

@@ -8,7 +8,7 @@ use Rattle.survey_core.specs.declared.finding.Finding.{Finding}
 use Rattle.survey_core.specs.declared.finding.Finding.TheVariants.{Settled, Unsettled}
 use Rattle.survey_core.specs.declared.job.Job.{Job}
 
--- how many objects with this code a finding has
+-- how many objects of the finding have this code
 abbrev pub count_in : List ℕ → Finding → ℕ
 count_in code (Settled checkpoint objects for_good) = count_of objects code
 count_in code Unsettled = 0
@@ -31,7 +31,7 @@ pub record AreSurveys (job : Job) (numbers : List ℕ) (surveys : List Survey) :
   pub each : map (λ s. s.number) surveys ≡ numbers
   pub findings : All (λ s. IsFinding job.rule job.profile (soup job.seed s.number) s.finding) surveys
 
--- how many objects with this code the soups left together
+-- the number of objects with this code, added up over all soups
 abbrev pub total : List Survey → List ℕ → ℕ
 total surveys code = sum_by (λ s. count_in code s.finding) surveys
 

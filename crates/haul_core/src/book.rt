@@ -1,14 +1,14 @@
 //! The book: which reports a haul takes, and the census of the soups that it has taken.
 //!
 //! ```text
-//! reports ── offer ──> haul ── census ──> totals ── write_haul ──> haul text
+//! reports ── offer ──> haul ── census ──> census ── write_haul ──> haul text
 //!              │         │
 //!         or refused     ├─ taken    1 5 | 2 4 | 1 6      worker and soup of each report, in this order
 //!                        └─ scores   xs4_33 9 | xp2_7 5   the total of each code, and its three lowest soups
 //! ```
 //!
-//! A soup is taken once. A later report on it is refused as a double. No report is kept: a haul has room for its
-//! ranges, for the numbers that it has taken, and for the codes that were found.
+//! A soup is taken at most once. A later report on it is refused as a double. A haul keeps no reports. It stores its
+//! ranges, the worker and the number of each report taken, and a score for each code that was found.
 
 /// What arrives at a haul, and the replies.
 pub mod arrival;

@@ -28,7 +28,7 @@ use survey_core::job::Job;
 use survey_core::surveyor::Surveyor;
 use thiserror::Error;
 
-/// The most workers of a haul: as many threads as most machines can run at a time. Workers are numbered from 1.
+/// The most workers that a haul may have: enough threads for most machines. Workers are numbered from 1.
 pub(crate) const MOST_WORKERS: u8 = 16;
 
 /// Why no report was made.

@@ -10,8 +10,8 @@ use std::alloc::Global;
 use std::test::Fail;
 use survey_core::job::Job;
 
-/// Eight arrivals at a haul of soups 0 to 3 with two workers. The row of an offer has the report's worker and soup
-/// number, after `true` if the report is of the haul's job. Worker 0 stands for a closing.
+/// Eight arrivals at a haul of soups 0 to 3 with two workers. Each row is an offer: whether its report is of the haul's
+/// job, the worker, and the number of the soup. A row with worker 0 stands for a closing instead.
 const ARRIVALS: [(bool, u8, u32); 8] = [
     (true, 1, 3),
     (true, 2, 3),

@@ -64,8 +64,8 @@ fn believes_nothing_wrong(rt: HostRuntime) -> Result<(), Fail> {
     Ok(())
 }
 
-/// Damaged lines, each with the place where its first wrong field begins or, if a field is missing at its end, with its
-/// length.
+/// Damaged lines, each with the place of its first fault: where the first wrong field begins, or the length of the line
+/// if a field is missing at the end.
 const DAMAGED: [(&[u8], usize); 14] = [
     (
         b"report 1 rule=b3s23 profile=1,1,1,0 seed= worker=1 soup=0",

@@ -1,5 +1,5 @@
-//! Tests of the public calls of `haul_core` and `ranges`, for what no clause of their contracts says. They are in a
-//! crate of their own, so that `haul_core` and `ranges` aren't proved again for them.
+//! Tests of the public calls of `haul_core` and `ranges`. They test what the contracts of these calls don't say. They
+//! are in a crate of their own, so that `haul_core` and `ranges` aren't proved again for them.
 #![tactic(auto)]
 
 #[cfg(test)]

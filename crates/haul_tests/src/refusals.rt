@@ -19,7 +19,7 @@ const MOST: Range = Range {
     count: 1 << 24,
 };
 
-/// A range of the one number that follows those of `MOST`. Both ranges together have one number too many for a haul.
+/// A range of one number, the first after the range `MOST`. Both ranges together have one number too many for a haul.
 const ONE_MORE: Range = Range {
     first: 1 << 24,
     count: 1,
@@ -27,8 +27,8 @@ const ONE_MORE: Range = Range {
 
 const FIRST: Range = Range { first: 0, count: 1 };
 
-/// Each row has ranges and a number of workers for which no haul is opened, and the error. If several errors apply, it
-/// is the one that `OpenError` lists first.
+/// Each row has ranges and a number of workers for which no haul is opened, and the error that is returned. If several
+/// errors apply, the first of them in `OpenError` is returned.
 const NOT_OPENED: [(&[Range], u8, OpenError); 8] = [
     (&[FIRST], 0, OpenError::BadWorkers),
     (&[FIRST], 17, OpenError::BadWorkers),

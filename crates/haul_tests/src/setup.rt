@@ -1,5 +1,5 @@
 //! What the tests share: jobs, hauls and texts. The proof of a function takes longer with each exit at which a haul is
-//! dropped. That is why a test gets each haul from a function that returns it, and drops it by a call before the next
+//! dropped. That is why a test gets each haul from another function, and drops the haul with `drop` before the next
 //! exit.
 
 use haul_core::book::census::Census;
@@ -33,7 +33,7 @@ pub(crate) fn standard_job() -> Result<Job, Fail> {
     })
 }
 
-/// Returns a job under whose rule nothing is born or dies. Each soup is at rest at once, with some tens of objects.
+/// Returns a job under whose rule nothing is born or dies. Each soup is at rest at once, and most are one object.
 pub(crate) fn still_job() -> Result<Job, Fail> {
     Ok(Job {
         rule: Rule::read("bs012345678")?,
@@ -60,7 +60,7 @@ pub(crate) fn closed(haul: Haul) -> Haul {
     haul
 }
 
-/// Returns the haul text of what a haul has taken.
+/// Returns the haul text of a haul's census.
 pub(crate) fn text_of(alloc: Global, haul: &Haul) -> Result<Vec<u8>, Fail> {
     let census = haul.census()?;
     written(alloc, &census)

@@ -84,7 +84,8 @@ fn is_claim(claim: &Claim) -> bool {
     claim.version() == 2 && claim.worker() == 2 && claim.number() == 3 && claim.settled().is_none()
 }
 
-/// Checks whether the claim of `LINE` becomes its report or, if memory runs out, is returned unchanged.
+/// Checks whether `check` turns the claim of `LINE` into the report on soup 3 or, if memory runs out, returns the claim
+/// unchanged.
 fn is_checked_or_kept(alloc: Global) -> Result<bool, Fail> {
     let claim = Claim::read_line(alloc, LINE)?;
     let job = quick_job("")?;

@@ -76,7 +76,7 @@ surveyed_by f (s ∷ ss) each =
     let remainder : ss ≡ map (survey_of f) (numbers_of_surveys ss) = surveyed_by f ss (All-tail (λ s. f s.number ≡ s.finding) s ss each) in
     λ i. record { number = s.number; finding = sym first i } ∷ remainder i
 
--- ---- sums and samples over surveys by their numbers
+-- ---- sums and samples over the surveys of a list of numbers
 
 sum_surveys : (g : Survey → ℕ) (f : ℕ → Finding) (numbers : List ℕ) → sum_by g (map (survey_of f) numbers) ≡ sum_by (λ n. g (survey_of f n)) numbers
 sum_surveys g f [] = refl
@@ -95,7 +95,7 @@ samples_surveys f code (n ∷ ns) = go (has_object code (survey_of f n)) (sample
     go true ih = ap (λ (xs : List ℕ). n ∷ xs) ih
     go false ih = ih
 
--- both lists have the surveys that one function gives, for the same numbers in any order
+-- both lists have surveys of the same numbers, in any order, and one function gives all their findings
 record AreAlike (surveys others : List Survey) : Type 0 where
   found : ℕ → Finding
   numbers : List ℕ

@@ -1,4 +1,4 @@
--- Two patterns with the same apgcode are one object, if the apgcode contains a text.
+-- Two patterns with the same apgcode are one object, if the apgcode contains a Wechsler text.
 use Rattle.std.proofs.Common.{◌≡◌, ◌∙◌, sym, ap, refl, subst, ℕ, zero, suc, ◌+◌, ◌-◌, ◌/◌, ◌%◌, ◌<◌, ◌==◌, Bool, true, false, not, cond, List, [], ◌∷◌, ◌++◌}
 use Rattle.std.proofs.Common.{Option, None, Some, Ok, decimal, get_or, arith, neg_ℤ}
 use Rattle.std.specs.Fmt.{digit_glyph, digits, digits_onto}
@@ -106,7 +106,7 @@ in_order-turned : (o : Orientation) (S : List Cell) → InOrder (turned o S)
 unfolding turned
 in_order-turned o S = in_order-corner (image o S) (in_order-image o S)
 
--- a pattern at the corner is its image under the identity
+-- turning a pattern by the identity only moves the pattern to the corner
 turned-same : (S : List Cell) → InOrder S → at_corner S ≡ turned Same S
 unfolding turned
 turned-same S order = ap at_corner (sym (image-same S order))

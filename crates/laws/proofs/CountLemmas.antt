@@ -1,5 +1,5 @@
--- The counts of objects add up to the number of clusters. To prove it, the first object is removed from the list, and
--- with it all clusters that have its code.
+-- The counts of objects add up to the number of clusters. The proof is by induction: the first object is removed from
+-- the list of objects, and all clusters with the code of this object are removed too.
 use Rattle.std.proofs.Common.{◌≡◌, ◌∙◌, ap, sym, refl, ℕ, ◌+◌, Bool, true, false, not, cond, List, [], ◌∷◌, count_by, length, sum, Some, unwrap_or, arith}
 use Rattle.std.specs.Cmp.{tied_itself}
 use Rattle.std.specs.Cmp.Lexicographic.{nat_list_cmp_total, slice_cmp}

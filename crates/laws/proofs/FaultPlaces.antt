@@ -1,4 +1,4 @@
--- The place of a text's first fault is unique.
+-- A text that isn't a list of ranges has its first fault at only one place.
 use Rattle.std.proofs.Common.{◌≡◌, ◌<◌, ◌≤◌, ◌+◌, ◌-◌, ◌++◌, ◌⊎◌, ◌∙◌, ℕ, zero, suc, true, false, All, List, [], ◌∷◌, length, map, decimal, take, drop, refl, sym, ap, subst, arith, inl, inr, rules}
 use Rattle.std.proofs.Common.{append_assoc, append-nil, get_or, length-append}
 use Rattle.std.specs.Char.{is_ascii_digit}
@@ -87,7 +87,7 @@ consed r fits x more y e (inr a) = inr (record {
   remainder = a.remainder;
 })
 
--- a cut after the count of the first range is where a range or a count begins
+-- past the count of the first range, a cut after a byte that isn't a digit is where a range or a count begins
 after_count : (r : Range) (rs : List Range) → FitsU64 r → ((x y : List ℕ) → Apart x → joined (map written rs) ≡ x ++ y → At x y) → (x y more : List ℕ)
     → x ≡ pair_text (written r) ++ more → tail (map written rs) ≡ more ++ y → LastByte more → At x y
 after_count r rs fits go x y [] e s last = absurd (none_last last)
@@ -102,7 +102,7 @@ after_count r (q ∷ rs) fits go x y (b ∷ more) e s last =
     apart (c ∷ start) f = let left : more ≡ start ++ last.byte ∷ [] = cc in
         inr (record { start = start; byte = last.byte; spelled = left; other = last.other })
 
--- a cut after the first number of the first range is where a range or a count begins
+-- past the first number of the first range, a cut after a byte that isn't a digit is where a range or a count begins
 after_first : (r : Range) (rs : List Range) → FitsU64 r → ((x y : List ℕ) → Apart x → joined (map written rs) ≡ x ++ y → At x y) → (x y more : List ℕ)
     → x ≡ decimal r.first ++ more → 43 ∷ (decimal r.count ++ tail (map written rs)) ≡ more ++ y → (last : LastByte more) → (start : List ℕ)
     → more ≡ start ++ last.byte ∷ [] → At x y

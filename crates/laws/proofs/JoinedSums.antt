@@ -1,4 +1,4 @@
--- The census of a joined haul has the sums of the two censuses, and the lowest samples of both.
+-- The census of a joined haul is the sum of the censuses of the two hauls, with the lowest samples of both.
 use Rattle.std.proofs.Common.{◌≡◌, ◌∙◌, ◌+◌, ◌++◌, ◌≤◌, ℕ, zero, suc, Bool, true, false, cond, List, [], ◌∷◌, ◌||◌, ◌&&◌}
 use Rattle.std.proofs.Common.{◌⊎◌, Some, ap, sym, subst, refl, arith, drop, filter, get_or, map, nat_eq, nat_le, option_map, sum_by, unwrap_or, inl, inr, zero-add}
 use Rattle.std.specs.Cmp.Lexicographic.{slice_cmp}
@@ -60,8 +60,8 @@ at_least_one : (n : ℕ) → cond {A = ℕ} (nat_le 1 n) n 0 ≡ n
 at_least_one zero = refl
 at_least_one (suc n) = ap (λ (b : Bool). cond {A = ℕ} b (suc n) 0) (le-leb 1 (suc n) (omega arith))
 
--- if each row says what is meant for its code, looking up a code gives what is meant, or `nothing` if the code has no
--- row
+-- if `said` of each row is `meant` of the row's code, then looking up a code gives `meant` of the code, or `nothing` if
+-- the code has no row
 module _ {X : Type 0} (said : Row → X) (meant : List ℕ → X) (nothing : X) where
   in_row : (rows : List Row) (code : List ℕ) → All (λ row. said row ≡ meant row.code) rows
       → unwrap_or (option_map said (find (λ row. is_code code row.code) rows)) nothing
@@ -114,7 +114,7 @@ row_samples surveys rows are code =
     ∙ ap (λ (b : Bool). cond b (samples surveys code) []) (has_row surveys rows are code)
     ∙ samples_if_any surveys code (total surveys code) refl
 
--- the soups of two lists that left an object with a code are those of the first list and then those of the second
+-- in two joined lists, the soups that left an object with a code are those of the first list, then those of the second
 numbers_of_both : (surveys others : List Survey) (code : List ℕ)
     → numbers_with (surveys ++ others) code ≡ numbers_with surveys code ++ numbers_with others code
 numbers_of_both surveys others code =
@@ -146,8 +146,8 @@ both_known : (b c : Bool) → (b ≡ true → c ≡ true) → (b && c) ≡ b
 both_known true c h = h refl
 both_known false c h = refl
 
--- if no total of a census is greater than in a wider census, the totals in the census's rows have the same sum as its
--- totals of all codes in the wider census's rows
+-- Suppose that no code has a higher total in a census than in a wider census. Then the census's totals have the same
+-- sum over the codes of its own rows as over the codes of the wider census's rows.
 rows_within : (surveys wider : List Survey) (rows more : List Row) → AreRowsOf surveys rows → AreRowsOf wider more
     → ((code : List ℕ) → total surveys code ≤ total wider code) → sum_by (λ row. row.total) rows ≡ sum_by (total surveys) (codes_of more)
 rows_within surveys wider rows more are were less =

@@ -17,7 +17,7 @@ rest_over : (rule : Numbers) (profile : Settling) (limit : ℕ) (cells : List Ce
     → IsAtRest rule profile cells
 rest_over rule profile limit cells (clusters, rest) = (clusters, record { parts = rest.parts; back = rest.back; apart = rest.apart })
 
--- a checkpoint under one limit is one under every limit that isn't below it
+-- a checkpoint under one limit is also a checkpoint under every limit that isn't below the checkpoint
 checkpoint_under : (profile : Settling) (limit t : ℕ) → t ≤ limit → IsCheckpoint profile t → IsCheckpoint (with_limit limit profile) t
 checkpoint_under profile limit t low here = record { place = here.place; is = here.is; within = low }
 

@@ -1,4 +1,4 @@
--- The line of a lawful claim has no line feed, and a text of such lines has these lines.
+-- The line of a lawful claim has no line feed. A text made of lines without line feeds is cut into the same lines.
 use Rattle.std.proofs.Common.{ℕ, zero, suc, ◌≡◌, ◌∙◌, ap, refl, ◌≤◌, append_assoc, cond, ◌++◌, ◌∷◌, List, [], Bool, true, false, Option, None, Some, arith, codes, decimal, flat_map, map}
 use Rattle.std.specs.List.{AllByRecursion, list_all}
 use Rattle.std.proofs.lemmas.Bool.{and_parts, leb-true, ne_eqb}
@@ -103,7 +103,7 @@ first_line (b ∷ line) more one =
     (ne_eqb b 10 (one 0 b (omega arith)))
     ∙ ap (begun_with b) (first_line line more (λ k d low. one (suc k) d (omega arith)))
 
--- the lines of a text are those that it was made of
+-- a text that is made of lines without line feeds is cut into the same lines again
 pub lines_of_text : (lines : List (List ℕ)) → AllByRecursion IsOneLine lines → input_lines (text_of lines) ≡ lines
 unfolding text_of
 lines_of_text [] each = refl

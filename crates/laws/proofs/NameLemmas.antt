@@ -1,4 +1,4 @@
--- The lines of `name` determine the checkpoint, the codes and the counts of a finding.
+-- The lines of `name` determine a finding: its checkpoint, codes and counts, from which the mark `for good` follows.
 use Rattle.std.proofs.Common.{◌≡◌, ◌∙◌, ap, sym, refl, subst, ℕ, suc, ◌+◌, ◌<◌, ◌≤◌, ◌^◌, ◌++◌, List, [], ◌∷◌, All, append_assoc, arith, codes, decimal, flat_map, get_or, sum}
 use Rattle.std.specs.Cmp.{both_ways as both_true}
 use Rattle.std.specs.List.{AllByRecursion}
@@ -18,7 +18,7 @@ use Rattle.laws.specs.NameTexts.{NameTextsAreFaithful}
 use Rattle.laws.proofs.ShapeLemmas.{small_finding}
 use Rattle.laws.proofs.TextLemmas.{all_lack, code_visible, decimal_lack, decimal_once}
 
--- the code has the shape of an apgcode, and the count is short
+-- the code has the shape of an apgcode, and the count has at most 64 digits
 record IsShortObject (object : List ℕ × ℕ) : Type 0 where
   code : HasCodeShape object.0
   count : IsWrittenWhole object.1

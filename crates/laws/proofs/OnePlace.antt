@@ -1,4 +1,4 @@
--- The place of a line's first fault is unique.
+-- A line that isn't a report line has its first fault at only one place.
 use Rattle.std.proofs.Common.{◌≡◌, ◌∙◌, ◌++◌, ◌⊎◌, ◌∷◌, ℕ, List, [], append_assoc, ap, inl, inr, length, refl, subst, sym}
 use Rattle.haul_core.specs.Claims.{BeginClaim, IsBadField, IsFirstFaultOf, LacksField, followed}
 use Rattle.haul_core.specs.FieldSteps.{Lacks}
@@ -16,7 +16,8 @@ begin_prefix before field more b = record {
 abbrev Goes : List (List ℕ) → List ℕ → List (List ℕ) → Type 0
 Goes before field other = (more : List (List ℕ)) × (other ≡ before ++ field ∷ more)
 
--- if a line is cut into fields in two ways, the cuts are the same or one continues the other
+-- if a line begins with the fields `a` and then `f`, and also with the fields `b` and then `g`, then `a` equals `b`, or
+-- `b` begins with `a` and then `f`, or `a` begins with `b` and then `g`
 compare : (a b : List (List ℕ)) (f g r s : List ℕ) → AreSpaceless a → AreSpaceless b → Lacks 32 f → Lacks 32 g → Stops 32 r → Stops 32 s
     → followed a ++ (f ++ r) ≡ followed b ++ (g ++ s) → (a ≡ b) ⊎ (Goes a f b ⊎ Goes b g a)
 compare [] [] f g r s h k p q u v e = inl refl

@@ -209,7 +209,7 @@ module _ (f g : Cell → Cell) (rigid : IsRigid f g) (there : KeepsObjects f) (h
 
 module _ (f g : Cell → Cell) (rigid : IsRigid f g) (there : KeepsObjects f) (home : KeepsObjects g) (rule : Numbers) where
   module _ (profile : Settling) (cells : List Cell) (order : InOrder cells) where
-    -- the clusters of the image keep apart for as long as those of the pattern
+    -- if the clusters of the pattern keep apart after n generations, so do the clusters of the image
     apart-image : (clusters : List (List Cell)) (are : AreClusters cells clusters) (n : ℕ) → KeepApart rule cells clusters n
         → KeepApart rule (image_by f cells) (images f g rigid cells order clusters are) n
     apart-image clusters are n apart =
@@ -319,7 +319,7 @@ moved-rigid dx dy = record {
   keeps = king_distance-moved dx dy;
 }
 
--- a moved pattern is its image by the move
+-- the image of a pattern under a move is the moved pattern
 moved-is_image : (dx dy : ℤ) (cells : List Cell) → InOrder cells → image_by (moved_by dx dy) cells ≡ shifted dx dy cells
 moved-is_image dx dy cells order = set_of-in_order (shifted dx dy cells) (in_order-shifted dx dy cells order)
 

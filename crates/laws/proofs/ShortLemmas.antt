@@ -69,7 +69,7 @@ entries_within ranges (n ∷ ns) within zero d low = within 0 n (omega arith)
 entries_within ranges (n ∷ ns) within (suc k) d low =
     entries_within ranges ns (λ j e less. within (suc j) e (omega arith)) k d (omega arith)
 
--- a set of numbers below 2^40 has at most 2^40 of them
+-- at most 2^40 numbers are taken from ranges that have only numbers below 2^40
 few_numbers : (ranges : List Range) (numbers : List ℕ) → AreNormal ranges → AreBelow number_bound ranges → AreTakenOf ranges numbers → length numbers ≤ 2 ^ 40
 unfolding entries
 few_numbers ranges numbers normal below taken =
@@ -89,7 +89,7 @@ in_below (r ∷ ranges) n below h = elim (cases_Bool (is_in_range n r)) [
   | inr other ↦ in_below ranges n (λ k d low. below (suc k) d (omega arith)) (sym (ap (λ (b : Bool). b || is_in ranges n) other) ∙ h)
 ]
 
--- each member of a list has a property that all its items have
+-- if all items of a list have a property, so has each number that is found in the list
 any_member : (P : ℕ → Type 0) (numbers : List ℕ) → All P numbers → (n : ℕ) → list_any (nat_eq n) numbers ≡ true → P n
 any_member P [] all n h = absurd (false≢true h)
 any_member P (m ∷ ms) all n h = elim (cases_Bool (nat_eq n m)) [

@@ -1,4 +1,4 @@
--- Clusters in the order of their first cells, from clusters in any order.
+-- Sorting clusters by their first cells.
 use Rattle.std.proofs.Common.{◌≡◌, ◌≢◌, ◌∙◌, ap, sym, refl, subst, zero, suc, pos, Bool, true, false, ◌||◌, cond, List, [], ◌∷◌, All, AllPairs, map, arith}
 use Rattle.std.specs.List.Sorted.{IsPermutation}
 use Rattle.std.specs.Ordering.{is_eq, is_lt, match_ordering}
@@ -72,7 +72,7 @@ module _ {X : Type 0} (key : X → Cell) where
       place-put x (sorted xs) (ap (λ (cells : List Cell). has cells (key x)) remainder ∙ has-set_of (map key xs) (key x) ∙ differ.0)
       ∙ ap (put (key x)) remainder
 
--- if the first cells of nonempty clusters are in order, each cluster begins before those after it
+-- if the first cells of nonempty clusters are in order, `FirstBefore` holds for each cluster and every later cluster
 pairs_from : (clusters : List (List Cell)) → All (λ cluster. cluster ≢ []) clusters → InOrder (map first clusters) → AllPairs FirstBefore clusters
 pairs_from [] some order = λ i j d lt low. absurd (omega arith)
 pairs_from (x ∷ xs) some order =

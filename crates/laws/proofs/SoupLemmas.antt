@@ -1,4 +1,4 @@
--- A soup has each bit of its digest.
+-- A soup determines every bit of its digest.
 use Rattle.std.proofs.Common.{◌≡◌, ◌∙◌, ap, sym, subst₂, ℕ, zero, suc, ◌+◌, ◌-◌, ◌*◌, ◌/◌, ◌%◌, ◌^◌, ◌<◌, ◌==◌, List}
 use Rattle.std.proofs.Common.{All, length, get_or, decimal, ◌++◌, pos, arith, slice_index}
 use Rattle.std.specs.Int.{byte_at, bytes_high_first, to_be_bytes, w32}

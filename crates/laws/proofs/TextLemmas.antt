@@ -1,4 +1,4 @@
--- Texts of visible bytes, and where lines of numbers are cut.
+-- Which texts have only visible bytes. Also, a line of numbers determines its numbers, and a text its lines.
 use Rattle.std.proofs.Common.{◌≡◌, ◌∙◌, ap, sym, refl, ℕ, zero, suc, ◌+◌, ◌/◌, ◌%◌, ◌<◌, ◌≤◌, ◌==◌, Bool, true, false, cond, List, [], ◌∷◌, ◌++◌}
 use Rattle.std.proofs.Common.{append_assoc, arith, decimal, length, map, nat_le}
 use Rattle.std.specs.Fmt.{digit_glyph, digits as decimal_digits, digits_onto}
@@ -28,7 +28,7 @@ all-weaker p q weaker (x ∷ xs) h =
     let parts = and_parts (p x) (list_all p xs) h in
     and_from (q x) (list_all q xs) (weaker x parts.0) (all-weaker p q weaker xs parts.1)
 
--- a text whose bytes all pass a test lacks each byte that fails it
+-- a text whose bytes all pass a test lacks each byte that fails the test
 pub all_lack : (p : ℕ → Bool) (byte : ℕ) → p byte ≡ false → (text : List ℕ) → list_all p text ≡ true → Lacks byte text
 all_lack p byte other [] h = refl
 all_lack p byte other (b ∷ bs) h =
@@ -65,7 +65,7 @@ digit_digit d low = and_from (nat_le 48 (48 + d)) (nat_le (48 + d) 57) (le-leb _
 pub decimal_lack : (byte n : ℕ) → is_digit byte ≡ false → Lacks byte (decimal n)
 decimal_lack byte n other = all_lack is_digit byte other (decimal n) (decimal_all is_digit digit_digit n)
 
--- short numbers with the same decimal are equal
+-- two numbers with at most 64 digits are equal if their decimals are equal
 pub decimal_once : (m n : ℕ) → IsWrittenWhole m → IsWrittenWhole n → decimal m ≡ decimal n → m ≡ n
 decimal_once m n low less same =
     sym (decimal_is_IsNumeral_wide m low).1 ∙ ap (digits_value 10) same ∙ (decimal_is_IsNumeral_wide n less).1
@@ -162,7 +162,7 @@ abbrev pub Ends : (List ℕ → Bool) → List (List ℕ) → Type 0
 Ends test [] = Unit {0}
 Ends test (l ∷ ls) = test l ≡ false
 
--- the lines before the first that fails a test are determined, and so are those from there on
+-- there is only one way to cut a list of lines before its first line that fails a test
 pub lines_once : (test : List ℕ → Bool) (xs ys rs ss : List (List ℕ)) → list_all test xs ≡ true → list_all test ys ≡ true → Ends test rs → Ends test ss
     → xs ++ rs ≡ ys ++ ss → (xs ≡ ys) × (rs ≡ ss)
 lines_once test [] [] rs ss p q h k e = (refl, e)

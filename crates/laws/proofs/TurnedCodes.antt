@@ -64,7 +64,7 @@ recurs-image o rule cells limit r order h = record {
       h.least p (turned_cell b (cell_at ex ey)).x (turned_cell b (cell_at ex ey)).y some less home;
 }
 
--- turning an image and moving it to the corner is one turn of the pattern
+-- to turn an image is to turn the pattern by the product of both orientations; both results are moved to the corner
 turned-image : (a b : Orientation) (cells : List Cell) → turned b (image a cells) ≡ turned (product a b) cells
 unfolding turned
 turned-image a b cells = ap at_corner (image-image a b cells)
@@ -137,7 +137,7 @@ stays-turned Flip x y = ap (λ (b : Bool). int_eq x (pos 0) && b) (still-negated
 stays-turned Diagonal x y = and_swap (int_eq y (pos 0)) (int_eq x (pos 0))
 stays-turned AntiDiagonal x y = (λ i. still-negated y i && still-negated x i) ∙ and_swap (int_eq y (pos 0)) (int_eq x (pos 0))
 
--- the number in an apgcode depends on the recurrence only by the period
+-- the number in an apgcode depends on the recurrence only through its period
 number-period : (kind : Kind) (S : List Cell) (r q : Recurrence) → r.period ≡ q.period → number_of kind S r ≡ number_of kind S q
 number-period Still S r q is = refl
 number-period Oscillator S r q is = is

@@ -14,7 +14,7 @@ use Rattle.ranges.specs.Ranges.{is_in}
 abbrev pub of_worker : ℕ → List (ℕ × ℕ) → List (ℕ × ℕ)
 of_worker worker entries = filter (λ t. nat_eq t.0 worker) entries
 
--- what is taken from a worker is some of what it offered before a closing, in order; each number once, and from the set
+-- what is taken from a worker: a subsequence of its offers before any closing, with distinct numbers, all in the set
 pub record IsTakenOf (terms : Terms) (arrivals : List Arrival) (worker : ℕ) : Type 0 where
   pub part : IsSubsequence (of_worker worker (taken_of terms arrivals)) (of_worker worker (map entry (offered arrivals)))
   pub once : (n : ℕ) → count_by (nat_eq n) (numbers_in (of_worker worker (taken_of terms arrivals))) ≤ 1

@@ -36,8 +36,8 @@ total_in rows code = unwrap_or (option_map (λ row. row.total) (find (λ row. is
 abbrev pub samples_in : List Row → List ℕ → List ℕ
 samples_in rows code = unwrap_or (option_map (λ row. row.samples) (find (λ row. is_code code row.code) rows)) []
 
--- The census `both` has the sums of the two other censuses: of soups, of unsettled soups, of soups whose objects stay
--- for good, of objects, and of each code's total. A code's samples are the three lowest of its samples in those two.
+-- The census `both` is the sum of `one` and `other`: in the numbers of objects, soups, unsettled soups and soups whose
+-- objects stay for good, and in each code's total. A code's samples are the three lowest of its samples in the two.
 pub record AddUp (one other both : Census) : Type 0 where
   pub soups : both.soups ≡ one.soups + other.soups
   pub unsettled : both.unsettled ≡ one.unsettled + other.unsettled
@@ -46,7 +46,7 @@ pub record AddUp (one other both : Census) : Type 0 where
   pub totals : (code : List ℕ) → total_in both.rows code ≡ total_in one.rows code + total_in other.rows code
   pub samples : (code : List ℕ) → AreLeastThree (samples_in one.rows code ++ samples_in other.rows code) (samples_in both.rows code)
 
--- the census of a joined haul, over the soups of two hauls of one job, is the sum of the censuses of the two hauls
+-- if a haul has taken the soups of two other hauls of the same job, its census is the sum of their censuses
 abbrev pub JoinedHaulsAddUp : Type 0
 JoinedHaulsAddUp = (job : Job) (ranges others all : List Range) (numbers more : List ℕ) (one other both : Census)
     → IsCensus job ranges numbers one → IsCensus job others more other → IsCensus job all (numbers ++ more) both → AddUp one other both

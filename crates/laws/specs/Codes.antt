@@ -1,4 +1,4 @@
--- Laws of apgcodes: all forms of an object have the same code, and a code that contains a text stands for one object.
+-- Laws of apgcodes: all forms of an object have the same code, and a code with a Wechsler text stands for one object.
 use Rattle.std.specs.Prelude.{◌≡◌, ℕ, List, Some}
 use Rattle.plane_core.specs.declared.plane.cell.Cell.{Cell}
 use Rattle.plane_core.specs.declared.plane.orientation.Orientation.{Orientation}
@@ -19,14 +19,14 @@ abbrev pub CodesLater : Type 0
 CodesLater = (g : ℕ) (rule : Numbers) (cells : List Cell) (limit : ℕ) (code : List ℕ)
     → InOrder cells → IsCode rule cells limit code → IsCode rule (after rule cells g) limit code
 
--- two patterns are one object: some generation of the first, turned or mirrored in some way, is the second, if both are
--- moved to the corner
+-- two patterns are one object: some generation of the first, in some orientation, is the second, if both are moved to
+-- the corner
 pub record IsOneObject (rule : Numbers) (cells others : List Cell) : Type 0 where
   pub generation : ℕ
   pub orientation : Orientation
   pub is : turned orientation (after rule cells generation) ≡ at_corner others
 
--- two patterns with the same apgcode are one object, if the apgcode contains a text
+-- two patterns with the same apgcode are one object, if the apgcode contains a Wechsler text
 abbrev pub CodesAreFaithful : Type 0
 CodesAreFaithful = (rule : Numbers) (cells others : List Cell) (limit more : ℕ) (code t : List ℕ) → InOrder cells → InOrder others
     → (named : IsCode rule cells limit code) → named.least ≡ Some t → IsCode rule others more code → IsOneObject rule cells others

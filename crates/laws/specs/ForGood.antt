@@ -38,8 +38,8 @@ abbrev pub FindingsForGood : Type 0
 FindingsForGood = (rule : Numbers) (profile : Settling) (cells : List Cell) (t : ℕ) (objects : List (List ℕ × ℕ)) → InOrder cells
     → IsFinding rule profile cells (Settled t objects true) → RestsForGood rule profile (after rule cells t)
 
--- if the limit is at most 64 and no cluster is empty, objects stay for good by the kinds and numbers in their codes if
--- and only if their clusters stay for good by their recurrences
+-- if the limit is at most 64 and no cluster is empty, two definitions of staying for good agree: by the kinds and
+-- numbers in the codes of the objects, and by the recurrences of the clusters
 abbrev pub MarksMatchRecurrences : Type 0
 MarksMatchRecurrences = (rule : Numbers) (limit horizon : ℕ) (clusters : List (List Cell)) (objects : List (List ℕ × ℕ))
     → limit ≤ 64 → All (λ cluster. cluster ≢ []) clusters → AreObjectsOf rule limit clusters objects

@@ -50,8 +50,8 @@ pub record AreTakenOf (ranges : List Range) (numbers : List ℕ) : Type 0 where
   pub within : All (λ n. is_in ranges n ≡ true) numbers
   pub distinct : IsDistinct nat_eq numbers
 
--- a census is short if its job is valid, its ranges are in normal form and end at 2^40 at most, and the numbers taken
--- are in these ranges, no number twice
+-- a census is short if its job is valid, its ranges are in normal form and have only numbers below 2^40, and the
+-- numbers taken are distinct and in these ranges
 abbrev pub HaulCensusesAreShort : Type 0
 HaulCensusesAreShort = (job : Job) (ranges : List Range) (numbers : List ℕ) (census : Census) → IsJob job → AreNormal ranges
     → AreBelow number_bound ranges → AreTakenOf ranges numbers → IsCensus job ranges numbers census → IsShortCensus census

@@ -1,4 +1,4 @@
--- What a higher limit changes.
+-- How the finding of a pattern changes if the limit of the profile is raised.
 use Rattle.std.specs.Prelude.{◌<◌, ◌≤◌, ℕ, Bool, List}
 use Rattle.plane_core.specs.declared.plane.cell.Cell.{Cell}
 use Rattle.plane_core.specs.plane.Rules.{Numbers}

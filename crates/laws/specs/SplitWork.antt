@@ -1,5 +1,5 @@
--- If the soups of a set are split among calls of `work`, `gather` makes from their lines what `take` prints for the
--- set. And only one text is right for `take`.
+-- Laws of split work: `gather` turns the lines of several calls of `work` into what `take` prints for the whole set,
+-- and only one text is right for `take`.
 use Rattle.std.specs.Prelude.{Option, ◌≡◌, ◌≤◌, ◌^◌, ℕ, true, List, Ok, MatchResult, length}
 use Rattle.std.specs.List.{All, Contains}
 use Rattle.survey_core.specs.declared.job.Job.{Job}

@@ -4,10 +4,10 @@ ghost use Rattle.commands.specs.CorrectLines.{GatherTakesCorrectLines};
 ghost use Rattle.laws.specs.Gathering.{GatherPrintsCorrectLines};
 ghost use Rattle.laws.specs.SplitWork.{OneRightText, SplitWorkEnds, SplitWorkIsWhole};
 
-/// The laws of what `gather` prints, unless it ends with a complaint: the plan is refused, the input is too long,
-/// memory runs out or a stream fails. `gather` prints the haul text over those numbers of its set that have a correct
-/// line, each once, whatever the other lines are. It ends with status `Done` if each number of the set has a correct
-/// line, and otherwise with `Incomplete`.
+/// The laws of what `gather` prints. It ends with a complaint if the plan is refused, the input is too long, memory
+/// runs out or a stream fails. In all other cases, it prints the haul text over those numbers of its set that have a
+/// correct line, each once, whatever the other lines are. It ends with status `Done` if each number of the set has a
+/// correct line, and otherwise with `Incomplete`.
 pub fn gather_takes_correct_lines()
     ensures tells { GatherTakesCorrectLines }
     ensures prints { GatherPrintsCorrectLines }

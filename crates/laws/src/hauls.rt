@@ -25,9 +25,9 @@ pub fn complete_hauls_print_the_same()
     ensures complete { CompleteHaulsPrintTheSame }
 {}
 
-/// The law that the census of a joined haul has the sums of the two hauls' censuses: of soups, of unsettled soups, of
-/// soups whose objects stay for good, of objects, and of each code's total. A code's samples are the three lowest of
-/// its samples in the two censuses.
+/// The law that the census of a joined haul is the sum of the two hauls' censuses: in the numbers of objects, soups,
+/// unsettled soups and soups whose objects stay for good, and in each code's total. A code's samples are the three
+/// lowest of its samples in the two censuses.
 pub fn joined_hauls_add_up()
     ensures { JoinedHaulsAddUp }
 {}
@@ -37,8 +37,9 @@ pub fn split_sets_add_up()
     ensures { SplitSetsAddUp }
 {}
 
-/// The laws that two censuses with the same haul text are equal, if their jobs are valid, their ranges are in normal
-/// form and their numbers are below 10^64, and that the census of every haul meets these conditions.
+/// The laws that two short censuses with the same haul text are equal, and that the census of every haul is short. A
+/// census is short if its job is valid, its ranges are in normal form, its count is their size, its codes have the
+/// shape of apgcodes, and its other numbers are below 10^64.
 pub fn haul_texts_are_faithful()
     ensures faithful { HaulTextsAreFaithful }
     ensures hauls { HaulCensusesAreShort }

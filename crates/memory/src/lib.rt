@@ -1,8 +1,8 @@
-//! Out of memory, as a witness.
+//! The error "out of memory", which is also a witness that memory was refused.
 //!
 //! A contract can't require that there is memory, so it would also accept a body that reports "out of memory" without
 //! cause. To rule such bodies out, an [`OutOfMemory`] is made only from the error with which the library refused
-//! memory: its one field is private, and each function that makes one takes such an error.
+//! memory: its only field is private, and each function that makes an `OutOfMemory` takes such an error.
 #![tactic(auto)]
 
 ghost use Rattle.std.specs.Prelude.{◌≡◌};

@@ -59,7 +59,7 @@ long_input limit None mid bytes before long = tt
 long_input limit (Some xs) None bytes before long = absurd before
 long_input limit (Some xs) (Some ys) bytes before long = let all = ap length before ∙ length-append bytes ys in omega (arith, all, long)
 
--- one more read appends its bytes
+-- after one more read, the bytes read so far are the earlier bytes, followed by those of this read
 pub read_more : (old mid new : Option (List ℕ)) (bytes buffer later : List ℕ) (n : ℕ) → Consumes old mid bytes → Consumes mid new (take n buffer)
     → later ≡ bytes ++ take n buffer → Consumes old new later
 read_more old mid new bytes buffer later n before now is = subst (Consumes old new) (sym is) (Consumes-trans old mid new bytes (take n buffer) before now)
@@ -96,14 +96,14 @@ Reads_unread None input_error.TooLong long =
     (bytes, tt, pattern_of-long bytes (subst (λ n. 2 ^ 24 < n) (sym (length-range_with_len 0 (2 ^ 24 + 1))) (omega arith)))
 Reads_unread (Some left) input_error.TooLong long = (left, refl, pattern_of-long left (long refl))
 
--- an input up to the limit is parsed
+-- an input that isn't over the limit is parsed
 pub pattern_of-short : (bytes : List ℕ) (answer : Result (List Cell) PlaintextFault) → length bytes ≤ 2 ^ 24 → pattern bytes ≡ answer
     → pattern_of bytes ≡ result_map_both (λ (cells : List Cell). cells) pattern_complaint answer
 pattern_of-short bytes answer short is =
     let looked : nat_le (length bytes) (2 ^ 24) ≡ true = search rules in
     rw (looked, is)
 
--- if a pattern is refused, the complaint about it is a right result of reading it
+-- the complaint about a refused pattern is a right result of reading the pattern
 pub Reads_refused : (bytes : List ℕ) (fault : PlaintextFault) → length bytes ≤ 2 ^ 24 → pattern bytes ≡ Err fault
     → Reads (pattern_of bytes) (Err (pattern_complaint fault))
 Reads_refused bytes (plaintext_fault.BadByte line column) short is = pattern_of-short bytes _ short is
@@ -121,7 +121,7 @@ pub Reaches_no_memory : (reads : Bool) (right : Right) (output : Stream) → rea
 Reaches_no_memory reads right output read nothing =
     (λ unread complaint is. let bad : false ≡ true = sym unread ∙ read in cc, nothing)
 
--- a command whose input was refused or couldn't be read may end with the complaint about it, if it has written nothing
+-- a command that has written nothing may end with the complaint about an input that was refused or couldn't be read
 pub Reaches_unread : {A : Type 0} (reads : Bool) (right : Right) (answer : Result A Complaint) (complaint : Complaint) (output : Stream) → reads ≡ true
     → ((other : Complaint) → answer ≡ Err other → right (Err other)) → Reads answer (Err complaint) → Has output []
     → ReachesText reads true right (Err complaint) output

@@ -22,7 +22,7 @@ pub name_reads : (numbers : ProfileNumbers) (text : List ℕ) (profile : Settlin
     → rule_named text ≡ Ok rule → (is_ok (profile_named numbers) && is_ok (rule_named text)) ≡ true
 name_reads numbers text profile rule profiled ruled = rw (profiled, ruled) refl
 
--- if the profile is refused, `name` may end with the complaint about it, if it has written nothing
+-- if the profile is refused and nothing was written, `name` may end with the complaint about the profile
 pub Reaches_profile : (reads : Bool) (numbers : ProfileNumbers) (text bytes : List ℕ) (complaint : Complaint) (output : Stream)
     → profile_named numbers ≡ Err complaint → Has output [] → ReachesText reads true (name_right numbers text bytes) (Err complaint) output
 Reaches_profile reads numbers text bytes complaint output refused nothing = go (nat_le numbers.period numbers.horizon) refl
@@ -53,7 +53,7 @@ pub right_finding : (numbers : ProfileNumbers) (text bytes : List ℕ) (profile 
     → name_right numbers text bytes (Ok (finding_text finding))
 right_finding numbers text bytes profile rule cells finding profiled ruled read is = rw (profiled, ruled, read) (finding, is, refl)
 
--- the lines of the objects from place `i` on are the line of object `i` and then those from place `i + 1` on
+-- the lines from object `i` on are the line of object `i`, and then the lines from object `i + 1` on
 pub lines_more : {A : Type 0} (line : A → List ℕ) (xs : List A) (i : ℕ) (x : A) (text prefix : List ℕ) → i < length xs → x ≡ get_or xs i x
     → text ≡ prefix ++ flat_map line (drop i xs) → text ≡ (prefix ++ line x) ++ flat_map line (drop (i + 1) xs)
 lines_more line xs i x text prefix more here is =

@@ -16,7 +16,7 @@ use Rattle.pattern_commands.specs.Show.{reader_complaint, show_answer, text_in, 
 use Rattle.pattern_commands.specs.Streams.{Stream, Has}
 use Rattle.pattern_commands.specs.TextSteps.{ReachesText}
 
--- if the code's text is that of a pattern, the text of the pattern is the answer
+-- if the code's text can be read as a pattern, the answer is this pattern, printed in the given form
 pub show_answer-pattern : (form : PatternForm) (code text : List ℕ) (cells : List Cell) → text_in code ≡ Ok text → wechsler_read text ≡ Ok cells
     → show_answer form code ≡ Ok (pattern_text form cells)
 show_answer-pattern form code text cells is read = rw (is, read) refl
@@ -37,8 +37,7 @@ show_answer-faultless form code text is faults = go (wechsler_read text) refl
 faultless_refused : (form : PatternForm) (code : List ℕ) (complaint : Complaint) → IsOk (show_answer form code) → show_answer form code ≡ Err complaint → ⊥
 faultless_refused form code complaint ok refused = let bad : IsOk {T = List ℕ} (Err complaint) = rw refused at ok in cc
 
--- if a code's text was refused or couldn't be read, `show` may end with the complaint about it, if it has written
--- nothing
+-- if reading the text of a code failed and nothing has been written, `show` may end with the complaint about the error
 pub Reaches_text : (form : PatternForm) (code text : List ℕ) (error : WechslerError) (output : Stream) → text_in code ≡ Ok text
     → ((fault : WechslerFault) → IsErrOf {T = List Cell} (Err error) (Fault fault) ↔ (wechsler_read text ≡ Err fault)) → Has output []
     → ReachesText false true (only (show_answer form code)) (Err (reader_complaint error)) output

@@ -1,4 +1,4 @@
--- The size of two appended lists of cells, and the lines of sizes.
+-- The box of two appended lists of cells, and the lines that `run --sizes` writes.
 use Rattle.std.proofs.Common.{◌≡◌, ◌∙◌, ◌+◌, ◌-◌, ◌≤◌, ◌++◌, ℕ, ℤ, zero, suc, List, [], ◌∷◌, Option, None, Some, append-nil, append_assoc, ap, arith, refl, sym}
 use Rattle.std.proofs.lemmas.Int.{clamps, ints}
 use Rattle.std.specs.Int.{int_max, int_min}
@@ -100,7 +100,7 @@ text_none : (rule : Numbers) (cells : List Cell) (from : ℕ) → sizes_text rul
 unfolding sizes_text
 text_none rule cells from = refl
 
--- the lines of a text are that of the first generation, and those of the generations after it
+-- the text of `n + 1` generations is the line of the first, followed by the lines of the `n` generations after it
 pub text_later : (rule : Numbers) (cells : List Cell) (from n : ℕ)
     → sizes_text rule cells from (suc n) ≡ size_line from (after rule cells from) ++ later_sizes rule (after rule cells from) from n
 text_later rule cells from zero =

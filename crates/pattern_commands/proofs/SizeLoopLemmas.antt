@@ -1,4 +1,4 @@
--- From one stretch of generations to the next.
+-- The loop of `run --sizes`, which goes from one stretch of generations to the next.
 use Rattle.std.proofs.Common.{◌≡◌, ◌∙◌, ◌+◌, ◌-◌, ◌≤◌, ℕ, List, Option, ap, arith, subst, sym, true}
 use Rattle.plane_core.specs.Outputs.{Output}
 use Rattle.plane_core.specs.declared.plane.cell.Cell.{Cell}
@@ -37,11 +37,12 @@ module _ (rule : Numbers) (cells : List Cell) (from : ℕ) where
     later : g - from + made ≡ g + made - from
     later = omega arith
 
-    -- what holds for `now` and `g` holds for `cells` after `g - from` generations, and for `from + (g - from)`
+    -- a property of `now` and `g` also holds for what they equal: `cells` after `g - from` generations, and
+    -- `from + (g - from)`
     pub moved : (P : List Cell → ℕ → Type 0) → P now g → P (after rule cells (g - from)) (from + (g - from))
     moved P h = subst (P (after rule cells (g - from))) (sym here) (subst (λ (S : List Cell). P S g) is h)
 
-    -- `made` generations after generation `g`, the pattern is that of generation `g + made`
+    -- running the pattern of generation `g` for `made` generations gives the pattern of generation `g + made`
     pub now_later : (next : List Cell) → next ≡ after rule now made → next ≡ after rule cells (g + made - from)
     now_later next so = so ∙ ap (λ (S : List Cell). after rule S made) is ∙ after-plus rule cells (g - from) made ∙ ap (after rule cells) later
 

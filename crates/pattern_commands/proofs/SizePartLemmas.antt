@@ -1,4 +1,4 @@
--- A pattern in parts with gaps between their rows: until they meet, each runs as if it were alone.
+-- A pattern whose parts are more than 2n rows apart: for n generations, each part runs as if it were alone.
 use Rattle.std.proofs.Common.{◌≡◌, ◌∙◌, ◌+◌, ◌-◌, ◌*◌, ◌<◌, ◌≤◌, ◌++◌, ◌+ℤ◌, ◌-ℤ◌, ◌≤ℤ◌, ◌<ℤ◌, ◌||◌, ℕ, ℤ, zero, suc, pos, Bool, true, false, List, [], ◌∷◌}
 use Rattle.std.proofs.Common.{Option, None, Some, append-nil, append_assoc, ap, arith, drop, flat_map, get_or, inl, inr, length, map, position, refl, set, subst, sym, take, unsigned_abs}
 use Rattle.std.specs.List.{list_all}
@@ -111,7 +111,7 @@ either true b h none = refl
 either false true h none = absurd (false≢true (sym none))
 either false false h none = h
 
--- cells in order, followed by cells in order in lower rows, are in order
+-- if two lists of cells are in order, and the second is in lower rows than the first, the appended list is in order
 rows_append : (S T : List Cell) → InOrder S → InOrder T → ((c d : Cell) → has S c ≡ true → has T d ≡ true → c.y <ℤ d.y) → InOrder (S ++ T)
 rows_append [] T o u below = u
 rows_append (c ∷ cs) T o u below =

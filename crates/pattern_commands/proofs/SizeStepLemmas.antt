@@ -1,4 +1,4 @@
--- The lines of sizes, one after another, and how a call that writes them ends.
+-- The lines of `run --sizes`, one after another, and how a call that writes them ends.
 use Rattle.std.proofs.Common.{◌≡◌, ◌∙◌, ◌+◌, ◌-◌, ◌<◌, ◌≤◌, ◌++◌, ℕ, suc, Bool, true, false, List, [], Option, Ok, Err, ap, arith, flat_map, map, refl, subst, sym}
 use Rattle.memory.specs.declared.OutOfMemory.{OutOfMemory}
 use Rattle.plane_core.specs.declared.output.WriteError.{WriteError}
@@ -24,7 +24,7 @@ use Rattle.pattern_commands.proofs.SizePartLemmas.{parts_next, parts_now}
 -- ---- one more line
 
 module _ (rule : Numbers) (cells : List Cell) (g : ℕ) where
-  -- the lines of `k + 1` generations are those of `k` generations and the line of the size at the next one
+  -- the lines of `k + 1` generations are the lines of `k` generations, followed by the line of the next generation
   pub line_more : (k : ℕ) (size : Size) → size ≡ pattern_size (after rule cells (k + 1))
       → later_sizes rule cells g (k + 1) ≡ later_sizes rule cells g k ++ sized_line (g + (k + 1)) size
   line_more k size is =
@@ -33,7 +33,7 @@ module _ (rule : Numbers) (cells : List Cell) (g : ℕ) where
       ∙ (λ i. later_sizes rule cells g k ++ size_line (g + sym next i) (after rule cells (sym next i)))
       ∙ ap (λ (s : Size). later_sizes rule cells g k ++ sized_line (g + (k + 1)) s) (sym is)
 
-  -- one generation later, the parts still run apart, and the next line is that of their size
+  -- one generation later, the parts still run apart, and the next line shows the size of all parts together
   pub parts_more : (k most : ℕ) (parts news : List Running) (size : Size) → k < most → RunApart rule (after rule cells k) (most - k) parts
       → news ≡ map advanced parts → size ≡ pattern_size (flat_map (λ (part : Running). part.cells) news)
       → RunApart rule (after rule cells (k + 1)) (most - (k + 1)) news
@@ -113,7 +113,7 @@ module _ (rule : Numbers) (cells : List Cell) (g : ℕ) where
 
 -- ---- whole texts
 
--- if `one` was written, and then `two` wholly or in part, so was `one ++ two`
+-- if `one` was written, and then all or a part of `two`, then all or a part of `one ++ two` was written
 pub leaves_then : {V : Type 0} (contents : V → Option (List ℕ)) (one two : List ℕ) (outcome : TextOutcome) (x y z : Output V)
     → Has (stream contents x y) one → PutsLines (λ _. two) two outcome (stream contents y z) → PutsLines (λ _. one ++ two) (one ++ two) outcome (stream contents x z)
 leaves_then contents one two (Ok _) x y z has more = (Appends-append _ _ _ one two has more.0, more.1)
@@ -138,7 +138,8 @@ whole_text rule cells from last low =
 
 -- ---- how the command ends
 
--- a complaint after which nothing was written may also end a command that writes its text line by line
+-- if nothing was written, a complaint that may end a command whose text is complete before any write may also end a
+-- command that writes its text line by line
 pub reaches_lines : (reads : Bool) (answer : Answer) (complaint : Complaint) (output : Stream) → Has output []
     → ReachesText reads true (only answer) (Err complaint) output → ReachesText reads false (only answer) (Err complaint) output
 reaches_lines reads answer (Refused refusal) output nothing reached = reached

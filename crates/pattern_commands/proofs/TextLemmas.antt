@@ -1,4 +1,4 @@
--- How commands that write only a text end.
+-- The endings of commands that write only a text.
 use Rattle.std.proofs.Common.{◌≡◌, ℕ, Bool, true, false, inl, List, [], Option, Result, Ok, Err, IfErr, refl}
 use Rattle.std.proofs.KnownBytes.{Appends-nil}
 use Rattle.memory.specs.Witness.{out_of_memory}

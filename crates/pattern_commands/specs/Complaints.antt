@@ -1,4 +1,4 @@
--- The lines on standard error, and the status that goes with each.
+-- What the last line of standard error says, and the status for each complaint.
 use Rattle.std.specs.Prelude.{ℕ, ◌++◌, List, codes, decimal}
 use Rattle.pattern_commands.specs.declared.ending.complaint.Complaint.{Complaint}
 use Rattle.pattern_commands.specs.declared.ending.complaint.Complaint.TheVariants.{Refused, Memory, ReadFailed, TooLong, WriteFailed}
@@ -12,7 +12,7 @@ use Rattle.pattern_commands.specs.declared.ending.refusal.Refusal.TheVariants.{B
 use Rattle.pattern_commands.specs.declared.ending.status.Status.{Status}
 use Rattle.pattern_commands.specs.declared.ending.status.Status.TheVariants as status
 
--- a line on standard error: `census: `, its text, and a line feed
+-- the last line of standard error: `census: `, its text, and a line feed
 abbrev pub error_line : List ℕ → List ℕ
 error_line text = codes "census: " ++ (text ++ codes "\n")
 

@@ -47,8 +47,8 @@ pub record HasRunOutOfMemory (behaviour : Behaviour) (reader : Option (List ℕ)
   pub fine : errors.failed ≡ false
 
 -- What was written if a write of the text failed. If the text is made completely before it is written: a prefix of it,
--- and all diagnostics. If it is written while it is made: a prefix of each right text, and no diagnostics; then no
--- complaint is right.
+-- and all diagnostics. If it is written while it is made: a prefix of each right text, and no diagnostics. In this
+-- second case, no complaint is right.
 abbrev pub WritesBeginning : Bool → Makes → Stream → Stream → Type 0
 WritesBeginning true right output errors = (made : Made) × right (Ok made) × HasPrefix output made.text × Has errors made.diagnostics
 WritesBeginning false right output errors = ((complaint : Complaint) → right (Err complaint) → ⊥)

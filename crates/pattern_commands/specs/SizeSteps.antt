@@ -26,7 +26,7 @@ unfoldable pub later_sizes : Numbers → List Cell → ℕ → ℕ → List ℕ
 later_sizes rule cells g zero = []
 later_sizes rule cells g (suc n) = later_sizes rule cells g n ++ size_line (g + suc n) (after rule cells (suc n))
 
--- all cells from place i of the list on are more than `far` rows below all cells before place i
+-- each cell at place i or later is more than `far` rows below each cell before place i
 abbrev pub IsGap : ℕ → List Cell → ℕ → Type 0
 IsGap far cells i = (c d : Cell) → has (take i cells) c ≡ true → has (drop i cells) d ≡ true → (c.y +ℤ pos far) <ℤ d.y
 
@@ -42,8 +42,8 @@ RunApart rule cells n parts = (g : ℕ) → g ≤ n → after rule cells g ≡ p
 abbrev pub advanced : Running → Running
 advanced part = record { rule = part.rule; cells = after part.rule part.cells 1 }
 
--- What was added to the output. If the result is `Ok x`, it is the text `done x`. If memory ran out or a write failed,
--- it is a prefix of the whole text. No other error is possible.
+-- What was added to the output: if the result is `Ok x`, the text `done x`; if memory ran out or a write failed, a
+-- prefix of the whole text. No other error is possible.
 abbrev pub PutsLines : {A : Type 0} → (A → List ℕ) → List ℕ → Result A Complaint → Stream → Type 0
 PutsLines done whole (Ok x) output = Has output (done x) × (output.failed ≡ false)
 PutsLines done whole (Err (Memory error)) output = HasPrefix output whole

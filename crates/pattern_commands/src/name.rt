@@ -43,10 +43,10 @@ use survey_core::finding::{Finding, survey_pattern};
 ///
 /// # Errors
 ///
-/// The status is `Refused` if the horizon is below the period, the text isn't a rule or the input isn't a pattern of at
-/// most 1,000 by 1,000 cells; `Memory` if memory runs out; and `Failed` if the input can't be read or has more than
-/// 2^24 bytes, or if the output can't be written. In these cases, a line is written to `errors`. A failure to write
-/// that line is not reported.
+/// The status is `Refused` if the horizon is below the period, `rule_text` isn't a rule, or the input isn't a pattern
+/// of at most 1,000 by 1,000 cells; `Memory` if memory runs out; and `Failed` if the input can't be read or has more
+/// than 2^24 bytes, or if the output can't be written. In these cases, a line is written to `errors`. A failure to
+/// write that line is not reported.
 pub fn do_name<R: Read, W: Write, E: Write>(
     alloc: Global,
     profile: ProfileNumbers,

@@ -30,8 +30,8 @@ use requests::form::PatternForm;
 use std::alloc::Global;
 use std::io::{Read, Write};
 
-/// Reads a plaintext pattern, runs it for `generations` generations of a rule, and writes the result in a form. The
-/// coordinates are those of the input, whose first row and column are 0.
+/// Reads a plaintext pattern, runs it for `generations` generations of a rule, and writes the result in the given form.
+/// The coordinates are those of the input, whose first row and column are 0.
 ///
 /// `generations` is at most 100,000. A pattern of at most 1,000 by 1,000 cells takes far longer to reach the edge of
 /// the plane, because its box grows by at most one cell per side and generation. No earlier write to either writer may

@@ -27,16 +27,16 @@ use requests::form::PatternForm;
 use std::alloc::Global;
 use std::io::Write;
 
-/// Writes the object of a code in a form. The coordinates count from the top left cell of the first strip of the code's
-/// text.
+/// Writes the object that `code` describes, in the given form. The origin of the coordinates is the top left cell of
+/// the first strip. A strip is five rows of the pattern.
 ///
-/// A code is a text in extended Wechsler format, with or without a prefix. A prefix is `xs`, `xp` or `xq`, a number and
-/// `_`. The number isn't checked. No earlier write to either writer may have failed. `census show CODE` is this call
-/// with the standard streams.
+/// A code is a text in extended Wechsler format. A prefix and a `_` may precede the text. A prefix is `xs`, `xp` or
+/// `xq`, followed by a number. The number isn't compared with the object. No earlier write to either writer may have
+/// failed. `census show CODE` is this call with the standard streams.
 ///
 /// # Errors
 ///
-/// The status is `Refused` if the code has a `_` and the part up to the first `_` isn't a prefix, or if the text has
+/// The status is `Refused` if the code has a `_` and the part before the first `_` isn't a prefix, or if the text has
 /// more than 10,000 bytes, isn't in extended Wechsler format or has no live cell; `Memory` if memory runs out; and
 /// `Failed` if the output can't be written. In these cases, a line is written to `errors`. A failure to write that line
 /// is not reported.

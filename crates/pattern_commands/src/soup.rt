@@ -23,7 +23,8 @@ use survey_core::profile::Profile;
 use survey_core::seed::Seed;
 use survey_core::soup::soup;
 
-/// Writes soup `number`, which has to be below 2^40, in a form. Its coordinates are from 0 to 15.
+/// Writes soup `number` of a seed in the given form. The number has to be below 2^40. The soup's coordinates are from 0
+/// to 15.
 ///
 /// The cells are the 256 bits of the SHA-256 digest of a text: the seed's bytes followed by the number in decimal. No
 /// earlier write to either writer may have failed. `census soup [--seed SEED] N` is this call with the standard
@@ -31,8 +32,8 @@ use survey_core::soup::soup;
 ///
 /// # Errors
 ///
-/// The status is `Refused` if the text isn't a seed, `Memory` if memory runs out, and `Failed` if the output can't be
-/// written. In these cases, a line is written to `errors`. A failure to write that line is not reported.
+/// The status is `Refused` if `seed_text` isn't a seed, `Memory` if memory runs out, and `Failed` if the output can't
+/// be written. In these cases, a line is written to `errors`. A failure to write that line is not reported.
 pub fn do_soup<W: Write, E: Write>(
     alloc: Global,
     seed_text: &str,

@@ -1,4 +1,4 @@
--- What a call that writes a text has done to its writer. The writer may fail before the end of the text.
+-- What happens to the writer when a call writes a text. The writer may fail before the end of the text.
 use Rattle.std.specs.Prelude.{◌≡◌, Bool, List, ℕ, ◌++◌, Option, Result, is_err, OnOk, OnErr}
 use Rattle.std.specs.Io.KnownBytes.{Appends}
 

@@ -58,7 +58,7 @@ span a b = run a (suc (distance a b))
 abbrev pub byte_of : Bool → ℕ
 byte_of live = if live then letter_o else dot
 
--- the text of row y: a byte for each cell of the box's columns from the left, and a line feed
+-- the text of row y: a byte for each column of the box, from the left, and then a line feed
 unfoldable pub row_text : List Cell → Bounds → ℤ → List ℕ
 row_text cells b y = map (λ x. byte_of (has cells (cell_at x y))) (span b.left b.right) ++ line_feed ∷ []
 

@@ -6,9 +6,10 @@
 //! . . . O . . .          cluster  0  0  1  1  0
 //! ```
 //!
-//! The places are visited in order. A root begins the next cluster. Any other place leads to an earlier place, and
-//! belongs to the cluster of that place. When a place has been visited, its link is replaced by the number of its
-//! cluster. So the clusters are in the order of their first cells, and the cells of each cluster are in order.
+//! The places, which are the indices of the cells, are visited in order. A root begins the next cluster. Any other
+//! place leads to an earlier place, and belongs to the cluster of that place. When a place has been visited, its link
+//! is replaced by the number of its cluster. So the clusters are in the order of their first cells, and the cells of
+//! each cluster are in order.
 ghost use Rattle.std.specs.Prelude.{◌+◌, ◌<◌, length, All, IfOk, OnOk};
 ghost use Rattle.plane_core.specs.plane.Cells.{IsPattern};
 ghost use Rattle.plane_core.specs.clusters.Clusters.{AreClusters};

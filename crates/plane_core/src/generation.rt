@@ -4,7 +4,7 @@
 //! run:  stretch (at most 256 generations)  ->  stretch  ->  ..
 //!
 //! stretch:  cut into parts that are far apart  ->  a board for each part  ->  the parts together
-//!           or, if boards would be too large, one step
+//!           or, if some part can't be run on a board, one step
 //!
 //! step:  in a window, or on a board, or computed cell by cell
 //! ```
@@ -33,7 +33,7 @@ use std::alloc::Global;
 use std::fmt::{self, Display};
 use thiserror::Error;
 
-/// Why a pattern has no next generation.
+/// Why the next generation of a pattern can't be computed.
 #[derive(Clone, Copy, PartialEq, Eq, Error)]
 pub enum StepError {
     /// A cell is on the edge of the plane, so a neighbour would be past it.
@@ -75,8 +75,7 @@ impl StepError {
 /// that the board never is much wider than the pattern.
 const STRETCH: u32 = 256;
 
-/// The most cuts, one within the other, that lead to one part of a pattern. A part to which this many cuts led isn't
-/// cut again.
+/// How deep cuts may be nested. A part that results from this many nested cuts isn't cut again.
 const CUTS: u32 = 40;
 
 impl<E: Into<OutOfMemory>> From<E> for StepError {
@@ -137,7 +136,7 @@ impl Pattern {
     /// The generations are made one after another, and the first failure is returned.
     ///
     /// - `Edge` if a generation before the last has a cell with a coordinate of -1,000,000 or 1,000,000. If the pattern
-    ///   itself has such a cell, the error is `Edge` whether there is memory or not.
+    ///   itself has such a cell and `generations` isn't 0, the error is `Edge` whether there is memory or not.
     /// - `Memory` if memory runs out.
     ///
     /// # Examples
@@ -146,7 +145,8 @@ impl Pattern {
     pub fn run(&self, alloc: Global, rule: &Rule, generations: u32) -> Result<Pattern, StepError>
         ensures after { IfOk result (λ pattern. pattern ≡ after rule.now self.now generations) }
         ensures inside { OnOk result ((g : ℕ) → g < generations → touches_edge (after rule.now self.now g) ≡ false) }
-        // The error isn't `Edge` if the pattern is too far from the edge to reach it at one cell per generation.
+        // The error isn't `Edge` if the pattern is too far from the edge to reach it before the last generation, at one
+        // cell per generation.
         ensures never_edge { (reach : ℕ) → lies_within reach self.now ≡ true → reach + generations ≤ plane_bound
             → result ≢ Err StepError.Edge }
         // If the pattern touches the edge from the start, the error is `Edge`, whether there is memory or not.
@@ -176,8 +176,8 @@ impl Pattern {
     }
 
     /// Returns the pattern after `generations` generations. Each part that is far from the others is run on a board of
-    /// its own. Returns `None` if, for some part, a board isn't worth it or is too small. At most `cuts` cuts lead to a
-    /// part.
+    /// its own. Returns `None` if, for some part, a board isn't worth it or is too small. Cuts are nested at most
+    /// `cuts` deep.
     #[cycle(run_in_parts)]
     fn run_in_parts(
         &self,

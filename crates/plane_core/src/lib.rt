@@ -3,7 +3,7 @@
 //! Contracts see a [`Pattern`](plane::pattern::Pattern) as the list of its cells in order, each once. This list stands
 //! for the finite set.
 //!
-//! Each folder knows only the folders below it:
+//! The main modules, each of which uses only the modules below it and `output`:
 //!
 //! ```text
 //! generation     step and run, with the cheapest representation

@@ -12,5 +12,5 @@ pub(crate) mod never_recurs;
 /// Tests on a small pattern, which is run alone in windows.
 pub mod quick_test;
 pub(crate) mod rules_out_rest;
-/// Clusters that may be spaceships on their way out.
+/// Small clusters that may be escaping spaceships.
 pub mod spaceship_candidates;

@@ -1,4 +1,4 @@
-//! A writer that remembers whether a write has failed, and the error of a failed write.
+//! `Out`, a writer that remembers whether a write has failed, and `WriteError`, the error of a failed write.
 ghost use Rattle.std.specs.Prelude.{◌≡◌, ◌<◌, [], false};
 ghost use Rattle.plane_core.specs.Outputs.{Writes};
 

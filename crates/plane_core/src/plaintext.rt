@@ -48,7 +48,7 @@ const COMMENT: u8 = b'!';
 
 const LINE_FEED: u8 = b'\n';
 
-/// The most dead cells that are written at once.
+/// A run of dead cells. A longer run is written in several pieces.
 const DEAD_CELLS: [u8; 64] = [DEAD; 64];
 
 /// Why a text isn't a plaintext pattern.
@@ -134,9 +134,9 @@ impl Pattern {
         }
     }
 
-    /// Writes the pattern as plaintext (LifeWiki, "Plaintext"): the rows of its smallest box from the top, each from
-    /// the box's left column to its right column with `.` and `O`, and a line feed after each row. Nothing is written
-    /// for the empty pattern. No earlier write to the `Out` may have failed.
+    /// Writes the pattern as plaintext (LifeWiki, "Plaintext"): the rows of its smallest box, from the top. Each row
+    /// has a `.` or an `O` for each column of the box, and ends with a line feed. Nothing is written for the empty
+    /// pattern. No earlier write to the `Out` may have failed.
     ///
     /// This takes no memory. Each live cell is a write of one byte, so the writer should be buffered, for example by a
     /// `BufWriter`.
@@ -302,7 +302,7 @@ fn row_len(cells: &[Cell], y: i32) -> usize
     len
 }
 
-/// Returns the rest of the list, after the cells of row `y` with which it begins.
+/// Returns the list without the cells of row `y` at its beginning.
 fn below(cells: &[Cell], y: i32) -> &[Cell]
     ensures { result.now ≡ drop (prefix_len (λ c. int_eq c.y y) cells.now) cells.now }
 {

@@ -19,8 +19,7 @@ OOO........................................................................O...O
 
 const GLIDER: &[u8] = b".O\n..O\nOOO\n";
 
-/// The orientations, each with the diagonal direction that it turns to the lower right: the sign of the direction's
-/// columns and the sign of its rows.
+/// The orientations, each with the diagonal direction (dx, dy) that it turns to the lower right.
 const WAYS: [(Orientation, i32, i32); 8] = [
     (Orientation::Same, 1, 1),
     (Orientation::Quarter, 1, -1),

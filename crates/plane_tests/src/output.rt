@@ -1,5 +1,5 @@
-//! Tests of `Out`, which puts bytes into a writer and remembers a failure: with writers that fail, and with a writer
-//! that takes one byte per write.
+//! Tests of `Out`, which puts bytes into a writer and remembers a failure. The tests use writers that fail, and a
+//! writer that takes one byte per write.
 use memory::OutOfMemory;
 use plane_core::output::Out;
 use std::alloc::Global;
@@ -98,7 +98,7 @@ fn bytes(alloc: Global, count: u32) -> Result<Vec<u8>, OutOfMemory> {
     Ok(bytes)
 }
 
-// No clause says that `put` doesn't give up a piece after many writes.
+// The clauses of `put` would allow it to give up a piece after many writes.
 #[test]
 fn puts_a_piece_in_as_many_writes_as_it_takes(rt: HostRuntime) -> Result<(), Fail> {
     let piece = bytes(rt.alloc(), 20_000)?;

@@ -79,8 +79,8 @@ fn error_of_move(alloc: Global, dx: i32, dy: i32) -> Result<Option<PlaceError>, 
 /// or `None` if the row is turned. The first row has 1,000,001 columns, so its image ends at the bound of the plane.
 const TURNS: [(i32, Option<PlaceError>); 3] = [(500_000, None), (500_001, PAST), (1_000_000, PAST)];
 
-/// Returns the error of turning the row of two cells `far` to the left and to the right of column 0, or `None` if the
-/// row is turned.
+/// Returns the error of turning a row of two cells, which are in the columns -`far` and `far`, or `None` if the row is
+/// turned.
 fn error_of_turn(alloc: Global, far: i32) -> Result<Option<PlaceError>, FromCellsError> {
     let ends = [
         Cell {

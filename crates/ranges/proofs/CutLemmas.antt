@@ -1,4 +1,4 @@
--- A text of ranges can be cut in one way only: decimals end where their digits do.
+-- A text of ranges can be split into numbers in one way only: each number goes on as long as there are digits.
 use Rattle.std.proofs.Common.{◌≡◌, ◌≢◌, ◌<◌, ◌≤◌, ◌^◌, ◌++◌, ℕ, Bool, true, false, List, [], ◌∷◌, length, refl, sym, ◌∙◌, ap, arith, rules}
 use Rattle.std.proofs.Common.{append_assoc, append-nil, length-append}
 use Rattle.std.specs.Char.{is_ascii_digit}
@@ -49,8 +49,8 @@ cut_zero d e x y p q z s =
     let whole : 48 ∷ x ≡ 48 ∷ y = sym (ap (λ (t : List ℕ). t ++ x) f) ∙ s ∙ ap (λ (t : List ℕ). t ++ y) g in
     (f ∙ sym g, cc)
 
--- if a text begins with the decimals d and e, and neither continues in its remainder, d and e are equal, and so are
--- the remainders
+-- if a text is the decimal d followed by x, and also the decimal e followed by y, and neither decimal continues in
+-- what follows it, d and e are equal, and so are x and y
 pub cut : (d e x y : List ℕ) → IsDecimal d → IsDecimal e → Ends d x → Ends e y → d ++ x ≡ e ++ y → (d ≡ e) × (x ≡ y)
 cut d e x y p q h k s = go (has_digit x) (has_digit y) refl refl
   where
@@ -68,8 +68,8 @@ IsWritten-written r f c = (IsDecimal-decimal r.first f, IsDecimal-decimal r.coun
 pair-append : (w : Written) (x : List ℕ) → pair_text w ++ x ≡ w.first ++ 43 ∷ (w.count ++ x)
 pair-append w x = append_assoc w.first (43 ∷ w.count) x
 
--- if a text begins with the ranges w and v, and neither count continues in its remainder, w and v are equal, and so
--- are the remainders
+-- if a text is the range w followed by x, and also the range v followed by y, and neither count continues in what
+-- follows it, w and v are equal, and so are x and y
 pub cut_pair : (w v : Written) (x y : List ℕ) → IsWritten w → IsWritten v → Ends w.count x → Ends v.count y → pair_text w ++ x ≡ pair_text v ++ y
     → (w ≡ v) × (x ≡ y)
 cut_pair w v x y p q h k s =
@@ -79,7 +79,7 @@ cut_pair w v x y p q h k s =
     let count = cut w.count v.count x y p.1 q.1 h k remainder in
     (λ i. record { first = first.0 i; count = count.0 i }, count.1)
 
--- the text that follows the first range of a list, if these are the other ranges
+-- the text that follows the first range of a list, given the other ranges
 abbrev pub tail : List Written → List ℕ
 tail [] = []
 tail (w ∷ more) = 44 ∷ joined (w ∷ more)

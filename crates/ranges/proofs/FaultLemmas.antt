@@ -127,7 +127,8 @@ zero_first n z = ap (λ (m : ℕ). slice_index (decimal m) 0) z ∙ ap (λ (t : 
 ends_alike : (n : ℕ) (there x : List ℕ) → (has_digit there ≡ true → n ≡ 0) → head_of there ≡ head_of x → Ends (decimal n) x
 ends_alike n there x ends same = λ h. zero_first n (ends (same_digit there x same ∙ h))
 
--- if a range begins with the decimal of n, which doesn't continue in x, then x is a `+` (43) and the count
+-- if the text of a range and its tail is the decimal of n followed by x, and the decimal doesn't continue in x, then x
+-- is a `+` (43), the count, and the tail
 cut_first : (w : Written) (ws : List Written) (n : ℕ) (x : List ℕ) → IsWritten w → n < 2 ^ 64 → Ends (decimal n) x → pair_text w ++ tail ws ≡ decimal n ++ x
     → 43 ∷ (w.count ++ tail ws) ≡ x
 cut_first w ws n x each fits ends s =
@@ -137,13 +138,13 @@ has_byte-prefix : (c : ℕ) (x y : List ℕ) → c ∷ y ≡ x → has_byte c x
 has_byte-prefix c [] y h = absurd (cc)
 has_byte-prefix c (b ∷ x) y h = cc
 
--- if `there` doesn't begin with a `+` (43), and the decimal of n doesn't continue in it, no range continues like it
--- after the first number n
+-- if `there` doesn't begin with a `+` (43), and the decimal of n doesn't continue in `there`, no range continues like
+-- `there` after the first number n
 pub refused_plus : (n : ℕ) (there : List ℕ) → n < 2 ^ 64 → (has_digit there ≡ true → n ≡ 0) → ¬ has_byte 43 there → RefusedRange (decimal n) there
 refused_plus n there fits ends other = λ w ws each x same s.
     other (same_byte 43 there x same (has_byte-prefix 43 x (w.count ++ tail ws) (cut_first w ws n x each fits (ends_alike n there x ends same) s)))
 
--- if `there` doesn't begin with a digit, no range continues like it after its `+`
+-- if `there` doesn't begin with a digit, no range with the first number n continues like `there` after its `+`
 pub refused_count : (n : ℕ) (there : List ℕ) → n < 2 ^ 64 → has_digit there ≡ false → RefusedRange (decimal n ++ 43 ∷ []) there
 refused_count n there fits none = λ w ws each x same s.
     let t : 43 ∷ (w.count ++ tail ws) ≡ 43 ∷ x =
@@ -157,8 +158,8 @@ tail-byte : (ws : List Written) (x : List ℕ) → x ≢ [] → tail ws ≡ x �
 tail-byte [] x some h = absurd (some (sym h))
 tail-byte (w ∷ ws) x some h = has_byte-prefix 44 x (joined (w ∷ ws)) h
 
--- if `there` isn't empty and doesn't begin with a `,` (44), and the count of r doesn't continue in it, no list
--- continues like it after the range r
+-- if `there` isn't empty and doesn't begin with a `,` (44), and the count of r doesn't continue in `there`, no list
+-- continues like `there` after the range r
 pub refused_comma : (r : Range) (there : List ℕ) → FitsU64 r → (has_digit there ≡ true → r.count ≡ 0) → there ≢ [] → ¬ has_byte 44 there
     → RefusedRange (pair_text (written r)) there
 refused_comma r there fits ends some other = λ w ws each x same s.

@@ -1,4 +1,4 @@
--- The ranges of a text one after another, and the first fault.
+-- How the ranges of a text are read one after another, up to the end of the text or its first fault.
 use Rattle.std.proofs.Common.{◌≡◌, ◌≢◌, ◌+◌, ◌-◌, ◌++◌, ◌⊎◌, inl, inr, ℕ, Bool, true, false, List, [], ◌∷◌, Option, Some, None, length, map}
 use Rattle.std.proofs.Common.{decimal, refl, sym, ◌∙◌, ap, subst, arith, append_assoc, append-nil}
 use Rattle.std.proofs.lemmas.Fmt.{decimal_injective}
@@ -13,7 +13,7 @@ use Rattle.ranges.proofs.FaultLemmas.{Apart, FitsU64, Refused, bad, large_at, li
 use Rattle.ranges.proofs.FaultLemmas.{refused_count}
 use Rattle.ranges.proofs.FaultLemmas.{refused_first, refused_large, refused_large_count, refused_plus, written-all}
 
--- the texts of a list with the range r at its end: as a tail, joined, as a whole, and with a comma after each range
+-- what `tail`, `joined`, `list_text` and `ranges_and_commas` are for a list with the range r at its end
 tail-push : (rs : List Range) (r : Range) → tail (map written (rs ++ r ∷ [])) ≡ 44 ∷ joined (map written (rs ++ r ∷ []))
 tail-push [] r = refl
 tail-push (a ∷ rs) r = refl

@@ -46,7 +46,8 @@ end_out r rs h = go (is_in (r ∷ rs) (end_of r)) refl
             let m = after (end_of r) (end_of r) rs h.2 h.1 remainder in
             absurd (omega arith)
 
--- if r and s begin normal forms of equal sets, and begin at the same number, s ends no later than r
+-- if r and s are the first ranges of two normal forms of equal sets, and begin at the same number, s ends no later
+-- than r
 no_sooner : (r s : Range) (rs ss : List Range) → AreNormal (r ∷ rs) → AreNormal (s ∷ ss) → r.first ≡ s.first
     → ((n : ℕ) → is_in (r ∷ rs) n ≡ is_in (s ∷ ss) n) → end_of s ≤ end_of r
 no_sooner r s rs ss h k e same = go (cases_lt (end_of r) (end_of s))

@@ -54,7 +54,7 @@ met r (x ∷ xs) h = elim (cases_Bool (shares r x)) [
       (more.0, more.1, omega (arith, more.2, sum_by-cons (λ y. cond {A = ℕ} (is_in_range more.0 y) 1 0) x xs))
 ]
 
--- if r passes the test `shares` with none of the ranges rs, no number of r is in one of them
+-- if r passes the test `shares` with none of the ranges rs, no number of r is in any of them
 pub unmet : (n : ℕ) (r : Range) (rs : List Range) → list_any (shares r) rs ≡ false → is_in_range n r ≡ true → count_by (is_in_range n) rs ≡ 0
 unmet n r [] h is = refl
 unmet n r (x ∷ xs) h is = elim (cases_Bool (is_in_range n x)) [
@@ -79,7 +79,7 @@ unmet_more ranges i d low h before n = elim (cases_Bool (is_in_range n (get_or r
 
 -- ---- normal form
 
--- the ranges joined so far, the latest range, which may still grow, and the ranges to come
+-- the state of the loop that joins ranges: `done` is finished, `latest` may still grow, and `remainder` is to come
 pub record Joining (all done : List Range) (latest : Range) (remainder : List Range) : Type 0 where
   pub normal : AreNormal (done ++ latest ∷ [])
   pub ascending : Ascending (latest ∷ remainder)

@@ -48,7 +48,7 @@ count-append n (r ∷ a) b = go (is_in_range n r) refl (count-append n a b)
     go true e remainder = let c = count_hit (is_in_range n) r (a ++ b) e in let d = count_hit (is_in_range n) r a e in omega arith
     go false e remainder = let c = count_miss (is_in_range n) r (a ++ b) e in let d = count_miss (is_in_range n) r a e in omega arith
 
--- two sets in normal form that share no number don't overlap
+-- if two sets in normal form share no number, the ranges of both sets together don't overlap
 pub apart_sets : (a b : List Range) → AreNormal a → AreNormal b → ¬ ShareNumber a b → ¬ Overlap (a ++ b)
 apart_sets a b h k apart o =
     let n = o.0 in
@@ -81,7 +81,7 @@ counted_in n (r ∷ rs) h = go (is_in_range n r) refl (counted_in n rs)
         let more = remainder there in
         omega arith
 
--- if neither the first i ranges of b nor range i shares a number with a, the first i + 1 ranges of b don't
+-- if the first i ranges of b share no number with a, and range i of b shares none, the first i + 1 ranges share none
 pub apart_more : (d : Range) (a b : List Range) (i : ℕ) → i < length b → ¬ ShareNumber a (take i b) → list_any (shares (get_or b i d)) a ≡ false
     → ¬ ShareNumber a (take (i + 1) b)
 apart_more d a b i low apart none s = go (is_in_range s.number (get_or b i d)) refl

@@ -11,7 +11,7 @@ pub record BeginsList (text : List ℕ) : Type 0 where
   pub remainder : List ℕ
   pub whole : IsListText (text ++ remainder)
 
--- a decimal of any size: digits, the first of which is `0` (48) only if it is the only one
+-- a decimal of any size: one or more digits; if the first digit is `0` (48), there is no other
 pub record IsDecimal (text : List ℕ) : Type 0 where
   pub digits : all_ascii_digits text ≡ true
   pub some : 1 ≤ length text
@@ -32,8 +32,8 @@ pub record BeginsLargeDecimal (text : List ℕ) : Type 0 where
   pub large : 2 ^ 64 ≤ digits_value 10 number
   pub spelled : text ≡ number ++ remainder
 
--- The text before the place is the beginning of a list. With the byte at the place, it no longer is, even if numbers of
--- any size are allowed; or the text ends at the place, and isn't a list.
+-- The text before the place is the beginning of a list. If a byte follows, the text with that byte isn't the beginning
+-- of a list, even if numbers of any size are allowed. If the text ends at the place, it isn't a list.
 pub record IsBadListByte (text : List ℕ) (place : ℕ) : Type 0 where
   pub within : place ≤ length text
   pub before : BeginsList (take place text)

@@ -57,12 +57,12 @@ pub record LacksComma (text remainder : List ℕ) : Type 0 where
   pub some : remainder ≢ []
   pub other : ¬ has_byte 44 remainder
 
--- the first range begins where the text begins; an empty text has none
+-- before the first range is read, the remainder is the whole text, or `None` if the text is empty
 abbrev pub Starts : List ℕ → Option (List ℕ) → Type 0
 Starts text None = text ≡ []
 Starts text (Some remainder) = (remainder ≡ text) × (remainder ≢ [])
 
--- the text begins with this range; either the text ends there, or a `,` (44) and the next range follow
+-- the text begins with this range; then the text ends (`None`), or a `,` (44) and the remainder follow
 abbrev pub Passes : List ℕ → Range → Option (List ℕ) → Type 0
 Passes text r None = BeginsRange text r []
 Passes text r (Some remainder) = BeginsRange text r (44 ∷ remainder)

@@ -12,7 +12,7 @@ pub record Written : Type 0 where
 abbrev pub pair_text : Written → List ℕ
 pair_text w = w.first ++ 43 ∷ w.count
 
--- ranges with a `,` (44) between each two; the empty text has no range
+-- ranges with a `,` (44) between each two; without a range, the text is empty
 abbrev pub joined : List Written → List ℕ
 joined [] = []
 joined (w ∷ []) = pair_text w
@@ -30,7 +30,7 @@ list_text ranges = joined (map written ranges)
 abbrev pub FitU64 : List Range → Type 0
 FitU64 ranges = All (λ r. (r.first < 2 ^ 64) × (r.count < 2 ^ 64)) ranges
 
--- the text is that of some list of ranges, whose numbers are below 2^64
+-- the text is the text of some list of ranges whose numbers are below 2^64
 pub record IsListText (text : List ℕ) : Type 0 where
   pub ranges : List Range
   pub fit : FitU64 ranges

@@ -142,7 +142,7 @@ impl Ranges {
         Ranges::normal_form(alloc, both.as_slice())
     }
 
-    /// Checks whether a number is in both sets.
+    /// Checks whether the two sets have a number in common.
     pub fn share_number(&self, other: &Ranges) -> bool
         ensures { IsTrue result ↔ ShareNumber self.now other.now }
     {
@@ -241,7 +241,7 @@ fn joined(alloc: Global, ascending: &[Range]) -> Result<Vec<Range>, OutOfMemory>
     Ok(joined)
 }
 
-/// Checks whether a number is in two of the ranges.
+/// Checks whether two of the ranges have a number in common.
 pub fn overlap(ranges: &[Range]) -> bool
     requires { AreBelow number_bound ranges.now }
     ensures { IsTrue result ↔ Overlap ranges.now }

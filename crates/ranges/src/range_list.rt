@@ -125,7 +125,7 @@ fn ranges_in(alloc: Global, text: &[u8]) -> Result<Vec<Range>, OutOfMemory>
     Ok(ranges)
 }
 
-/// Returns the text, which has to begin with a range, or `None` if the text is empty, so that there is no range.
+/// Returns `None` if the text is empty, so that there is no range to read, and the text itself otherwise.
 fn unless_empty(text: &[u8]) -> Option<&[u8]>
     ensures { Starts text.now (option_map (λ remainder. remainder.now) result) }
 {
@@ -178,8 +178,8 @@ pub fn first_decimal(text: &[u8]) -> Option<(u64, &[u8])>
     more_digits(digit, remainder)
 }
 
-/// Reads the rest of a decimal whose first digit, which isn't 0, has been read: the digits at the beginning of `text`.
-/// Returns the whole number and the text after its digits, or `None` if the number is 2^64 or more.
+/// Reads the rest of a decimal: the digits at the beginning of `text`. The decimal's first digit, which isn't 0, has
+/// been read before. Returns the whole number and the text after its digits, or `None` if the number is 2^64 or more.
 #[tactic(auto, using(crate::proofs::DecimalLemmas::reading_first, crate::proofs::DecimalLemmas::reading_done))]
 fn more_digits(first: u8, text: &[u8]) -> Option<(u64, &[u8])>
     requires least { 1 ≤ first }

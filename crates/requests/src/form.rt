@@ -14,6 +14,6 @@ pub enum PatternForm {
 pub enum RunForm {
     /// The pattern after the last generation.
     Pattern(PatternForm),
-    /// The size of each generation from `from` on.
+    /// The population and the bounding box of each generation from `from` on.
     Sizes { from: u32 },
 }

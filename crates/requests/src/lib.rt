@@ -1,6 +1,7 @@
 //! What a call of `census` asks for, as plain values: texts, the numbers of a profile, sets of soups, plans.
 //!
-//! `arguments` reads these values from a call, and the commands take them, so neither crate needs the other.
+//! The crate `arguments` reads these values from a call, and the crates of the commands take them, so `arguments` and
+//! those crates don't need each other.
 #![tactic(auto)]
 
 /// The forms in which patterns are printed.

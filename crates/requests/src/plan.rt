@@ -35,9 +35,10 @@ pub struct SoupSet<'a> {
 /// The four numbers of a profile: when a pattern counts as settled.
 #[derive(Clone, Copy, Debug, PartialEq, Eq)]
 pub struct ProfileNumbers {
-    /// The longest period that counts, in generations: 1 to 64.
+    /// The longest period that a cluster of a settled pattern may have, in generations: 1 to 64.
     pub period: u32,
-    /// For how many generations clusters must keep apart: at most 4,096. It hasn't been compared with `period` yet.
+    /// For how many generations clusters must keep apart: at most 4,096. The horizon must be at least `period`, but
+    /// this hasn't been checked yet.
     pub horizon: u32,
     /// The number of generations between two checkpoints: 1 to 10,000.
     pub stride: u32,

@@ -1,4 +1,4 @@
--- A law of findings.
+-- The law that a pattern has at most one finding.
 use Rattle.std.specs.Prelude.{◌≡◌, List}
 use Rattle.plane_core.specs.declared.plane.cell.Cell.{Cell}
 use Rattle.plane_core.specs.plane.Rules.{Numbers}

@@ -33,14 +33,14 @@ abbrev pub SettlesAt : Numbers → Settling → List Cell → ℕ → Finding �
 SettlesAt rule profile cells t (Settled u objects for_good) = (u ≡ t) × IsSettled rule profile cells objects for_good
 SettlesAt rule profile cells t Unsettled = ⊥
 
--- The finding of a pattern: the first checkpoint at which it is at rest, with its objects then, or that there is no
--- such checkpoint.
+-- The finding of a pattern: `Settled`, with the first checkpoint at which it is at rest and its objects then, or
+-- `Unsettled`, if there is no such checkpoint.
 abbrev pub IsFinding : Numbers → Settling → List Cell → Finding → Type 0
 IsFinding rule profile cells (Settled t objects for_good) =
     IsCheckpoint profile t × NoRestBefore rule profile cells t × IsSettled rule profile (after rule cells t) objects for_good
 IsFinding rule profile cells Unsettled = (u : ℕ) → IsCheckpoint profile u → ¬ IsAtRest rule profile (after rule cells u)
 
--- what a survey returns: the finding of the pattern, which has fewer than 2^64 objects
+-- what a survey returns: the pattern's finding, with fewer than 2^64 objects
 pub record IsSurvey (rule : Numbers) (profile : Settling) (cells : List Cell) (found : Finding) : Type 0 where
   pub finding : IsFinding rule profile cells found
   pub few : objects_in found < 2 ^ 64

@@ -1,11 +1,11 @@
--- Profiles: when a pattern counts as settled, in four numbers.
+-- Profiles: the four numbers that say when a pattern counts as settled.
 use Rattle.std.specs.Prelude.{◌≡◌, ◌*◌, ◌≤◌, ◌&&◌, ℕ, Bool, not, Result, Ok, Err, nat_le, if◌then◌else◌}
 use Rattle.survey_core.specs.declared.profile.ProfileError.{ProfileError}
 use Rattle.survey_core.specs.declared.profile.ProfileError.TheVariants as error
 
 -- the numbers of a profile, in generations
 pub record Settling : Type 0 where
-  -- the longest period that counts
+  -- the longest period that a cluster of a settled pattern may have
   pub period : ℕ
   -- how far the test of rest looks ahead
   pub horizon : ℕ
@@ -28,7 +28,7 @@ pub record IsProfile (profile : Settling) : Type 0 where
 abbrev pub is_from_to : ℕ → ℕ → ℕ → Bool
 is_from_to least most n = nat_le least n && nat_le n most
 
--- the profile with these four numbers, or an error that names the first of them outside its range
+-- the profile with these four numbers, or an error that names the first number that is outside its range
 abbrev pub profile_of : Settling → Result Settling ProfileError
 profile_of p =
     if not (is_from_to 1 64 p.period) then Err error.Period

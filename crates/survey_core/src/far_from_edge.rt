@@ -1,5 +1,5 @@
-//! The next and later generations of patterns that are so far from the edge of the plane that only a lack of memory can
-//! make a step fail.
+//! Patterns that are far from the edge of the plane. Making such a pattern, or advancing it, fails only if memory runs
+//! out.
 ghost use Rattle.std.specs.Prelude.{◌≡◌, ◌≤◌, ◌↔◌, IfOk, IsTrue, true};
 ghost use Rattle.plane_core.specs.plane.Cells.{set_of};
 ghost use Rattle.plane_core.specs.plane.Generations.{after, lies_within, next};

@@ -1,6 +1,6 @@
 //! Soups, and what becomes of a pattern: when it is at rest, and which objects are left then.
 //!
-//! Each of these modules uses only those below it:
+//! Each of these modules uses only those below it, except that `surveyor` returns the `Finding` of `finding`:
 //!
 //! ```text
 //! finding        what becomes of a soup
@@ -8,7 +8,7 @@
 //! evolution      a pattern between two checkpoints, as a list or on a board without its escaped spaceships
 //! rest           whether a pattern is at rest
 //! shapes         what is known of a cluster: how it recurs, its envelope, its apgcode
-//! far_from_edge  patterns far from the edge of the plane, where no step fails
+//! far_from_edge  patterns far from the edge of the plane, where a step fails only if memory runs out
 //! ```
 #![tactic(auto)]
 

@@ -9,11 +9,11 @@ use thiserror::Error;
 /// Why four numbers are not a profile.
 #[derive(Clone, Copy, PartialEq, Eq, Error)]
 pub enum ProfileError {
-    /// The period is not from 1 to 64.
+    /// The period is 0, or over 64.
     Period,
-    /// The horizon is not from the period to 4,096.
+    /// The horizon is less than the period, or over 4,096.
     Horizon,
-    /// The stride is not from 1 to 10,000.
+    /// The stride is 0, or over 10,000.
     Stride,
     /// The limit is over 100,000.
     Limit,
@@ -40,7 +40,7 @@ impl fmt::Debug for ProfileError {
 /// When a pattern counts as settled, in four numbers of generations.
 ///
 /// The checkpoints of a pattern are the generations 0, `stride`, twice `stride` and so on, up to `limit`. The pattern
-/// has settled at the first of them at which each of its clusters recurs within `period` generations, and none of them
+/// settles at the first checkpoint at which each of its clusters recurs within `period` generations, and no cluster
 /// influences another for `horizon` generations.
 #[derive(Clone, Copy, Debug, PartialEq, Eq)]
 pub struct Profile {
@@ -70,9 +70,9 @@ impl Profile {
     ///
     /// The first of these that holds:
     ///
-    /// - [`ProfileError::Period`] if the period is not from 1 to 64.
-    /// - [`ProfileError::Horizon`] if the horizon is not from the period to 4,096.
-    /// - [`ProfileError::Stride`] if the stride is not from 1 to 10,000.
+    /// - [`ProfileError::Period`] if the period is 0, or over 64.
+    /// - [`ProfileError::Horizon`] if the horizon is less than the period, or over 4,096.
+    /// - [`ProfileError::Stride`] if the stride is 0, or over 10,000.
     /// - [`ProfileError::Limit`] if the limit is over 100,000.
     pub fn new(period: u32, horizon: u32, stride: u32, limit: u32) -> Result<Profile, ProfileError>
         ensures { result ≡ profile_of (record { period = period; horizon = horizon; stride = stride; limit = limit }) }
@@ -109,7 +109,7 @@ impl Profile {
         }
     }
 
-    /// Returns the longest period that counts, in generations, 1 to 64.
+    /// Returns the longest period that a cluster of a settled pattern may have, in generations: 1 to 64.
     pub fn period(&self) -> u32
         ensures period { result ≡ self.now.period }
         ensures profile { IsProfile self.now }

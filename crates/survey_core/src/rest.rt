@@ -72,8 +72,8 @@ pub(crate) fn clusters_at_rest(
     Ok(apart.then_some(clusters))
 }
 
-/// Checks whether the clusters of each group keep apart. In each generation up to the horizon, the clusters of a group,
-/// each run alone, must share no cell and make up what their union becomes.
+/// Checks whether the clusters of each group keep apart: in each generation up to the horizon, the clusters of a group,
+/// each run alone, share no cell, and together they are the same as their union, run as one pattern.
 fn groups_keep_apart(
     alloc: Global,
     rule: &Rule,
@@ -103,8 +103,8 @@ fn groups_keep_apart(
     Ok(true)
 }
 
-/// Returns the number of clusters in the group with this number. The loop has no branch that depends on a group, so the
-/// compiler can compare several groups at once.
+/// Returns how many clusters the group with this number has. The loop has no branch that depends on a group number, so
+/// the compiler can compare several group numbers at once.
 fn count_of(groups: &[usize], number: usize) -> usize
     ensures { result ≡ length (filter (λ group. group == number) groups.now) }
 {
@@ -142,8 +142,8 @@ fn members(
     Ok(members)
 }
 
-/// Checks whether the clusters keep apart. In each generation up to the horizon, the clusters, each run alone, must
-/// share no cell and make up what their union becomes.
+/// Checks whether the clusters keep apart: in each generation up to the horizon, the clusters, each run alone, share no
+/// cell, and together they are the same as their union, run as one pattern.
 fn keep_apart(
     alloc: Global,
     rule: &Rule,
@@ -172,8 +172,8 @@ fn keep_apart(
     Ok(true)
 }
 
-/// Advances each of the clusters by one generation. Returns whether they then share no cell and make up what their
-/// union becomes.
+/// Advances each of the clusters by one generation. Returns whether they then share no cell, and together are the same
+/// as their old union, advanced by one generation.
 fn step_apart(alloc: Global, rule: &Rule, clusters: &mut [Alone]) -> Result<bool, OutOfMemory>
     requires first { All (λ alone. alone.first ≡ next rule.now alone.cluster) clusters.old }
     requires near { All (λ alone. lies_within 999999 alone.latest ≡ true) clusters.old }
@@ -202,8 +202,8 @@ fn step_apart(alloc: Global, rule: &Rule, clusters: &mut [Alone]) -> Result<bool
     Ok(same)
 }
 
-/// The laws of parts. Parts of a pattern that stay more than two cells apart evolve together as they do alone. If only
-/// parts of different groups stay more than two cells apart, each group may be tested by itself.
+/// The laws of parts. Parts of a pattern that stay more than two cells apart evolve together as they do alone. If parts
+/// of different groups stay more than two cells apart, each group can be tested by itself.
 pub fn far_parts_run_alone()
     ensures parts { PartsRunAlone }
     ensures groups { GroupsRunAlone }

@@ -50,7 +50,7 @@ impl Surveyor {
         }
     }
 
-    /// Returns a surveyor for a single soup, which has no memo and so remembers no shape. Making it takes no memory.
+    /// Returns a surveyor without a memo, for a single soup. It remembers no shape, and making it takes no memory.
     pub fn without_memo(alloc: Global) -> Surveyor {
         Surveyor {
             memo: Memo::without_room(alloc),

@@ -1,8 +1,8 @@
 //! Tests of numbers that aren't a profile.
 use survey_core::profile::{Profile, ProfileError};
 
-/// Rows of a period, a horizon, a stride and a limit that aren't a profile, and the error. The error is about the first
-/// of the four numbers that is out of its range.
+/// Each row has a period, a horizon, a stride and a limit that aren't a profile, and the error. The error is about the
+/// first of the four numbers that is out of its range.
 const REFUSED: [(u32, u32, u32, u32, ProfileError); 10] = [
     (0, 0, 0, 0, ProfileError::Period),
     (65, 512, 101, 0, ProfileError::Period),

@@ -20,6 +20,6 @@ pub struct Census {
     pub for_good: u64,
     /// The number of objects that the taken soups left: the sum of all totals.
     pub objects: u128,
-    /// A row for each code of these objects.
+    /// A row for each code that an object of the taken soups has.
     pub rows: Rows,
 }

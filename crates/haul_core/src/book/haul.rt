@@ -69,7 +69,7 @@ impl fmt::Debug for AlreadyClosed {
 pub enum OpenError {
     /// The number of workers isn't from 1 to 16.
     BadWorkers,
-    /// A range ends past 2^40, or the ranges have more than 2^24 numbers together.
+    /// A range ends past 2^40, or the counts of the ranges add up to more than 2^24.
     BadRange,
     /// Two ranges share a number.
     Overlap,
@@ -169,7 +169,7 @@ impl Haul {
     /// The first of these that holds:
     ///
     /// - [`OpenError::BadWorkers`] if the number of workers isn't from 1 to 16.
-    /// - [`OpenError::BadRange`] if a range ends past 2^40, or the ranges have more than 2^24 numbers together.
+    /// - [`OpenError::BadRange`] if a range ends past 2^40, or the counts of the ranges add up to more than 2^24.
     /// - [`OpenError::Overlap`] if two ranges share a number.
     /// - [`OpenError::Memory`] if memory runs out.
     ///
@@ -348,8 +348,8 @@ impl Haul {
 
     /// Returns the census of the soups that were taken, whether the haul is open or closed.
     ///
-    /// A haul from [`open`](Self::open) has at most 2^24 soups, so it has fewer than 2^88 objects. A haul from
-    /// [`join`](Self::join) has at most 2^40 soups, so it has fewer than 2^104 objects.
+    /// A soup has fewer than 2^64 objects. A haul from [`open`](Self::open) has at most 2^24 soups, so it has fewer
+    /// than 2^88 objects. A haul from [`join`](Self::join) has at most 2^40 soups, so it has fewer than 2^104 objects.
     ///
     /// # Errors
     ///

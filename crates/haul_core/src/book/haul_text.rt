@@ -22,8 +22,8 @@ use survey_core::profile::Profile;
 /// Writes the haul text of a census: the job, the set of soup numbers, the sums, and two lines for each code, one with
 /// its total and one with its samples. No earlier write to the `Out` may have failed.
 ///
-/// This takes no memory. Each name and number is a write, so the writer should be buffered, for example by a
-/// `BufWriter`.
+/// This takes no memory. Each name and each number is a write of its own, so the writer should be buffered, for example
+/// by a `BufWriter`.
 ///
 /// # Errors
 ///
@@ -88,7 +88,7 @@ fn put_range<W: Write>(out: &mut Out<W>, range: &Range) -> Result<(), WriteError
     put_line(out, b"@RANGE", &[range.first, range.count])
 }
 
-/// Writes the sums: the numbers of soups, of unsettled soups, of soups whose objects stay for good, and of objects.
+/// Writes the sums: how many soups, unsettled soups, soups whose objects stay for good, and objects there are.
 fn put_sums<W: Write>(out: &mut Out<W>, census: &Census) -> Result<(), WriteError>
     requires { out.old.failed ≡ false }
     ensures { Writes W.contents out.old out.new result (text_of (sum_lines census.now)) }

@@ -20,8 +20,8 @@ use std::alloc::Global;
 ///
 /// # Errors
 ///
-/// [`OutOfMemory`] if memory runs out. If there is no memory for the replies, nothing has arrived at the haul. If
-/// memory runs out at an offer that the book takes, the arrivals before it have arrived, and no others.
+/// [`OutOfMemory`] if memory runs out. If there is no memory for the replies, the haul has received none of the
+/// arrivals. If memory runs out at an offer that the book takes, the haul has received only the arrivals before it.
 pub fn keep_book(
     alloc: Global,
     haul: &mut Haul,

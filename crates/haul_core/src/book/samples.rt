@@ -11,7 +11,7 @@ ghost use Rattle.haul_core.specs.Samples.{IsAscending, LeastThreeAreDetermined};
 
 use std::marker::Model;
 
-/// The most samples of a code: enough to look at more than one soup.
+/// The most samples that a code may have. With three, a user can look at more than one soup.
 pub const MOST_SAMPLES: usize = 3;
 
 /// The three lowest numbers of soups that left an object, ascending, or all numbers if there are fewer.

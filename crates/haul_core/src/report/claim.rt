@@ -11,8 +11,8 @@ use survey_core::job::Job;
 pub mod check;
 /// The codes of claims.
 pub mod claimed_code;
-/// Reading the fields of lines.
 mod read_field;
+/// Reading report lines.
 pub mod read_line;
 mod read_start;
 

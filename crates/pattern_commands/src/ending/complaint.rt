@@ -30,7 +30,7 @@ pub enum Complaint {
     ReadFailed(ReadError),
     /// The input is longer than the command may read. This is reported as a failed read.
     TooLong,
-    /// A write to standard output failed.
+    /// A write to standard output failed, or a write of diagnostics or report lines to standard error.
     WriteFailed(WriteError),
 }
 

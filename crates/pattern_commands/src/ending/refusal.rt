@@ -11,7 +11,7 @@ use std::io::Write;
 /// Why a text was refused: it doesn't have the required form, goes past a limit, or has parts that don't fit together.
 #[derive(Clone, Copy)]
 pub enum Refusal {
-    /// A byte of a plaintext pattern that isn't allowed there. Lines and columns count from 1.
+    /// A byte of a plaintext pattern, at `line` and `column`, that isn't allowed there. Both count from 1.
     BadByte { line: usize, column: usize },
     /// A plaintext pattern with more than 1,000 columns or rows.
     PatternTooLarge,

@@ -23,7 +23,7 @@ use plane_core::plane::pattern::{FromCellsError, Pattern};
 use plane_core::plane::rule::Rule;
 use std::alloc::Global;
 
-/// Makes a board for each part of a pattern, with room for `generations` generations. Returns `None` if
+/// Makes a board for each part of a pattern, usually with room for `generations` generations. Returns `None` if
 /// [`Board::around`] makes no board for some part.
 pub(crate) fn boards_for(
     alloc: Global,

@@ -40,8 +40,8 @@ pub(crate) fn put_stretch<W: Write>(
     put_board_sizes(alloc, boards.as_mut_slice(), generation, most, output)
 }
 
-/// Advances boards that together show generation `generation` of a pattern, one generation at a time, and writes the
-/// line of each new generation. Returns the number of lines, which is at most `most`.
+/// Advances the boards one generation at a time, and writes the line of each new generation. At first, the boards
+/// together show generation `generation` of a pattern. Returns the number of lines, which is at most `most`.
 fn put_board_sizes<W: Write>(
     alloc: Global,
     boards: &mut [Board],

@@ -97,8 +97,8 @@ AnswersNeighbours rule up beside down now next =
     (j i : ℕ) → j < 4 → i < 64
     → bit_of next j i ≡ one_if (lives_by rule (sum_of up j i + (sum_of beside j i + bit_of now j i) + sum_of down j i) (bit_of now j i == 1))
 
--- if each cell outside all inner parts is unchanged after `count` generations, the new board shows the pattern of that
--- generation
+-- if each cell outside the inner parts of all windows is unchanged after `count` generations, the new board shows the
+-- pattern of that generation
 abbrev pub HasLeapt : Frame → Numbers → ℕ → List LeapWindow → List ℕ → List ℕ → Type 0
 HasLeapt at rule count places old new = (cells : List Cell) → InOrder cells → Shows at old cells
     → ((c : Cell) → ¬ IsCovered places c → has (after rule cells count) c ≡ has cells c) → Shows at new (after rule cells count)
@@ -141,12 +141,12 @@ abbrev pub IsReadAt : Frame → List ℕ → ℕ → ℕ → ℕ → List (List 
 IsReadAt at words x y n window =
     (r i : ℕ) → r < 4 * n → i < 64 → bit_at (row_at n window r) i ≡ bit_on at words (x + i) (y + r)
 
--- a cluster of the pattern; the rows of the flood show exactly its cells
+-- `cluster` is a cluster of the pattern, and the rows of the flood show exactly the cells of this cluster
 pub record IsAlone (left top : ℤ) (flood : List ℕ) (cells cluster : List Cell) : Type 0 where
   pub is : IsCluster cells cluster
   pub held : FillsRows left top flood cluster
 
--- for each pattern that the window shows at this depth, the flood is one of its clusters
+-- if the window shows a pattern at least `depth` inside its border, the flood shows one of the pattern's clusters
 abbrev pub FloodsCluster : List (List ℕ) → List ℕ → ℕ → Type 0
 FloodsCluster window flood depth =
     (cells : List Cell) (left top : ℤ) → InOrder cells → IsShownInside 16 left top depth window cells

@@ -55,7 +55,7 @@ pub record NeedsJoin (cells : List Cell) (k place : ℕ) : Type 0 where
   pub near : king_distance (cell_of cells k) (cell_of cells place) ≤ 2
   pub alone : ¬ IsBridged cells k place
 
--- if the cell at an earlier place is near the cell at `place`, in a higher row and left of `column`, it is bridged
+-- if an earlier cell is near the cell at `place`, in a row above it, and left of `column`, the two are bridged
 abbrev pub IsFresh : List Cell → ℤ → ℕ → Type 0
 IsFresh cells column place = (k : ℕ) → k < place → (cell_of cells k).y <ℤ (cell_of cells place).y → (cell_of cells k).x <ℤ column
     → king_distance (cell_of cells k) (cell_of cells place) ≤ 2 → IsBridged cells k place
@@ -69,7 +69,7 @@ pub record IsRow (cells : List Cell) (row : RowPlaces) (place : ℕ) (from : Cel
   pub level : (k : ℕ) → row.from ≤ k → k < row.end → (cell_of cells k).y ≡ from.y
   pub later : (k : ℕ) → row.end ≤ k → k < place → from.y <ℤ (cell_of cells k).y
 
--- the two rows above the cell at `place`, each from the first column that is near the cell
+-- the two rows above the cell at `place`; they omit only cells that are too far to the left to be near this cell
 pub record AreRowsAbove (cells : List Cell) (rows : RowsAbove) (place : ℕ) : Type 0 where
   pub few : rows.begin ≤ place
   pub begun : (k : ℕ) → k < rows.begin → (cell_of cells k).y <ℤ ((cell_of cells place).y +ℤ negsuc 1)

@@ -55,10 +55,10 @@ pub record HasBits (word : ℕ) (span : BitSpan) : Type 0 where
   pub order : span.first ≤ span.last
   pub high : span.last < 64
 
--- each inner cell of the window in which the two patterns differ is in the box; without a box, there is no such cell
+-- if the two patterns differ in an inner cell of the window, a box was found, and the cell is in the box
 abbrev pub HoldsDifference : LeapWindow → List Cell → List Cell → Option Bounds → Type 0
 HoldsDifference p one other found = (c : Cell) → IsInnerCell p c → has one c ≢ has other c → IsSomeAnd found (λ b. IsWithin b c)
 
--- each cell of an inner part in which the two patterns differ is in one of the boxes
+-- if the two patterns differ in a cell of a window's inner part, the cell is in one of the boxes
 abbrev pub HoldDifferences : List LeapWindow → List Cell → List Cell → List Bounds → Type 0
 HoldDifferences places one other boxes = (c : Cell) → IsCovered places c → has one c ≢ has other c → IsInOne boxes c

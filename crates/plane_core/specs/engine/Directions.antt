@@ -36,8 +36,8 @@ abbrev pub outer_column : Bool → ℕ
 outer_column true = 63
 outer_column false = 0
 
--- the row that is `step` rows inwards from the outermost row of the span; that is the last row if rows count downwards,
--- otherwise the first
+-- the row that is `step` rows inwards from the outermost row of the span; the outermost row is the last row if rows
+-- count downwards, otherwise the first
 abbrev pub inner_row : Bool → RowSpan → ℕ → ℕ
 inner_row true rows step = rows.end - (step + 1)
 inner_row false rows step = rows.from + step
@@ -46,8 +46,8 @@ inner_row false rows step = rows.from + step
 abbrev pub NoDeeperRow : Frame → Direction → ℕ → ℕ → Option ℤ → Type 0
 NoDeeperRow at way word_column row found = (i : ℕ) → i < 64 → IsReached found (depth_in way (board_cell at word_column row i))
 
--- A cell of this word column, alive or dead, isn't deeper than what was found if its row is in the span and is `first`
--- or more rows inwards from the outermost row.
+-- If a row is in the span and is `first` or more rows inwards from the outermost row, no cell in this row of the word
+-- column, alive or dead, is deeper than what was found.
 abbrev pub NoDeeper : Frame → Direction → ℕ → RowSpan → ℕ → Option ℤ → Type 0
 NoDeeper at way word_column rows first found =
     (step : ℕ) → first ≤ step → step < rows.end - rows.from → NoDeeperRow at way word_column (inner_row way.down rows step) found

@@ -1,4 +1,4 @@
--- Windows on the plane, and which of their cells are right after up to four generations.
+-- Windows on the plane, and which of their cells are still correct after up to four generations.
 use Rattle.std.specs.Prelude.{◌≡◌, ◌==◌, ◌+◌, ◌-◌, ◌/◌, ◌%◌, ◌<◌, ◌≤◌, ℕ, ◌+ℤ◌, ◌<ℤ◌, ◌≤ℤ◌, pos, List, [], Any, if◌then◌else◌}
 use Rattle.std.specs.Int.{bit_at}
 use Rattle.plane_core.specs.declared.engine.difference_box.DifferenceMask.{DifferenceMask}

@@ -21,20 +21,20 @@ abbrev pub ShowsInner : LeapWindow → List ℕ → List Cell → Type 0
 ShowsInner p rows cells = (r i : ℕ) → 4 ≤ r → r + 4 < p.rows → 4 ≤ i → i < 60
     → has cells (cell_at (p.left +ℤ pos i) (p.top +ℤ pos r)) ≡ (bit_at (slice_index rows r) i == 1)
 
--- A window of n vectors was run for `count` generations. The new window is right in all cells at least four inside its
--- border, and the change marks where the last generation differs from the pattern that it is compared with.
+-- A window of n vectors was run for `count` generations. In the new window, all cells at least four inside the border
+-- are correct. The change marks where the last generation differs from the pattern that it is compared with.
 abbrev pub IsRun : ℕ → Numbers → ℕ → List (List ℕ) → List (List ℕ) → DifferenceMask → Type 0
 IsRun n rule count x y change = (p : LeapWindow) (cells : List Cell) → p.rows ≡ 4 * n → InOrder cells → IsShownInside n p.left p.top 0 x cells
     → IsShownInside n p.left p.top 4 y (after rule cells count) × MarksDifferences p (after rule cells count) (compared_with rule cells count) change
 
--- a window of the board was run: its inner part is that of the board `count` generations later, and the change marks
--- where the last generation differs from the pattern that it is compared with
+-- a window of the board was run: its inner part shows the board `count` generations later, and the change marks where
+-- the last generation differs from the pattern that it is compared with
 abbrev pub IsRunAt : Frame → List ℕ → Numbers → ℕ → LeapWindow → List ℕ → DifferenceMask → Type 0
 IsRunAt at words rule count p rows change = (cells : List Cell) → InOrder cells → Shows at words cells
     → ShowsInner p rows (after rule cells count) × MarksDifferences p (after rule cells count) (compared_with rule cells count) change
 
--- Each window was run. If a cell of an inner part differs between the last generation and the pattern that it is
--- compared with, the cell is in one of the boxes.
+-- Each window was run. If the last generation and the pattern that it is compared with differ in a cell of an inner
+-- part, the cell is in one of the boxes.
 pub record AreRun (at : Frame) (words : List ℕ) (rule : Numbers) (count : ℕ) (places : List LeapWindow) (held : List (List ℕ))
     (boxes : List Bounds) : Type 0 where
   pub long : length places ≤ length held

@@ -1,5 +1,5 @@
--- How the next generation of a board is listed, window by window. Column u and row v of a board count from its first
--- column and row.
+-- How the next generation of a board is made in windows, and its cells are listed. Column u and row v of a board count
+-- from its first column and row.
 use Rattle.std.specs.Prelude.{◌≡◌, ◌==◌, ◌+◌, ◌/◌, ◌<◌, ◌≤◌, ℕ, ◌+ℤ◌, ◌<ℤ◌, pos, All, Any, List, slice_index, true}
 use Rattle.std.specs.Int.{bit_at}
 use Rattle.plane_core.specs.declared.engine.frame.Frame.{Frame}
@@ -29,14 +29,14 @@ pub record IsNextWindowOf (at : Frame) (y : ℕ) (cells : List Cell) (window : N
   pub word_columns : window.x / 64 + 1 < at.word_columns
   pub shown : ShowsInnerRows at window.x y window.rows cells
 
--- the windows show the band of 32 rows that begins 4 below row y: each live cell of the band in the columns from `from`
--- to before `end` is in an inner column of one of the windows
+-- the windows show the band of 32 rows from row y + 4 on: each live cell of the band in the columns from `from` to
+-- before `end` is in an inner column of one of the windows
 pub record AreBandOf (at : Frame) (y from end : ℕ) (cells : List Cell) (windows : List NextRows) : Type 0 where
   pub each : All (IsNextWindowOf at y cells) windows
   pub covered : (u v : ℕ) → y + 4 ≤ v → v < y + 36 → from ≤ u → u < end → has cells (cell_on at u v) ≡ true → Any (λ window. IsInnerColumn window.x u) windows
 
--- the inner parts of the windows have been listed up to before row n: their live cells, and only cells of the pattern,
--- have been added to the list
+-- the inner rows before row n of all windows have been listed: their live cells, and only cells of the pattern, have
+-- been added to the list
 pub record HasListedRows (at : Frame) (y n : ℕ) (cells : List Cell) (windows : List NextRows) (old new : List Cell) : Type 0 where
   pub grows : AreAmong new old
   pub sound : AreAmong cells old → AreAmong cells new

@@ -14,7 +14,7 @@ pub record HasRow (span : RowSpan) (n : ℕ) : Type 0 where
   pub low : span.from ≤ n
   pub high : n < span.end
 
--- the span of word column s, which has no rows if there is no such word column
+-- the span of word column s, or an empty span if there is no such word column
 abbrev pub span_of : List RowSpan → ℕ → RowSpan
 span_of spans s = slice_index_or spans s (record { from = 0; end = 0 })
 
@@ -26,7 +26,7 @@ IsInSpan spans s r = HasRow (span_of spans s) r
 abbrev pub LieInSpans : Frame → List RowSpan → List Cell → Type 0
 LieInSpans at spans cells = (s r i : ℕ) → s < at.word_columns → r < at.rows → i < 64 → has cells (board_cell at s r i) ≡ true → IsInSpan spans s r
 
--- each cell of the board in the inner part of a window is in the span of its word column
+-- if a cell of the board is in the inner part of one of the windows, its row is in the span of its word column
 abbrev pub HoldCovered : Frame → List RowSpan → List LeapWindow → Type 0
 HoldCovered at spans places = (s r i : ℕ) → s < at.word_columns → r < at.rows → i < 64 → IsCovered places (board_cell at s r i) → IsInSpan spans s r
 
@@ -34,7 +34,7 @@ HoldCovered at spans places = (s r i : ℕ) → s < at.word_columns → r < at.r
 abbrev pub AreWidened : List RowSpan → List RowSpan → Type 0
 AreWidened old new = (s r : ℕ) → IsInSpan old s r → IsInSpan new s r
 
--- the spans of a board that shows these cells: one for each word column, which together contain every live cell
+-- the spans of a board that shows these cells: one for each word column, with the rows of all its live cells
 pub record AreSpans (at : Frame) (cells : List Cell) (spans : List RowSpan) : Type 0 where
   pub word_columns : length spans ≡ at.word_columns
   pub live : LieInSpans at spans cells

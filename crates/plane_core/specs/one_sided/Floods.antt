@@ -1,5 +1,5 @@
--- One cluster in a window of 64 rows, grown from one of its cells. Each row of the window is a word, and so is each row
--- of the flood.
+-- A flood: a cluster in a window of 64 rows, grown from one of the cluster's cells. Each row of the window is a word,
+-- and so is each row of the flood.
 use Rattle.std.specs.Prelude.{◌≡◌, ◌+◌, ◌<◌, ◌≤◌, ℕ, ℤ, ◌+ℤ◌, pos, List}
 use Rattle.plane_core.specs.declared.plane.cell.Cell.{Cell}
 use Rattle.plane_core.specs.plane.Cells.{cell_at}

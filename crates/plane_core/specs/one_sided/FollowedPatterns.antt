@@ -8,7 +8,7 @@ use Rattle.plane_core.specs.plane.Rules.{Numbers}
 use Rattle.plane_core.specs.windows.LonePatterns.{FillsRows, Holds}
 
 -- if window `start` holds a pattern, window `now` holds the pattern `made` generations later, and the pattern hasn't
--- recurred until then
+-- recurred by then
 pub record IsFollowed (rule : Numbers) (n : ℕ) (start now : List (List ℕ)) (made : ℕ) : Type 0 where
   pub held : (cells : List Cell) (left top : ℤ) → Holds n left top start cells → Holds n left top now (after rule cells made)
   pub new : (cells : List Cell) (left top : ℤ) → Holds n left top start cells → NeverRecurs rule cells made
@@ -20,7 +20,7 @@ EndsInWindow PerhapsAgain rule n start now most = ⊤
 EndsInWindow (Outgrown made) rule n start now most = IsFollowed rule n start now made
 
 -- if the 64 rows of `start` hold a pattern, those of `now` hold the pattern `made` generations later, and the pattern
--- hasn't recurred until then
+-- hasn't recurred by then
 pub record IsFollowedInRows (rule : Numbers) (start now : List ℕ) (made : ℕ) : Type 0 where
   pub held : (cells : List Cell) (left top : ℤ) → FillsRows left top start cells → FillsRows left top now (after rule cells made)
   pub new : (cells : List Cell) (left top : ℤ) → FillsRows left top start cells → NeverRecurs rule cells made

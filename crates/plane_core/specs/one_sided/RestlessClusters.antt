@@ -30,7 +30,7 @@ abbrev pub AreAllRestless : Numbers → ℕ → List (List ℕ) → ℕ → ℕ 
 AreAllRestless rule n window depth horizon period =
     (cells : List Cell) (left top : ℤ) → InOrder cells → IsShownInside n left top depth window cells → HasRestlessCluster rule cells horizon period
 
--- at least `depth` inside the windows, `alone` has a live cell, in column i of row r, that `whole` doesn't have
+-- a cell in column i of row r, at least `depth` inside the border, is alive in window `alone` and dead in `whole`
 pub record HasDivergingCell (n : ℕ) (whole alone : List (List ℕ)) (depth : ℕ) : Type 0 where
   pub r : ℕ
   pub i : ℕ

@@ -35,7 +35,7 @@ pub record IsWithin (b : Bounds) (c : Cell) : Type 0 where
 abbrev pub enlarged : ℕ → Bounds → Bounds
 enlarged n b = record { left = b.left -ℤ pos n; top = b.top -ℤ pos n; right = b.right +ℤ pos n; bottom = b.bottom +ℤ pos n }
 
--- b is the smallest box that contains both boxes: each side of b is the outer one of their two sides
+-- b is the smallest box that contains both boxes
 pub record IsRoundBoth (one other b : Bounds) : Type 0 where
   pub left : b.left ≡ int_min one.left other.left
   pub top : b.top ≡ int_min one.top other.top

@@ -7,7 +7,7 @@ use Rattle.std.specs.Ordering.{ordering_then, int_cmp, is_eq, match_ordering}
 use Rattle.plane_core.specs.declared.plane.cell.Cell.{Cell}
 use lib.IntN.{◌-ℤ◌}
 
--- the largest absolute value of a coordinate of a cell of the plane: this project's choice
+-- the largest absolute value that a coordinate has on the plane: this project's choice
 abbrev pub plane_bound : ℕ
 plane_bound = 1000000
 
@@ -48,7 +48,7 @@ abbrev pub put : Cell → List Cell → List Cell
 put c [] = c ∷ []
 put c (d ∷ ds) = match_ordering (cell_cmp c d) (c ∷ d ∷ ds) (d ∷ ds) (d ∷ put c ds)
 
--- the set of the cells of any list, as a list: the same cells in order, each once
+-- the set of a list's cells: the same cells in order, each once
 abbrev pub set_of : List Cell → List Cell
 set_of [] = []
 set_of (c ∷ cs) = put c (set_of cs)

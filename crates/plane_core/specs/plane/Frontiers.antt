@@ -1,4 +1,4 @@
--- Frontiers: how far a pattern reaches in a diagonal direction, and how slowly that grows under rules such as Life.
+-- Frontiers: how far a pattern reaches in a diagonal direction, and how slowly they advance under rules such as Life.
 use Rattle.std.specs.Prelude.{◌≡◌, ◌+◌, ◌*◌, ◌||◌, ℕ, ℤ, pos, ◌+ℤ◌, ◌*ℤ◌, ◌≤ℤ◌, Bool, true, not, List}
 use Rattle.plane_core.specs.declared.plane.cell.Cell.{Cell}
 use Rattle.plane_core.specs.declared.plane.orientation.Orientation.{Orientation}
@@ -11,7 +11,7 @@ use Rattle.plane_core.specs.plane.Rules.{Numbers, is_birth, is_survival}
 abbrev pub depth : Cell → ℤ
 depth c = c.x +ℤ c.y
 
--- each cell of the pattern, turned by the orientation, has at most this depth
+-- when the pattern is turned by the orientation, each of its cells has a depth of at most m
 abbrev pub LiesUpTo : Orientation → ℤ → List Cell → Type 0
 LiesUpTo o m cells = (c : Cell) → has cells c ≡ true → depth (turned_cell o c) ≤ℤ m
 

@@ -21,7 +21,7 @@ lives rule cells c = if has cells c then is_survival rule (around cells c) else 
 abbrev pub lives_by : Numbers → ℕ → Bool → Bool
 lives_by rule count alive = if alive then is_survival rule (count - 1) else is_birth rule count
 
--- c between its left and its right neighbour
+-- three cells of a row: the left neighbour of c, c itself, and its right neighbour
 abbrev pub triple : Cell → List Cell
 triple c = moved_by (negsuc 0) (pos 0) c ∷ c ∷ moved_by (pos 1) (pos 0) c ∷ []
 
@@ -50,7 +50,7 @@ lies_within reach cells = list_all (is_within reach) cells
 abbrev pub NeverRecurs : Numbers → List Cell → ℕ → Type 0
 NeverRecurs rule cells n = (p : ℕ) (dx dy : ℤ) → 1 ≤ p → p ≤ n → after rule cells p ≢ shifted dx dy cells
 
--- each cell of the plane is alive in the next generation if and only if the rule's numbers say so
+-- a cell is alive in the next generation if and only if the rule's numbers say so
 abbrev pub CellsFollowTheRule : Type 0
 CellsFollowTheRule = (rule : Numbers) (cells : List Cell) (c : Cell) → has (next rule cells) c ≡ lives rule cells c
 

@@ -18,7 +18,7 @@ SeesNoFurther = (rule : Numbers) (one other : List Cell) (k : ℕ) (c : Cell) �
     → ((d : Cell) → king_distance c d ≤ k → has one d ≡ has other d) → has (after rule one k) c ≡ has (after rule other k) c
 
 -- If two patterns agree in a box, then after k generations they agree in each cell that is k or more columns and rows
--- inside the sides of the box. One of the two may be the other, cut off at the sides of the box.
+-- inside the sides of the box. For example, one pattern may be the part of the other that is in the box.
 abbrev pub RightInside : Type 0
 RightInside = (rule : Numbers) (one other : List Cell) (b : Bounds) (k : ℕ) → InOrder one → InOrder other
     → ((d : Cell) → IsWithin b d → has one d ≡ has other d) → (c : Cell) → IsWithin (narrowed k b) c → has (after rule one k) c ≡ has (after rule other k) c

@@ -28,7 +28,7 @@ mirror_after Flip = Half
 mirror_after Diagonal = Quarter
 mirror_after AntiDiagonal = ThreeQuarter
 
--- the product of two orientations: a followed by b, where b is taken as quarter turns, or as a mirror followed by
+-- the product of two orientations: a followed by b, where b is written as quarter turns, or as a mirror followed by
 -- quarter turns
 abbrev pub product : Orientation → Orientation → Orientation
 product a Same = a

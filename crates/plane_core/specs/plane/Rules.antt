@@ -24,7 +24,7 @@ pub record IsRule (rule : Numbers) : Type 0 where
   pub births : length rule.births ≡ 8
   pub survivals : length rule.survivals ≡ 9
 
--- the digits (`0` is byte 48), ascending, of the numbers for which the table answers true; its first answer is for n
+-- the numbers for which the table answers true, ascending, as digits (`0` is byte 48); its first answer is for n
 unfoldable pub digits : ℕ → List Bool → List ℕ
 digits n [] = []
 digits n (true ∷ more) = (48 + n) ∷ digits (n + 1) more
@@ -42,7 +42,7 @@ pub record BeginsRule (text : List ℕ) : Type 0 where
   pub spelled : rule_text rule ≡ text ++ remainder
 
 -- The bytes before the place are a prefix of the text of some rule. The bytes up to and including the place aren't,
--- unless the place is the text's end.
+-- unless the place is the end of `text`.
 pub record IsFirstFault (text : List ℕ) (place : ℕ) : Type 0 where
   pub within : place ≤ length text
   pub before : BeginsRule (take place text)

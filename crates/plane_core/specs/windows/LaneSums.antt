@@ -1,4 +1,4 @@
--- Vectors of four words, one in each lane, and sums of cells in them.
+-- Vectors of four words, one in each lane, and sums of live cells, whose binary digits are such vectors.
 use Rattle.std.specs.Prelude.{◌≡◌, ◌==◌, ◌+◌, ◌*◌, ◌<◌, ℕ, List, slice_index}
 use Rattle.std.specs.Int.{bit_at}
 use Rattle.plane_core.specs.declared.windows.lane_sums.RowSums.{RowSums}

@@ -7,7 +7,7 @@ use Rattle.plane_core.specs.plane.Cells.{InOrder, has}
 use Rattle.plane_core.specs.windows.Rows.{ShowsInAllRows}
 use Rattle.plane_core.specs.windows.Windows.{IsShownInside, row_at}
 
--- the cell is in the window of n vectors that begins at (left, top): it has 64 columns and 4 n rows
+-- the cell is in the window that begins at (left, top) and has n vectors: 64 columns and 4 n rows
 pub record IsInWindow (n : ℕ) (left top : ℤ) (c : Cell) : Type 0 where
   pub west : left ≤ℤ c.x
   pub north : top ≤ℤ c.y

@@ -1,4 +1,4 @@
--- The rule that each rule logic applies.
+-- The rule that each rule logic applies to decide which cells are alive next.
 use Rattle.plane_core.specs.declared.windows.rule_logic.RuleLogic.{RuleLogic}
 use Rattle.plane_core.specs.declared.windows.rule_logic.RuleLogic.TheVariants.{Life, Any}
 use Rattle.plane_core.specs.plane.Rules.{Numbers}

@@ -18,12 +18,12 @@ lane_at x k j = slice_index (slice_index_or x k []) j
 abbrev pub row_at : ℕ → List (List ℕ) → ℕ → ℕ
 row_at n x r = lane_at x (r % n) (r / n)
 
--- the row above row r, which is empty above the first
+-- the row above row r, or an empty row if r is the first row
 abbrev pub row_above : ℕ → List (List ℕ) → ℕ → ℕ
 row_above n x zero = 0
 row_above n x (suc r) = row_at n x r
 
--- the row below row r, which is empty below the last
+-- the row below row r, or an empty row if r is the last row
 abbrev pub row_below : ℕ → List (List ℕ) → ℕ → ℕ
 row_below n x r = if r + 1 == 4 * n then 0 else row_at n x (r + 1)
 

@@ -1,7 +1,8 @@
 //! Active boxes: each cell of a board that differs two generations later is in a box, or within 2 of a box.
 //!
-//! When a board is loaded, there is a box for each group of cells that are close together. After a leap, there is a box
-//! for each window in which something still changes. So a part of the pattern with period 1 or 2 costs nothing:
+//! When a board is loaded, there is a box for each group of cells that are close together. After a leap of two or four
+//! generations, there is a box for each window in which something still changes. So a part of the pattern with period 1
+//! or 2 costs nothing:
 //!
 //! ```text
 //! +-----+
@@ -38,9 +39,9 @@ pub(crate) fn put_in_boxes(cells: &[Cell], boxes: &mut Vec<Bounds>) -> Result<()
     Ok(())
 }
 
-/// Puts a part into a box. The last sixteen boxes are tried, from the last one on. The first of these that is near the
-/// part is widened, so that it contains the part. If none of them is near, the part becomes a new box. If memory runs
-/// out, the boxes contain at least what they contained before.
+/// Puts a part of a pattern, which is given by its bounds, into a box. The last sixteen boxes are tried, beginning with
+/// the last. As soon as a box is near the part, it is widened so that it contains the part. If no box is near, the part
+/// becomes a new box. If memory runs out, the boxes contain at least what they contained before.
 pub(crate) fn put_in_box(part: Bounds, boxes: &mut Vec<Bounds>) -> Result<(), OutOfMemory>
     ensures wider { AreWider boxes.old.items boxes.new.items }
     ensures held { OnOk result ((c : Cell) → IsWithin part c → IsInOne boxes.new.items c) }
@@ -73,7 +74,7 @@ fn is_near(bounds: Bounds, part: Bounds) -> bool {
         && fit_window(bounds.joined(part))
 }
 
-/// Checks whether the box, with a margin of four columns and rows, fits the inner part of a window.
+/// Checks whether the box, with a margin of four columns and rows, fits the inner part of a window of 40 rows.
 #[inline(always)]
 fn fit_window(bounds: Bounds) -> bool {
     bounds.left.abs_diff(bounds.right) < 48 && bounds.top.abs_diff(bounds.bottom) < 24

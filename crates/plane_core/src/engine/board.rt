@@ -6,7 +6,7 @@
 //! ```text
 //! +--------+                     a box of cells that change
 //! | .OO    |   +-----------+
-//! | OO.    |   |  window   |     Only the inner part of a window is right after four generations, and is put back.
+//! | OO.    |   |  window   |     Only the inner part of a window is correct after four generations, and is put back.
 //! |  O     |   | +-------+ |
 //! +--------+   | | inner | |     The boxes for the next leap are where the last generation of this leap differs from
 //!              | +-------+ |     the generation two before it.
@@ -66,8 +66,7 @@ const SMALL_TOP: i32 = -(SMALL_ROWS as i32) / 2;
 /// The most generations for which [`Board::around`] makes a board.
 const MOST_AROUND: u32 = 1000;
 
-/// The number of cells for which a list has room from the start when the pattern of a board is listed. They take a
-/// kilobyte.
+/// The number of cells for which the list of a board's pattern has room from the start. These cells take a kilobyte.
 const ROOM: usize = 128;
 
 /// A pattern on a board, and a rule.
@@ -78,7 +77,7 @@ pub struct Board {
     /// For each word column, the rows that may have a live cell.
     spans: Vec<RowSpan>,
     boxes: Vec<Bounds>,
-    /// Whether the boxes hold all live cells.
+    /// Whether the boxes are known to hold all live cells.
     holds_all: bool,
     // The lists of a leap. They are kept from one leap to the next, because new ones each time would cost a tenth of
     // all instructions.
@@ -162,9 +161,9 @@ impl Board {
         Board::blank(alloc, rule, at)
     }
 
-    /// Makes a board that shows the pattern and has room for `generations` generations. Returns `None` if the pattern
-    /// is empty or too near to the edge of the plane, if `generations` is over 1,000, or if the board would take more
-    /// than about 2 MiB and another 2 KiB per cell of the pattern.
+    /// Makes a board that shows the pattern and usually has room for `generations` generations. Returns `None` if the
+    /// pattern is empty or too near to the edge of the plane, if `generations` is over 1,000, or if the board would
+    /// take more than about 2 MiB and another 2 KiB per cell of the pattern.
     ///
     /// # Errors
     ///
@@ -188,7 +187,7 @@ impl Board {
         Ok(Some(board))
     }
 
-    /// Makes a board with the frame `at` that shows the pattern.
+    /// Makes a board that shows the pattern and has the frame `at`.
     pub(crate) fn lay(
         alloc: Global,
         rule: &Rule,
@@ -233,8 +232,8 @@ impl Board {
         Board::lay(alloc, rule, at, &none)
     }
 
-    /// Shows another pattern under a rule, in the middle of the board. Returns `false` if there is no room for it; the
-    /// board then shows the empty pattern.
+    /// Shows another pattern under a rule, in the middle of the board. Returns `false` if the board has no room for the
+    /// pattern, or the pattern is too near to the edge of the plane. The board then shows the empty pattern.
     ///
     /// # Errors
     ///

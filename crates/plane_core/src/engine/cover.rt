@@ -4,9 +4,9 @@
 //! side over each rectangle, so that their inner parts leave no gap. The windows have as few rows as possible:
 //!
 //! ```text
-//! +-------+-------+        The inner rectangle is 90 columns by 80 rows. Four inner parts of 56 columns and 40
-//! | +-----+-----+ |        rows cover it, two side by side and two below one another. They reach as far past it
-//! | |     |     | |        on one side as on the other.
+//! +-------+-------+        The rectangle in the middle has 90 columns and 78 rows. Four inner parts of 56 columns
+//! | +-----+-----+ |        and 40 rows cover it, two above and two below. They reach as far past its left side as
+//! | |     |     | |        past its right side, and as far past its top as past its bottom.
 //! +-------+-------+
 //! | |     |     | |
 //! | +-----+-----+ |
@@ -33,13 +33,13 @@ const UNITED_AT_ONCE: usize = 16;
 /// The number of columns and rows on each side of a window that may be wrong after four generations.
 const MARGIN: i32 = geometry::MARGIN as i32;
 
-/// The number of columns of a window that are right after four generations.
+/// The number of columns of a window that are correct after four generations.
 const INNER_COLUMNS: u32 = geometry::INNER_COLUMNS as u32;
 
 /// The number of columns from the first column of a window to that of the next window beside it.
 const SPACING: i32 = INNER_COLUMNS as i32;
 
-/// The most rows of a window that are right after four generations.
+/// The largest number of rows of a window that are correct after four generations.
 const MOST_INNER_ROWS: u32 = geometry::MOST_INNER_ROWS as u32;
 
 /// The number of rows of a window that are above or below its inner rows.

@@ -27,8 +27,8 @@ pub(crate) struct Direction {
 }
 
 impl Orientation {
-    /// Returns the direction that the orientation turns to the right and down. Each direction belongs to two
-    /// orientations.
+    /// Returns the direction that points to the right and down after the plane is turned by this orientation. Each
+    /// direction belongs to two orientations.
     pub(crate) fn direction(self) -> Direction
         ensures { (c : Cell) → depth_in result c ≡ depth (turned_cell self c) }
     {
@@ -70,7 +70,7 @@ impl Direction {
         if self.right { 63 } else { 0 }
     }
 
-    /// Returns the column of the live cell of a word that is farthest in the direction. `word` isn't 0.
+    /// Returns the column of the word's live cell that is farthest in the direction. `word` isn't 0.
     pub(crate) fn farthest(self, word: u64) -> usize
         requires { 0 < word }
         ensures small { result < 64 }

@@ -25,9 +25,9 @@ const GAP: u32 = 8;
 /// The most columns of a run. With a margin of four columns on each side, the run fits the inner part of a window.
 const LENGTH: u32 = 48;
 
-/// Replaces the list by boxes that contain all cells, one for each group of cells that are close together. With a
-/// margin of four columns and rows, each box fits the inner part of a window. So a trail across the plane gets several
-/// boxes along it instead of one large box.
+/// Replaces the list `boxes` by boxes that contain all cells, one box for each group of cells that are close together.
+/// With a margin of four columns and rows, each box fits the inner part of a window. So a trail across the plane gets
+/// several boxes along it instead of one large box.
 pub(crate) fn boxes_round(cells: &[Cell], boxes: &mut Vec<Bounds>) -> Result<(), OutOfMemory>
     ensures held { OnOk result (HoldAll boxes.new.items cells.now) }
     ensures sides { (n : ℕ) → lies_within n cells.now ≡ true → All (AreSidesWithin n) boxes.new.items }

@@ -35,7 +35,7 @@ pub(crate) struct Frame {
 }
 
 /// The margin of a board: the number of columns and rows on each side of the cells that the board's pattern may reach.
-/// A window that covers a cell begins at most 36 columns or rows before the cell, and ends at most 36 past it.
+/// Windows extend at most 36 columns or rows past these cells.
 const BOARD_MARGIN: u32 = 40;
 
 /// The fewest columns and rows on each side of a pattern that is shown in the middle of a board.
@@ -219,7 +219,7 @@ impl Frame {
         true
     }
 
-    /// Returns how many columns of the board are left of the cell.
+    /// Returns how many columns of the board are to the left of the cell.
     pub(crate) fn across(self, cell: Cell) -> usize
         requires frame { IsFrame self }
         requires within { IsWithin (bounds_of self) cell }

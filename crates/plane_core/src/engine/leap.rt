@@ -123,12 +123,12 @@ fn make_room(held: &mut Vec<[u64; 64]>, count: usize) -> Result<(), OutOfMemory>
     Ok(())
 }
 
-/// Runs all windows, and returns whether all are on the board. Life has functions of its own, which hold no code for
-/// other rules.
+/// Runs all windows. Returns `false` if a window isn't on the board, or if there is no function for its number of rows.
+/// Life has functions of its own, which hold no code for other rules.
 ///
-/// The rows of each window are stored in `held`, and `boxes` is replaced by a box for each window in which a cell
-/// differs from what it was two generations earlier or, if `count` is odd, is alive. So all memory is allocated before
-/// the first word is written.
+/// The rows of each window are stored in `held`, and `boxes` is replaced. If `count` is even, there is a box for each
+/// window in which a cell differs from its state two generations earlier. If `count` is odd, there is a box for each
+/// window with a live cell. All memory is allocated here, before the first word is written.
 pub(crate) fn run_all(
     words: &[u64],
     at: Frame,
@@ -191,7 +191,8 @@ fn run_each<A: CellLogic>(
     Ok(true)
 }
 
-/// Puts all inner parts back, and widens the spans by their rows. An inner part may be in two word columns.
+/// Puts all inner parts back, and widens the spans so that they contain the rows of these parts. An inner part may be
+/// in two word columns.
 pub(crate) fn put_all(
     words: &mut [u64],
     spans: &mut [RowSpan],

@@ -1,7 +1,7 @@
 //! A window of a leap: where it is on the plane, and how many rows it has.
 //!
 //! A window has 64 columns and 20 to 56 rows, and all cells outside of it are taken for dead. So after four
-//! generations, only its inner part is right, which begins four cells inside the border:
+//! generations, only the inner part of the window is correct. It begins four cells inside the border:
 //!
 //! ```text
 //! +--------------------+
@@ -27,7 +27,8 @@ pub(crate) struct LeapWindow {
 }
 
 impl LeapWindow {
-    /// Checks whether the window is on the board, with a word column to its right, and has 8 to 64 rows.
+    /// Checks whether the window is on the board and has 8 to 64 rows. The board must also have a word column to the
+    /// right of the one in which the window begins.
     #[inline(always)]
     pub(crate) fn is_on_board(self, at: Frame) -> bool
         ensures { IsTrue result → IsOnBoard at self }

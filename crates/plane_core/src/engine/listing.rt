@@ -1,8 +1,8 @@
 //! Lists the cells of a board in order: row by row, and each row from the left.
 //!
-//! The rows are read in bands of eight, from the first band that a span reaches to the last. Most word columns have no
-//! live cell in a band: the word column's span doesn't reach the band, or one test of its eight words in the band finds
-//! no cell. In each band, the word columns from the first to the last one with a live cell are read. They are in
+//! The rows are read in bands of eight. Bands above all spans, or below all spans, are skipped. Most word columns have
+//! no live cell in a band. Then either the word column's span doesn't reach the band, or one test shows that the eight
+//! words are 0. In each band, the word columns from the first to the last one with a live cell are read. They are in
 //! brackets here:
 //!
 //! ```text
@@ -101,7 +101,7 @@ fn word_at(at: Frame, words: &[u64], word_column: usize, row: usize) -> u64
     words[at.index(word_column, row)]
 }
 
-/// Appends the live cells of a band of eight rows to a list, row by row. They are all in these word columns.
+/// Appends the live cells of a band of eight rows to a list, row by row. They are all in the given word columns.
 fn read_band(
     at: Frame,
     words: &[u64],

@@ -1,5 +1,5 @@
 //! Puts cells on an empty board, one after another. The bit of each cell is set in the word of its row and word column,
-//! and the span of the word column is widened by the row.
+//! and the span of the word column is widened so that it contains the row.
 ghost use Rattle.std.specs.Prelude.{◌≡◌, ◌*◌, [], length};
 ghost use Rattle.plane_core.specs.engine.Frames.{FillsFrame, IsFrame, LieOn, Shows};
 ghost use Rattle.plane_core.specs.engine.RowSpans.{LieInSpans};
@@ -8,7 +8,7 @@ use crate::engine::frame::Frame;
 use crate::engine::row_spans::{RowSpan, widen};
 use crate::plane::cell::Cell;
 
-/// Puts all cells on an empty board, and widens its spans by their rows.
+/// Puts all cells on an empty board, and widens the board's spans so that they contain the rows of the cells.
 pub(crate) fn fill(at: Frame, words: &mut [u64], spans: &mut [RowSpan], cells: &[Cell])
     requires frame { IsFrame at }
     requires on { LieOn at cells.now }

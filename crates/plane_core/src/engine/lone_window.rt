@@ -1,4 +1,4 @@
-//! A window that contains only a small pattern, and the next generation made in it:
+//! A window that contains only a small pattern. The next generation of the pattern is computed in the window:
 //!
 //! ```text
 //!  cells             window               cells
@@ -73,7 +73,7 @@ pub(crate) fn next_in_window(
     Ok(Some(later))
 }
 
-/// Returns the pattern whose cells are these rows of a window. `at` is the window as a board of one word column.
+/// Returns the pattern that the rows of a window show. `at` is the window as a board of one word column.
 pub(crate) fn pattern_of(alloc: Global, at: Frame, rows: &[u64; 64]) -> Result<Pattern, OutOfMemory>
     requires frame { IsFrame at }
     requires plane { AreSidesWithin plane_bound (bounds_of at) }

@@ -4,8 +4,8 @@
 //! ```text
 //! word column   0     1     2     3
 //! row 0         .     .     .     .
-//! row 1         .     #     .     .      The span of a word column has the rows from the first that was written in it
-//! row 2         .     #     #     .      to the last. Outside of the spans, everything is dead.
+//! row 1         .     #     .     .      The span of a word column goes from the first to the last of its rows that
+//! row 2         .     #     #     .      have been written. Outside of the spans, everything is dead.
 //! row 3         .     .     #     .
 //! ```
 ghost use Rattle.std.specs.Prelude.{◌≡◌, ◌+◌, ◌/◌, ◌<◌, ◌≤◌, ◌⊎◌};
@@ -61,7 +61,7 @@ impl RowSpan {
     }
 }
 
-/// Widens the span of a word column by these rows.
+/// Widens the span of a word column so that it contains these rows.
 pub(crate) fn widen(spans: &mut [RowSpan], word_column: usize, rows: RowSpan)
     requires { word_column < length spans.old }
     ensures kept { AreWidened spans.old spans.new }

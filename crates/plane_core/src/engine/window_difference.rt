@@ -1,7 +1,7 @@
 //! Where two windows differ in their inner parts.
 //!
-//! The windows are compared, and the differences are collected in two words, one for the columns and one for the rows.
-//! No branch depends on a cell:
+//! The windows are compared, and no branch depends on a cell. The differences are collected in two words, one for the
+//! columns and one for the rows:
 //!
 //! ```text
 //!   . . . .      . . . .      . . . .   rows

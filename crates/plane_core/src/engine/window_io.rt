@@ -1,6 +1,6 @@
 //! Reads windows from a board, and puts their inner parts back.
 //!
-//! A window may begin in any column, so each of its rows is in two word columns of the board:
+//! A window may begin in any column, so each of its rows is usually in two word columns of the board:
 //!
 //! ```text
 //!   word column x / 64        |  the word column after it

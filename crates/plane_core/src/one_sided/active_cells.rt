@@ -13,7 +13,7 @@ use crate::windows::rule_logic::RuleLogic;
 use crate::windows::window::generations;
 use std::simd::u64x4;
 
-/// The columns in the middle of a window, where a changing cell is looked for first.
+/// The columns in the middle of a window. In each row, a changing cell is looked for in these columns first.
 const MIDDLE: u64 = 0x0000_0fff_fff0_0000;
 
 /// A row and a column of a window.

@@ -14,11 +14,11 @@ ghost use Rattle.plane_core.specs.one_sided.Crops.{IsCrop, LiesInCrop};
 use crate::windows::row_packing::{packed, unpacked};
 use std::simd::u64x4;
 
-/// The fewest empty rows of a crop: those above its live rows and those below them together. With fewer empty rows,
-/// live cells soon reach the crop's rim.
+/// The fewest empty rows of a crop, above and below its live rows together. With fewer empty rows, live cells soon
+/// reach the crop's rim.
 const ROOM: usize = 8;
 
-/// The first and the last row of a window with a live cell. They only decide which crops are tried.
+/// The first and the last row with a live cell in a window. They only decide which crops are tried.
 #[derive(Clone, Copy)]
 pub(crate) struct LiveRows {
     pub(crate) first: usize,

@@ -10,8 +10,8 @@
 //! . . . . . . . .      . . . O O . . .      . . . . . . . .
 //! ```
 //!
-//! The whole and the cluster are both run in windows. With each generation, the part of a window that is right begins
-//! one cell further inside.
+//! The whole and the cluster are both run in windows. With each generation, the correct part of a window begins one
+//! cell further inside.
 ghost use Rattle.std.specs.Prelude.{◌+◌, ◌≤◌, ◌<◌, IsTrue};
 ghost use Rattle.plane_core.specs.windows.RuleLogic.{rule_of};
 ghost use Rattle.plane_core.specs.one_sided.RestlessClusters.{HasDivergingCell, DivergesFromWhole};
@@ -31,7 +31,7 @@ const LIMIT: u32 = 11;
 const NEAR: usize = 4;
 
 /// Returns `true` only if the cluster that `alone` shows diverges within `most` generations from the pattern that
-/// `whole` shows. Both windows are right from `depth` cells inside their border on. `false` says nothing.
+/// `whole` shows. Both windows are correct at least `depth` cells inside their border. `false` says nothing.
 pub(crate) fn diverges_from_whole<const N: usize>(
     whole: &[u64x4; N],
     alone: &[u64x4; N],

@@ -44,8 +44,8 @@ impl BoxSize {
     }
 }
 
-/// A question about the pattern `ahead` generations later, 0 or 1: whether some cluster diverges within `horizon`
-/// generations, or doesn't recur within `period` generations.
+/// A question about the pattern `ahead` generations later: whether some cluster diverges within `horizon` generations,
+/// or doesn't recur within `period` generations. `ahead` is 0 or 1.
 #[derive(Clone, Copy)]
 struct RestQuestion {
     ahead: u32,
@@ -54,9 +54,9 @@ struct RestQuestion {
 }
 
 impl Board {
-    /// Returns `true` only if the pattern is not at rest `ahead` generations later, 0 or 1: one of its clusters
-    /// diverges from it within `horizon` generations, or doesn't recur within `period` generations. `false` says
-    /// nothing.
+    /// Returns `true` only if the pattern is not at rest `ahead` generations later: one of its clusters then diverges
+    /// from it within `horizon` generations, or doesn't recur within `period` generations. `ahead` is 0 or 1. `false`
+    /// says nothing.
     pub fn rules_out_rest(&self, ahead: u32, horizon: u32, period: u32) -> bool
         requires { ahead ≤ 1 }
         ensures { IsTrue result

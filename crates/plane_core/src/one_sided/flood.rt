@@ -31,7 +31,8 @@ const INNER_END: usize = ROWS - MARGIN;
 /// A bit for each of the columns that have `REACH` more columns on both sides: columns 2 to 61.
 const COLUMN_MASK: u64 = 0x3fff_ffff_ffff_fffc;
 
-/// The most passes over the rows. A cluster that winds so much that it needs more passes is rejected.
+/// The most rounds, each of which grows the flood down and up once. A cluster that winds so much that it needs more
+/// rounds is rejected.
 const ROUNDS: usize = 64;
 
 /// Grows the cluster of the cell in row `row` and column `column`, and stores it in `flood`. Returns `true` only if the
@@ -62,7 +63,7 @@ pub(crate) fn flood(rows: &[u64; 64], flood: &mut [u64; 64], row: usize, column:
 }
 
 /// Grows the flood downwards from row `first` to the row before `end`, and further down as long as the flood is near
-/// the next row. Returns the row before which this stopped.
+/// the next row. Returns the row after the last one that was grown.
 fn grow_down(rows: &[u64; 64], flood: &mut [u64; 64], first: usize, end: usize) -> usize
     requires { 2 ≤ first }
     ensures grown { HasGrown rows.now flood.old flood.new }

@@ -1,10 +1,10 @@
 //! Follows a pattern that is by itself in a window, generation by generation, until it is known not to recur, may have
-//! recurred, or is too large for the window. The window is right as long as no live cell reaches its rim:
+//! recurred, or is too large for the window. The window stays correct as long as no live cell reaches its rim:
 //!
 //! ```text
 //! +----------------+    A generation that is a translate of the start has the same rows, if rows and columns are
-//! |                |    counted from the first ones with a live cell. Usually the columns with a live cell already
-//! |    OO.         |    differ.
+//! |                |    counted from the first ones with a live cell. Usually it is enough to compare which columns
+//! |    OO.         |    have a live cell.
 //! |     OO.        |
 //! |      O         |    If a generation equals an earlier one, all later generations repeat earlier ones.
 //! +----------------+
@@ -93,8 +93,8 @@ fn row_or_none<const N: usize>(window: &[u64x4; N], r: usize) -> u64
 }
 
 /// Checks whether `now` may show a translate of the pattern that `start` shows. `from` and `columns` are the columns of
-/// `start` and of `now` that have a live cell. If these columns are the same, counted from the first of them, the rows
-/// are compared, counted from the first row and the first column with a live cell.
+/// `start` and of `now` that have a live cell. First these columns are compared, counted from the first of them. If
+/// they are the same, the rows are compared, counted from the first row and the first column with a live cell.
 fn may_be_again<const N: usize>(
     start: &[u64x4; N],
     from: u64,

@@ -2,8 +2,8 @@
 //!
 //! ```text
 //! . . . . . . . .      The window shows a piece of the pattern. The test looks for a live cell that is dead two
-//! . O O . . . S .      generations later, and grows its cluster. Run alone, the cluster may diverge from the whole, or
-//! . O O . . S S .      never recur. In both cases, the pattern doesn't consist of objects at rest.
+//! . O O . . . S .      generations later, and grows its cluster, which is S here. Run alone, the cluster may diverge
+//! . O O . . S S .      from the whole, or never recur. In both cases, the pattern doesn't consist of objects at rest.
 //! . . . . . . S .
 //! ```
 //!
@@ -21,9 +21,9 @@ use crate::windows::row_packing::unpacked;
 use crate::windows::rule_logic::RuleLogic;
 use std::simd::u64x4;
 
-/// Returns `true` only if no pattern that the window shows is at rest: one of its clusters diverges from it within
-/// `horizon` generations, or doesn't recur within `period` generations. The window is right from `depth` cells inside
-/// its border on. `false` says nothing.
+/// Returns `true` only if no pattern that the window shows is at rest: each has a cluster that diverges from the
+/// pattern within `horizon` generations, or doesn't recur within `period` generations. The window is correct at least
+/// `depth` cells inside its border. `false` says nothing.
 pub(crate) fn rules_out_rest(
     window: &[u64x4; 16],
     rule: &RuleLogic,

@@ -33,7 +33,7 @@ use std::alloc::Global;
 /// The most boxes that are examined.
 const BOXES: u32 = 32;
 
-/// The most columns and rows of a spaceship's active box: a heavyweight spaceship's has nine. A spaceship that has just
+/// The most columns and rows of a spaceship's active box. A heavyweight spaceship needs nine. A spaceship that has just
 /// left a larger group shares the group's box, and soon gets a box of its own.
 const SPACESHIP: u32 = 10;
 

@@ -80,7 +80,7 @@ impl Bounds {
     }
 }
 
-/// Returns the smallest box that contains the cell and, if there is one, the box.
+/// Returns the smallest box that contains `bounds` and the cell, or the box of the cell if `bounds` is `None`.
 pub(crate) fn grown(bounds: Option<Bounds>, cell: Cell) -> Bounds
     ensures { result ≡ grown cell bounds }
 {

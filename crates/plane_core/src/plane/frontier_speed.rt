@@ -1,12 +1,13 @@
-//! How fast the frontier of a pattern advances in a diagonal direction. Under rules such as Life, it advances by at
-//! most one cell in two generations, which is the speed of a glider. So a glider that is far enough ahead of the rest
-//! of a pattern is never caught. The picture shows why frontiers are slow:
+//! How fast the frontier of a pattern advances in a diagonal direction. To the lower right, the frontier is the
+//! greatest sum of column and row of a live cell. Under rules such as Life, this sum grows by at most 1 in two
+//! generations, which is the speed of a glider. So a glider that is far enough ahead of the rest of a pattern is never
+//! caught. The picture shows why frontiers are slow:
 //!
 //! ```text
-//! . . . O .     The frontier is the greatest sum of column and row of a live cell. Cell x, just past the frontier,
-//! . . O / .     has at most three live neighbours: the two cells / on the frontier, and the cell behind both. If the
-//! . O / x .     two were born in the last generation, the cell behind them had four or five live neighbours before
-//! O / . . .     that, and has died. So x isn't born.
+//! . . . O .     The cells / are on the frontier. Cell x, just past the frontier, has at most three live neighbours:
+//! . . O / .     two cells /, and the cell behind both. If the two were born in the last generation, the cell behind
+//! . O / x .     them had four or five live neighbours before that, and has died. So x isn't born.
+//! O / . . .
 //! ```
 ghost use Rattle.std.specs.Prelude.{◌≡◌};
 ghost use Rattle.plane_core.specs.plane.Frontiers.{FrontiersAreSlow, FrontiersGoOn, is_slow};
@@ -14,7 +15,7 @@ ghost use Rattle.plane_core.specs.plane.Frontiers.{FrontiersAreSlow, FrontiersGo
 use crate::plane::rule::Rule;
 
 /// The laws of frontiers: under a slow rule, in n generations, the frontier of a pattern in a diagonal direction
-/// advances by at most n / 2 cells, rounded up.
+/// advances by at most n / 2, rounded up.
 #[tactic(auto, using(crate::proofs::lemmas::plane::FrontierLemmas::frontiers_are_slow, crate::proofs::lemmas::plane::FrontierLemmas::frontiers_go_on))]
 pub fn frontiers()
     ensures slow { FrontiersAreSlow }

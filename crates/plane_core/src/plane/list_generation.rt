@@ -9,7 +9,7 @@
 //! ```
 //!
 //! Each live cell lists the nine cells of its neighbourhood. When the list is sorted, equal cells are next to each
-//! other. So the length of a run is the number of live cells in the neighbourhood of its cell:
+//! other. So the number of times that a cell is listed is the number of live cells in its neighbourhood:
 //!
 //! ```text
 //! (0, 0)   (1, 0)   (2, 0)   (0, 1) (0, 1)   (1, 1) (1, 1) (1, 1)   (2, 1) (2, 1) (2, 1)   (3, 1)   ..

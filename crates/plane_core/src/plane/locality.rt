@@ -1,4 +1,4 @@
-//! How far wrong cells spread. If everything outside a box is taken for dead, cells inside the box may become wrong.
+//! How far errors spread. If everything outside a box is taken for dead, cells inside the box may become wrong.
 //! With each generation, such cells reach one cell further inside:
 //!
 //! ```text

@@ -1,9 +1,9 @@
 //! The eight orientations of a pattern on the square grid:
 //!
 //! ```text
-//! O . .    . O O    . . O    . . O    O O .      and so on: four turns of the pattern, and four of its mirror image
-//! O O .    O O .    . O O    O O .    . O O
-//! . . .    . . .    . . .    . . .    . . .
+//! O O O    O O .    . . O    O . .    O O O      and so on: four turns of the pattern, and four of its mirror image
+//! O . .    . O .    O O O    O . .    . . O
+//! . . .    . O .    . . .    O O .    . . .
 //! ```
 ghost use Rattle.std.specs.Prelude.{◌≡◌, true};
 ghost use Rattle.plane_core.specs.plane.Cells.{on_plane};

@@ -10,9 +10,9 @@ ghost use Rattle.plane_core.specs.plane.Parts.{IsCut};
 use crate::plane::pattern::Pattern;
 
 impl Pattern {
-    /// Returns the number of cells above a cut, or `None` if there is no cut or `cuts`, the number of cuts that may
-    /// still be made, is 0. A cut is between two successive cells whose rows are more than `far` apart. The first cut
-    /// from the middle of the list on is chosen, or otherwise the last cut before the middle.
+    /// Returns the number of cells above a cut, or `None` if there is no cut or `cuts` is 0. `cuts` is the number of
+    /// cuts that may still be made. A cut is between two successive cells whose rows are more than `far` apart. The
+    /// first cut at or after the middle of the list is chosen, or the last cut if all cuts are before the middle.
     pub(crate) fn cut(&self, far: u32, cuts: u32) -> Option<usize>
         ensures cut { IfSome result (IsCut far self.now) }
         ensures cuts { OnSome result (0 < cuts) }
@@ -35,8 +35,8 @@ impl Pattern {
 
     /// Checks whether the pattern should be turned, so that it can be cut between two columns that are more than `far`
     /// apart. Turning costs time, since the cells have to be sorted again. The result is `false` only if there is no
-    /// such cut: the columns are divided into at most 64 stripes of equal width, and if a stripe is at most half as
-    /// wide as `far`, each gap at which the pattern can be cut contains an empty stripe.
+    /// such cut. To find out, the columns are divided into at most 64 stripes of equal width. If a stripe is at most
+    /// half as wide as `far`, each gap at which the pattern can be cut contains an empty stripe.
     pub(crate) fn is_worth_a_turn(&self, far: u32) -> bool {
         let Some(bounds) = self.bounds() else {
             return false;

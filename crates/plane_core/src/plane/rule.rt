@@ -72,7 +72,7 @@ impl FromStr for Rule {
     }
 }
 
-/// Shows the one text of the rule, such as `b3s23`.
+/// Shows the text of the rule, such as `b3s23`.
 impl fmt::Display for Rule {
     ghost output = { λ rule. Some (rule_text rule) };
 
@@ -175,7 +175,7 @@ impl Rule {
         }
     }
 
-    /// Writes the one text of the rule, which [`Rule::read`] reads as this rule. No earlier write to the `Out` may have
+    /// Writes the text of the rule, which [`Rule::read`] reads as this rule. No earlier write to the `Out` may have
     /// failed.
     ///
     /// # Errors
@@ -203,7 +203,7 @@ impl Rule {
 }
 
 /// Puts `letter` at `place` in the text, followed by the digits of the numbers that have the answer `true`. The first
-/// answer is for the number `least`, the second for `least` + 1, and so on. Returns the place after the last digit.
+/// answer is for the number `least`, the second for `least` + 1, and so on. Returns the place after the last byte put.
 fn put_numbers(
     text: &mut [u8; LONGEST],
     place: usize,

@@ -91,8 +91,8 @@ impl Pattern {
     ///
     /// # Errors
     ///
-    /// `OutOfPlane` if a side of the image's bounding box has more than 1,000,001 cells, so that a cell would be past
-    /// the bound, even if there is no memory. Otherwise `Memory` if memory runs out.
+    /// `OutOfPlane` if a cell would be past the bound, even if there is no memory. This happens if a side of the
+    /// image's bounding box has more than 1,000,001 cells. Otherwise `Memory` if memory runs out.
     pub fn turn(&self, alloc: Global, orientation: Orientation) -> Result<Pattern, PlaceError>
         ensures turned { IfOk result (λ pattern. pattern ≡ turned orientation self.now) }
         ensures plane { OnOk result (list_all on_plane (turned orientation self.now) ≡ true) }

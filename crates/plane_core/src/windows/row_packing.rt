@@ -28,7 +28,7 @@ pub(crate) fn four_words(words: &[u64], i: usize) -> [u64; 4]
     four
 }
 
-/// Replaces the four words from word `i` on with `four`.
+/// Stores `four` in the words `i` to `i` + 3.
 #[inline(always)]
 pub(crate) fn set_words(words: &mut [u64], i: usize, four: [u64; 4])
     requires { i + 4 ≤ length words.old }
@@ -58,7 +58,7 @@ fn turned(a: u64x4, b: u64x4, c: u64x4, d: u64x4) -> [u64x4; 4]
     ]
 }
 
-/// Sets four vectors of a window, from vector `k` on, to those of the window that has these rows.
+/// Sets four vectors of a window, from vector `k` on. `rows` are all rows of the window, in order.
 #[inline(always)]
 fn pack_four<const R: usize, const N: usize>(rows: &[u64; R], window: &mut [u64x4], k: usize)
     requires rows { R ≡ 4 * N }

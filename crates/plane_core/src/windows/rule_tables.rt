@@ -1,8 +1,8 @@
 //! A rule as operations on words: which cells are alive next, depending on the number of live cells in their
 //! neighbourhoods.
 //!
-//! For each total from 0 to 9, the answer (whether a cell is alive next) is a word of equal bits. The binary digits of
-//! the total choose between these words. So no branch depends on a cell or on the rule:
+//! For each total from 0 to 9, words of equal bits give the answers (whether a cell is alive next) for dead and live
+//! cells. The binary digits of the total choose between these answers. So no branch depends on a cell or on the rule:
 //!
 //! ```text
 //! eights ?  ones ? 9 : 8
@@ -13,7 +13,7 @@
 //! ```
 //!
 //! Life is run most often. It needs fewer operations, which count only the eight neighbours. It has a type of its own,
-//! [`Life`], so that the loop of a generation is compiled once for Life and once for any other rule.
+//! [`Life`], so that the loop of a generation is compiled once for Life and once for all other rules.
 ghost use Rattle.std.specs.Prelude.{◌≡◌, ◌==◌, ◌+◌, ◌-◌, ◌*◌, ◌<◌, ◌≤◌, ◌%◌, true, ℕ, slice_index};
 ghost use Rattle.std.specs.Int.{bit_at};
 ghost use Rattle.plane_core.specs.windows.LaneSums.{AnswersRows, AreBeside, bit_of};

@@ -1,8 +1,8 @@
 //! Windows: pieces of the plane, 64 columns wide, stored in vectors.
 //!
 //! A window of N vectors has 4 N rows. Row r is lane r / N of vector r % N. So the rows above and below a vector's rows
-//! are in the neighbouring vectors. The rows above those of the first vector are the rows of the last vector, moved to
-//! the next lane. The rows below those of the last vector are the rows of the first one, moved to the previous lane:
+//! are in the neighbouring vectors. The rows above the first vector's rows are the rows of the last vector, moved to
+//! the next lane. The rows below the last vector's rows are the rows of the first vector, moved to the previous lane:
 //!
 //! ```text
 //!            lane 0    lane 1    lane 2    lane 3

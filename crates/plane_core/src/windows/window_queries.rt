@@ -1,4 +1,5 @@
-//! Questions about a window: what a row is, which columns have a live cell, whether the rim is clear.
+//! Questions about a window: which cells of a row are alive, which columns have a live cell, which row is the first
+//! with a live cell, and whether the rim is clear. Two windows can also be compared.
 //!
 //! ```text
 //! . . . . . . .     row 1, the first with a live cell

@@ -77,8 +77,8 @@ pub count-head : (object : List ℕ × ℕ) (objects : List (List ℕ × ℕ)) �
 count-head object objects =
     ap (λ (b : Bool). unwrap_or (cond b (Some object.1) (lookup (is_code object.0) objects)) 0) (ap is_eq (tied_itself nat_list_cmp_total object.0))
 
--- if the list x ∷ xs and the sorted list y ∷ ys count the code of x equally often, and the count in x is at least 1,
--- this code doesn't come before the code of y
+-- if the list x ∷ xs and the sorted list y ∷ ys have the same count for the code of x, and the count of x is at least
+-- 1, the code of x doesn't come before the code of y
 not_before : (x y : List ℕ × ℕ) (xs ys : List (List ℕ × ℕ)) → 1 ≤ x.1 → IsStrictlySortedBy (slice_cmp nat_cmp) (keys_of (y ∷ ys))
     → count_of (x ∷ xs) x.0 ≡ count_of (y ∷ ys) x.0 → code_cmp x.0 y.0 ≢ Less
 not_before x y xs ys some order same less =
@@ -143,7 +143,7 @@ same_objects rule profile cells one other good fine h k =
     one_list_of_objects one other h.counted.lawful counted.lawful
     (λ code. h.counted.counts code ∙ ap (λ (list : List (List ℕ)). count_by (is_code code) list) codes ∙ sym (counted.counts code))
 
--- the mark of whether the objects stay for good is unique, too
+-- the mark that says whether the objects stay for good is unique, too
 same_mark : (rule : Numbers) (profile : Settling) (cells : List Cell) (objects : List (List ℕ × ℕ)) (good fine : Bool)
     → IsSettled rule profile cells objects good → IsSettled rule profile cells objects fine → good ≡ fine
 same_mark rule profile cells objects good fine h k =

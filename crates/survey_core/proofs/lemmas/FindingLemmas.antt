@@ -38,14 +38,14 @@ next_checkpoint profile t here within = record {
   within = within;
 }
 
--- if the program's test passes (the stride is at most the limit less t), the next checkpoint is within the limit
+-- if the program's test passes (the stride is at most `limit` - t), the next checkpoint is within the limit
 pub room_for_more : (limit stride l s t : ℕ) → l ≡ limit → s ≡ stride → t ≤ limit → s ≤ l - t → t + stride ≤ limit
 room_for_more limit stride l s t l_is s_is here room = omega arith
 
 pub no_room : (limit stride l s t : ℕ) → l ≡ limit → s ≡ stride → l - t < s → limit < t + stride
 no_room limit stride l s t l_is s_is room = omega arith
 
--- a multiple of the stride that is less than the next multiple after `place` * `stride` is at most `place` * `stride`
+-- if a multiple of the stride comes before (`place` + 1) * `stride`, it is at most `place` * `stride`
 by_place : (stride place other : ℕ) → 1 ≤ stride → other * stride < place * stride + stride
     → (other * stride ≡ place * stride) ⊎ (other * stride < place * stride)
 by_place stride place other some low = elim (eq-or-lt_of_le below) [

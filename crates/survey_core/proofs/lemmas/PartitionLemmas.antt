@@ -80,7 +80,8 @@ length-set_of_le (c ∷ cells) =
 
 -- ---- from disjoint parts to lengths
 
--- if an ordered prefix and a remainder are disjoint, their numbers of cells add up
+-- if an ordered prefix shares no cell with a remainder, their union has as many cells as the prefix and the set of the
+-- remainder together
 prefix_adds : (prefix remainder : List Cell) → InOrder prefix → Disjoint prefix remainder → length (set_of (prefix ++ remainder)) ≡ length prefix + length (set_of remainder)
 prefix_adds [] remainder order apart = omega arith
 prefix_adds (c ∷ cs) remainder order apart =
@@ -95,7 +96,7 @@ prefix_adds (c ∷ cs) remainder order apart =
     or_right true b e = refl
     or_right false b e = e
 
--- a part that is disjoint from each of some parts is disjoint from all of them joined
+-- if a part shares no cell with any of `parts`, it shares none with their joined cells
 apart_from_all : (part : List Cell) (parts : List (List Cell)) → All (Disjoint part) parts → Disjoint part (joined parts)
 apart_from_all part [] apart c h = refl
 apart_from_all part (other ∷ others) apart c h =

@@ -30,7 +30,7 @@ pub within_later : (near far : ℕ) (rule : Numbers) (cells : List Cell) (g : �
     → lies_within far (after rule cells g) ≡ true
 within_later near far rule cells g low within = within_more (near + g) far (after rule cells g) low (within-after rule cells near g within)
 
--- if each of some parts lies within a reach, so do all their cells
+-- if each part lies within a reach, so do the cells of all parts
 pub within_all : (reach : ℕ) (parts : List (List Cell)) → All (λ part. lies_within reach part ≡ true) parts
     → lies_within reach (flat_map (λ part. part) parts) ≡ true
 within_all reach [] each = refl

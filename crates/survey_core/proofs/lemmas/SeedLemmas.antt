@@ -1,4 +1,4 @@
--- Texts without an invisible byte.
+-- Lemmas on seeds: the first invisible byte of a text, the padding with zeros, and why a seed is UTF-8.
 use Rattle.std.proofs.Common.{◌≡◌, refl, ℕ, suc, ◌+◌, ◌≤◌, Bool, true, false, not, List, [], ◌∷◌, position, length, None, Option, Some, Err, nat_le, nat_lt, arith, cond, ◌&&◌}
 use Rattle.std.proofs.Common.{◌∙◌, ◌++◌, ◌-◌, ◌<◌, ap, append_assoc, drop, get_or, replicate, set, sym, take}
 use Rattle.std.specs.List.{list_all, position_from, prefix_len}

@@ -1,4 +1,4 @@
--- The live cells of the square, one place after another. They lie near the origin.
+-- The live cells of a soup's 16 by 16 square, listed one place after another. They lie near the origin.
 use Rattle.std.proofs.Common.{◌≡◌, ◌∙◌, ap, sym, refl, ℕ, zero, suc, ◌+◌, ◌<◌, ◌≤◌, ◌/◌, ◌%◌, Bool, true, false, List, [], ◌∷◌, ◌++◌}
 use Rattle.std.proofs.Common.{filter, map, set, take, length, arith, cond, add-zero, add-one, zero-add, nat_le, All, decimal, eq-or-lt_of_le, inl, inr, pos, subst, unsigned_abs, ◌*◌}
 use Rattle.std.proofs.lemmas.Int.{ints}
@@ -27,7 +27,8 @@ pub live_cells_none : (digest : List ℕ) → live_in_square digest 0 ≡ []
 unfolding live_in_square
 live_cells_none digest = refl
 
--- the live cells at the first n + 1 places are those at the first n places and, if it is alive, the cell at place n
+-- the live cells at the first n + 1 places are those at the first n places, and the cell at place n if that cell is
+-- alive
 one_more : (digest : List ℕ) (n : ℕ) → live_in_square digest (n + 1) ≡ live_in_square digest n ++ map square_cell (cond (is_alive_at digest n) (n ∷ []) [])
 unfolding live_in_square
 one_more digest n =

@@ -23,8 +23,8 @@ pub record IsSpaceship (rule : Numbers) (r : Recurrence) (cells : List Cell) : T
   pub some : 1 ≤ r.period
   pub back : after rule cells r.period ≡ shifted r.dx r.dy cells
 
--- A spaceship that is ahead of everything up to depth m in a diagonal direction: it moves that way by at least one cell
--- in two generations, and begins far enough past m.
+-- A spaceship that is ahead of everything up to depth m in a diagonal direction: on average, its depth grows by at
+-- least 1 in two generations, and all phases of its first period lie far enough past m.
 pub record IsAheadOf (rule : Numbers) (way : Orientation) (m : ℤ) (r : Recurrence) (spaceship : List Cell) : Type 0 where
   pub comes : IsSpaceship rule r spaceship
   pub fast : pos r.period ≤ℤ (pos 2 *ℤ depth (turned_cell way (cell_at r.dx r.dy)))
@@ -39,7 +39,7 @@ SpaceshipsStayAhead = (rule : Numbers) (way : Orientation) (m : ℤ) (r : Recurr
     → IsAheadOf rule way m r spaceship → InOrder cells → LiesUpTo way (m +ℤ pos k) cells → 2 * k ≤ n + 1
     → LieApart (after rule cells g) (after rule spaceship (n + g))
 
--- each of the cells is one of the pattern's
+-- every cell in `cells` is also in `whole`
 abbrev pub IsPartOf : List Cell → List Cell → Type 0
 IsPartOf whole cells = (c : Cell) → has cells c ≡ true → has whole c ≡ true
 

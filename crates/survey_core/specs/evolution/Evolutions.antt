@@ -1,4 +1,4 @@
--- A pattern as it evolves.
+-- A pattern as it evolves: a list of cells, or a board and the spaceships that were removed from it.
 use Rattle.std.specs.Prelude.{◌≡◌, ◌≤◌, List, true}
 use Rattle.plane_core.specs.declared.plane.cell.Cell.{Cell}
 use Rattle.plane_core.specs.plane.Generations.{after, lies_within}
@@ -13,8 +13,8 @@ abbrev pub kept : Numbers → Evolution → List Cell
 kept rule (Listed cells) = cells
 kept rule (Shown split ahead) = after rule (whole_of rule split) ahead
 
--- the pattern is kept within the reach of a survey; a split pattern is run under this rule, and is at most one
--- generation behind
+-- the list, or the whole split pattern, lies within the reach of a survey; a split pattern is run under this rule, and
+-- is at most one generation behind
 abbrev pub IsKept : Numbers → Evolution → Type 0
 IsKept rule (Listed cells) = lies_within survey_reach cells ≡ true
 IsKept rule (Shown split ahead) = IsSplit rule split × (ahead ≤ 1) × (lies_within survey_reach (whole_of rule split) ≡ true)

@@ -50,7 +50,7 @@ pub record AreOff (rule : Numbers) (t : ℕ) (board : List Cell) (spaceships : L
   pub each : All (IsOff rule t board) spaceships
   pub alone : (g : ℕ) → after rule (whole_at rule t board spaceships) g ≡ whole_at rule (t + g) (after rule board g) spaceships
 
--- the spaceship's numbers are small, so that its cells can be computed at any time of a survey
+-- the spaceship's numbers are small, so that its cells can be computed for any time of a survey
 pub record HasSmallNumbers (spaceship : Spaceship) : Type 0 where
   pub near : lies_within survey_reach spaceship.cells ≡ true
   pub period : spaceship.recurrence.period ≤ 64

@@ -22,6 +22,6 @@ clusters_of list = map (λ alone. alone.cluster) list
 abbrev pub latest_of : List Alone → List (List Cell)
 latest_of list = map (λ alone. alone.latest) list
 
--- the cluster at place n, as it is now, lies more than two cells apart from each of the first m clusters
+-- the cluster at place n is now more than two cells away from each of the first m clusters
 abbrev pub LiesApartFrom : ℕ → ℕ → List Alone → Type 0
 LiesApartFrom n m list = (i : ℕ) (d : Alone) → i < m → LieApart (get_or list i d).latest (get_or list n d).latest

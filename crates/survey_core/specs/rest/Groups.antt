@@ -26,8 +26,8 @@ abbrev pub GroupsStayApart : Numbers → List ℕ → List (List Cell) → ℕ �
 GroupsStayApart rule groups parts n = (i j : ℕ) (d : List Cell) (g : ℕ) → i < length parts → j < length parts → get_or groups i 0 ≢ get_or groups j 0
     → g ≤ n → LieApart (after rule (get_or parts i d) g) (after rule (get_or parts j d) g)
 
--- up to generation n, the parts of group k, each run alone, share no cell, and together they are their union run as one
--- pattern
+-- up to generation n, the parts of group k, each run alone, share no cell, and together they are the same as their
+-- union, run as one pattern
 abbrev pub GroupKeeps : Numbers → List ℕ → List (List Cell) → ℕ → ℕ → Type 0
 GroupKeeps rule groups parts n k = (g : ℕ) → g ≤ n → KeepApart rule (union_of (members k groups parts)) (members k groups parts) g
 

@@ -12,7 +12,7 @@ use Rattle.survey_core.specs.rest.Rest.{IsAtRest}
 abbrev pub is_known : List Bool → ℕ → Bool
 is_known known_restless t = get_or known_restless (t % 2) false
 
--- a pattern that has these cells in generation t isn't at rest in generation t, or in any later generation, if
--- `is_known` is true for that generation
+-- a pattern that has these cells in generation t isn't at rest in any generation, from t on, for which `is_known` is
+-- true
 abbrev pub AreKnownRestless : Numbers → Settling → List Cell → ℕ → List Bool → Type 0
 AreKnownRestless rule profile cells t known_restless = (n : ℕ) → is_known known_restless (t + n) ≡ true → ¬ IsAtRest rule profile (after rule cells n)

@@ -17,7 +17,7 @@ abbrev pub times : ℕ → ℤ → ℤ
 times zero d = pos 0
 times (suc n) d = times n d +ℤ d
 
--- the envelope of a pattern: how it recurs, and a box in which it lies in each generation of its period
+-- the envelope of a pattern: how the pattern recurs, and a box in which it lies in each generation of its first period
 pub record IsEnvelope (rule : Numbers) (limit : ℕ) (cells : List Cell) (envelope : EnvelopeBounds) : Type 0 where
   pub in_order : InOrder cells
   pub recurs : Recurs rule cells limit envelope.recurrence
@@ -37,8 +37,8 @@ Serves period envelope = (period ≡ envelope.recurrence.period) ⊎ ((envelope.
 abbrev pub is_past : ℤ → ℤ → ℤ → ℤ → Bool
 is_past end t begin s = int_lt ((end +ℤ t) +ℤ pos 2) (begin +ℤ s)
 
--- the sides of box `one` beyond which box `other`, moved by (x, y), lies, with at least two columns or rows between the
--- boxes
+-- for each side of box `one`: whether box `other`, moved by (x, y), lies beyond this side, with at least two columns or
+-- rows between the boxes
 abbrev pub gaps_of : Bounds → Bounds → ℤ → ℤ → Gaps
 gaps_of one other x y = record {
   right = is_past one.right (pos 0) other.left x;
@@ -59,7 +59,7 @@ gap_stays gaps dx dy = gaps.right && int_le (pos 0) dx || gaps.left && int_le dx
 abbrev pub is_clear : Bounds → Bounds → ℤ → ℤ → Bool
 is_clear one other x y = is_gap (gaps_of one other x y)
 
--- the boxes, moving with their patterns, are clear of each other at the beginning of each of this many cycles
+-- the boxes, moving with their patterns, are clear of each other at the beginning of each of the first `cycles` cycles
 abbrev pub StayClear : ℕ → EnvelopeBounds → EnvelopeBounds → Type 0
 StayClear cycles one other = (n : ℕ) → n < cycles → is_clear one.bounds other.bounds (times n (other.recurrence.dx -ℤ one.recurrence.dx))
     (times n (other.recurrence.dy -ℤ one.recurrence.dy)) ≡ true
@@ -73,7 +73,7 @@ StayApart horizon one other = (rule : Numbers) (limit : ℕ) (cells others : Lis
 abbrev pub IsStillLife : EnvelopeBounds → Type 0
 IsStillLife envelope = (envelope.recurrence.period ≡ 1) × (envelope.recurrence.dx ≡ pos 0) × (envelope.recurrence.dy ≡ pos 0)
 
--- if generation p is the pattern moved by (dx, dy), generation n * p + r is generation r moved n times as far
+-- if generation p is the pattern moved by (dx, dy), generation n * p + r is generation r moved n times by (dx, dy)
 abbrev pub SpaceshipsMoveByCycles : Type 0
 SpaceshipsMoveByCycles = (rule : Numbers) (cells : List Cell) (p : ℕ) (dx dy : ℤ) → InOrder cells → after rule cells p ≡ shifted dx dy cells → (n r : ℕ)
     → after rule cells (n * p + r) ≡ shifted (times n dx) (times n dy) (after rule cells r)

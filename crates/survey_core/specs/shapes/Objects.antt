@@ -1,4 +1,4 @@
--- Objects by their codes, with how many there are of each, and whether they stay for good.
+-- How many objects there are of each apgcode, and whether the objects stay for good.
 use Rattle.std.specs.Prelude.{◌≡◌, ◌≢◌, ◌*◌, ◌+◌, ◌≤◌, ℕ, Bool, List, All, IfSome, count_by, sum, unwrap_or, if◌then◌else◌}
 use Rattle.std.specs.Cmp.Lexicographic.{slice_cmp}
 use Rattle.std.specs.List.{AllZip}

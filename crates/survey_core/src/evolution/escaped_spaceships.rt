@@ -39,8 +39,8 @@ use plane_core::plane::rule::Rule;
 use plane_core::plane::transform::PlaceError;
 use std::alloc::Global;
 
-/// If the memo doesn't know a part of a board, the part is skipped if a test shows that it doesn't recur within this
-/// many generations. Nearly all spaceships that soups of Life leave recur within four generations.
+/// A part of a board whose shape the memo doesn't know is skipped if a test shows that the part doesn't recur within
+/// this many generations. Nearly all spaceships that soups of Life leave recur within four generations.
 const SHORT: u32 = 8;
 
 /// A spaceship that was removed from a board.
@@ -160,8 +160,8 @@ fn begins_past(way: Orientation, frontier: i32, envelope: &EnvelopeBounds) -> bo
     twice_least(frontier, recurrence.period) <= 2 * least_depth(way, bounds)
 }
 
-/// Returns twice the depth that each cell of a spaceship with this period must have at least, so that the spaceship is
-/// ahead of everything up to the frontier.
+/// Returns twice the smallest depth that suffices for a spaceship with this period: if all cells of its phases are at
+/// least so deep, the spaceship is ahead of everything up to the frontier.
 fn twice_least(frontier: i32, period: u32) -> i64
     ensures { result ≡ ((pos 2 *ℤ frontier) +ℤ pos (period + 10)) }
 {
@@ -196,8 +196,8 @@ fn sum(one: i32, other: i32) -> i64
     i64::from(one) + i64::from(other)
 }
 
-/// Returns the cells of the spaceship at `time`. The spaceship is run only for the generations that are left after
-/// whole periods, and displaced for the whole periods.
+/// Returns the cells of the spaceship at `time`. The spaceship is displaced once for each whole period since its
+/// removal, and run only for the remaining generations.
 pub(crate) fn at_time(
     alloc: Global,
     rule: &Rule,

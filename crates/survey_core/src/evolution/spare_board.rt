@@ -16,7 +16,7 @@ use std::alloc::Global;
 /// A board for the next pattern.
 #[derive(Drop)]
 pub(crate) struct SpareBoard {
-    /// The board, or `None` if none was made yet or a pattern is on it.
+    /// The board, or `None` if a pattern is on it or the next board isn't made yet.
     board: Option<Board>,
     /// The size of the next board that is made.
     size: Size,
@@ -27,7 +27,7 @@ pub(crate) struct SpareBoard {
 enum Size {
     /// A board that is quick to make, and has room for most patterns.
     Small,
-    /// A larger board, for all patterns once a pattern had no room on a small board.
+    /// A larger board, which is made once a pattern had no room on a small board.
     Large,
 }
 

@@ -7,8 +7,8 @@
 //! spaceships                              the glider, since 404     the glider, since 404
 //! ```
 //!
-//! The board advances by even numbers of generations only: in n generations, the rest gets at most n / 2 cells nearer
-//! to a spaceship, rounded up, and for odd numbers of generations, the roundings would add up.
+//! The board advances by even numbers of generations only. In n generations, the greatest depth (column plus row) of
+//! the rest grows by at most n / 2, rounded up. For odd numbers of generations, the roundings would add up.
 
 ghost use Rattle.std.specs.Prelude.{◌≡◌, ◌+◌, ◌≤◌, All, IfOk, OnOk, false, true};
 ghost use Rattle.plane_core.specs.plane.Frontiers.{is_slow};

@@ -5,8 +5,8 @@
 //!
 //! ```text
 //! cluster    first    latest, after 1, 2, 3 .. generations
-//! OOO        .O.      .O.    OOO    .O.
 //!            .O.      .O.           .O.
+//! OOO        .O.      .O.    OOO    .O.
 //!            .O.      .O.           .O.
 //! ```
 ghost use Rattle.std.specs.Prelude.{◌≡◌, ◌↔◌, ◌<◌, ◌≤◌, All, AllPairs, IfNone, IfOk, IfSome, IsTrue, List, OnOk, length, map, true};
@@ -87,8 +87,8 @@ pub(crate) fn have_recurred(clusters: &[Alone]) -> bool
     true
 }
 
-/// Returns `true` only if any two of the clusters are now more than two cells apart. `false` says nothing. If there are
-/// more than `MOST_COMPARED` clusters, the result is `false`.
+/// Returns `true` only if all clusters are now more than two cells apart from each other. `false` says nothing. If
+/// there are more than `MOST_COMPARED` clusters, the result is `false`.
 pub(crate) fn lie_apart(clusters: &[Alone]) -> bool
     ensures { IsTrue result → AllPairs LieApart (latest_of clusters.now) }
 {
@@ -133,7 +133,7 @@ fn are_apart(one: &Pattern, other: &Pattern) -> bool
     are_cells_apart(one.cells(), other.cells())
 }
 
-/// Checks whether each of the cells is at king distance 3 or more from each of the others.
+/// Checks whether each cell of `cells` is at king distance 3 or more from each cell of `others`.
 fn are_cells_apart(cells: &[Cell], others: &[Cell]) -> bool
     ensures { IsTrue result → LieApart cells.now others.now }
 {
@@ -146,7 +146,7 @@ fn are_cells_apart(cells: &[Cell], others: &[Cell]) -> bool
     true
 }
 
-/// Checks whether the cell is at king distance 3 or more from each of the others.
+/// Checks whether the cell is at king distance 3 or more from each cell of `others`.
 fn is_apart(cell: Cell, others: &[Cell]) -> bool
     ensures { IsTrue result → All (λ other. 3 ≤ king_distance cell other) others.now }
 {

@@ -1,13 +1,12 @@
 //! Clusters that may come near each other are in the same group, and each group is run by itself. At first each cluster
-//! is a group of its own, whose number is the cluster's place in the list. For each two clusters that may come near
-//! each other, their groups become one. In this example, clusters 1 and 3 may come near each other, and so may clusters
-//! 3 and 0:
+//! is a group of its own, whose number is the cluster's place in the list. If two clusters may come near each other,
+//! their groups become one. In this example, clusters 3 and 0 may come near each other, and so may clusters 3 and 1:
 //!
 //! ```text
 //! clusters    block   glider   block   blinker
 //! at first    0       1        2       3
-//! 1 and 3     0       1        2       1
-//! 3 and 0     0       0        2       0
+//! 3 and 0     0       1        2       0
+//! 3 and 1     1       1        2       1
 //! ```
 //!
 //! A cluster that is alone in its group isn't run.
@@ -45,8 +44,8 @@ pub(crate) fn groups(
     Ok(groups)
 }
 
-/// Joins the group of the cluster at `place` with the group of each cluster before it that it may meet.
-// This isn't inlined: in an inlined loop, the compiler would spill what the loop needs for each pair.
+/// Compares the cluster at `place` with each cluster before it, and joins the groups of the two if they may meet.
+// This isn't inlined, because the compiler would then spill registers that the loop needs for each pair.
 #[inline(never)]
 fn join(horizon: u32, envelopes: &[EnvelopeBounds], place: usize, groups: &mut [usize])
     requires horizon { horizon ≤ 4096 }

@@ -11,8 +11,8 @@
 //!
 //! Two clusters stay apart if their envelopes, one of them grown by 2, have no cell in common in any cycle up to the
 //! horizon. Only the displacement of one envelope relative to the other counts. Once an envelope is past a side of the
-//! other and doesn't come back to that side, they never meet, and later cycles aren't tested. A cluster that recurs in
-//! place may have cycles of any length. Two clusters that move with different periods are assumed to come near each
+//! other and doesn't come back to that side, they never meet, and later cycles aren't tested. For a cluster that recurs
+//! in place, a cycle may have any length. Two clusters that move with different periods are assumed to come near each
 //! other, and are run. Two still lifes stay apart even if their boxes overlap, since clusters are apart at first, and
 //! still lifes never change.
 
@@ -118,9 +118,9 @@ fn is_still_life(envelope: &EnvelopeBounds) -> bool
     envelope.recurrence.period == 1 && is_still(envelope)
 }
 
-/// Checks whether there are at least two empty columns or rows between the boxes. It is first tested whether `other`
-/// lies above `one`: clusters are ordered by their first rows, so this is nearly always so for an earlier cluster
-/// `other`.
+/// Checks whether there are at least two empty columns or rows between the boxes. The first test is whether `other`
+/// lies above `one`. If `other` is an earlier cluster, it nearly always does, since clusters are ordered by their first
+/// rows.
 pub(crate) fn are_boxes_apart(one: Bounds, other: Bounds) -> bool
     ensures { result ≡ is_clear one other (pos 0) (pos 0) }
 {
@@ -230,7 +230,7 @@ pub(crate) fn difference(one: i32, other: i32) -> i64
     i64::from(other) - i64::from(one)
 }
 
-/// The sides of a box beyond which another box lies, with at least two empty columns or rows between the boxes.
+/// For each side of a box: whether another box lies beyond this side, with at least two empty columns or rows between.
 #[derive(Clone, Copy)]
 struct Gaps {
     right: bool,
@@ -240,7 +240,7 @@ struct Gaps {
 }
 
 impl Gaps {
-    /// Returns the sides of `one` beyond which `other`, moved by `offset`, lies.
+    /// Returns beyond which sides of `one` the box `other` lies, if `other` is moved by `offset`.
     fn between(one: Bounds, other: Bounds, offset: Offset) -> Gaps
         requires across { unsigned_abs offset.x ≤ 2 ^ 46 }
         requires down { unsigned_abs offset.y ≤ 2 ^ 46 }
@@ -291,8 +291,8 @@ fn two_past(at: i64) -> i64
     at + 2
 }
 
-/// The law of a pattern that recurs after p generations, with some displacement: after n * p + r generations, it is
-/// what it is after r generations, moved by n times the displacement.
+/// The law of a pattern that recurs after p generations, with some displacement: its generation n * p + r is its
+/// generation r, moved by n times the displacement.
 #[tactic(auto, using(crate::proofs::lemmas::shapes::EnvelopeLemmas::after_cycles))]
 pub fn spaceships_move_by_cycles()
     ensures { SpaceshipsMoveByCycles }

@@ -240,8 +240,8 @@ impl Memo {
         Ok(Some(envelope))
     }
 
-    /// Names a pattern with this cycle, and keeps what is known of it in its slot. Does nothing if the pattern is
-    /// large, or if the memo has no slots.
+    /// Names `pattern`, whose cycle is `cycle`, and keeps what is known of it in its slot. Does nothing if the pattern
+    /// is large, or if the memo has no slots.
     fn keep(
         &mut self,
         alloc: Global,
@@ -285,8 +285,8 @@ impl Memo {
         self.recalled(rule, limit, pattern).is_some()
     }
 
-    /// Returns the envelope of a pattern: the envelope of the shape that is kept, moved. Returns `None` if the pattern
-    /// isn't remembered, or if the numbers of its envelope don't fit in 32 bits.
+    /// Returns the envelope of a pattern: the envelope of the shape that is kept, moved to the pattern. Returns `None`
+    /// if the pattern isn't remembered, or if the numbers of its envelope don't fit in 32 bits.
     fn recalled_envelope(
         &self,
         rule: &Rule,

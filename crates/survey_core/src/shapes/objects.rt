@@ -21,8 +21,8 @@ use std::alloc::Global;
 use std::collections::BTreeMap;
 use std::marker::Model;
 
-/// The objects of a finding: their apgcodes in ASCII order, each once. With each apgcode is the number of objects that
-/// have it, which is at least 1.
+/// The objects of a finding: their apgcodes in ASCII order, each once, and each with the number of objects that have
+/// it, which is at least 1.
 #[derive(Debug, Drop)]
 pub struct Objects {
     counted: Vec<(Apgcode, u64)>,

@@ -2,8 +2,8 @@
 use plane_core::plane::pattern::Pattern;
 
 /// Returns the number of the slot in which a pattern belongs, below `slots`, or 0 if there are no slots. The number is
-/// a hash of the cells relative to the first cell. The multiplier of the hash is the odd number next to 2^64 divided by
-/// the golden ratio, which spreads numbers that differ in few bits.
+/// a hash of the cells relative to the first cell. The multiplier of the hash is the odd number nearest to the quotient
+/// of 2^64 and the golden ratio. It spreads numbers that differ in few bits.
 pub(crate) fn slot_of(pattern: &Pattern, slots: usize) -> usize {
     let cells = pattern.cells();
     let Some(first) = cells.first() else {

@@ -1,7 +1,7 @@
 use Rattle.std.proofs.Common.{◌∙◌, ap, length}
 use Rattle.timing.proofs.cluster_count.Goals as goal
 
--- a pattern has only one list of clusters, so its length is the number of the pattern's clusters
+-- a pattern has only one list of clusters, so `clusters` is the list whose length the function returns
 pub returns : goal.returns
 returns c = λ clusters are.
     c.len.ensures

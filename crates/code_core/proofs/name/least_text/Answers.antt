@@ -7,7 +7,7 @@ use Rattle.code_core.specs.Least.{Among, IsImage, IsImageAt, IsImageOf}
 use Rattle.code_core.proofs.LeastLemmas.{least_of_all, least_of_more}
 use Rattle.code_core.proofs.name.least_text.Goals as goal
 
--- the earlier of the least text so far and the least text of one more phase is the least text, including that phase
+-- the least text after one more phase is the earlier of two texts: the least text so far, and that phase's least text
 pub loop-phase-preserved : goal.loop-phase-preserved
 loop-phase-preserved c =
     let low : c.loop-phase.phase-index < length c.args.phases.now = search rules in

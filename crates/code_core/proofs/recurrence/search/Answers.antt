@@ -23,7 +23,7 @@ returns-in_err-next c =
     ))
     (sym c.touches_edge.ensures ∙ c.if-touches_edge.false)
 
--- if the next generation is the pattern again, the recurrence has the displacement that was found
+-- if the next generation is the pattern again, the search ends with the recurrence of the pattern
 pub returns-in-Some : goal.returns-in-Some
 returns-in-Some c =
     let rule = c.args.rule.now in

@@ -4,7 +4,7 @@ use Rattle.pattern_commands.specs.Streams.{stream}
 use Rattle.commands.specs.WorkSteps.{Puts, reports_on}
 use Rattle.commands.proofs.work.put_range.Given as goal
 
--- the reports on the numbers of the range below the current one were written
+-- the reports on all numbers of the range that are below the current number were written
 abbrev pub invariant-loop-number : goal.invariant-loop-number
 invariant-loop-number g l =
     Puts (reports_on l.fn.job l.fn.worker (range_with_len l.fn.range.first (l.number - l.fn.range.first))) (Ok tt)

@@ -1,4 +1,4 @@
-//! Joins two hauls. The joined haul is made beside them, so both are unchanged if memory runs out.
+//! Joins two hauls. The joined haul is built as a third haul, so the two are unchanged if memory runs out.
 
 ghost use Rattle.std.specs.Prelude.{◌≡◌, ◌++◌, List, IfErr, IfNone, IfOk, IfSome, OnOk, map, nat_eq};
 ghost use Rattle.std.specs.List.{IsDistinct};

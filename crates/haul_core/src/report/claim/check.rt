@@ -32,16 +32,16 @@ pub enum CheckError {
 }
 
 impl Claim {
-    /// Turns the claim into a report if the claim is of this job and agrees with the finding of its soup, which is
-    /// surveyed for this. A claim of version 1 doesn't say whether the objects stay for good, so only the rest of the
-    /// finding is compared.
+    /// Turns the claim into a report if the claim is of this job and agrees with the finding of its soup. To get this
+    /// finding, the soup is surveyed. A claim of version 1 doesn't say whether the objects stay for good, so only the
+    /// rest of the finding is compared.
     ///
     /// # Errors
     ///
     /// The claim, unchanged, and the first of these that holds:
     ///
     /// - [`CheckError::OtherJob`] if the claim has another seed, profile or rule.
-    /// - [`CheckError::Memory`] if memory runs out, before anything is compared.
+    /// - [`CheckError::Memory`] if memory runs out while the soup is surveyed.
     /// - [`CheckError::Disagrees`] with the finding, if the claim says something else.
     pub fn check(self, alloc: Global, job: &Job) -> Result<Report, (Claim, CheckError)>
         ensures { IsCheckedClaim self job.now result }

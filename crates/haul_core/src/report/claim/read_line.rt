@@ -21,7 +21,7 @@ use std::alloc::Global;
 use std::fmt;
 use thiserror::Error;
 
-/// Why a line can't be read as a claim. `census gather` prints a text of its own for a bad line.
+/// Why a line can't be read as a claim. `census gather` doesn't show this message, but a diagnostic of its own.
 #[derive(Clone, Copy, PartialEq, Eq, Error)]
 pub enum LineError {
     /// The field that begins at `place` isn't allowed there, or a field is missing at the end of the line. Places count

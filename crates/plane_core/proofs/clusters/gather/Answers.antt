@@ -8,7 +8,7 @@ use Rattle.plane_core.specs.clusters.UnionFind.{IsGatheringCells, cell_of, paren
 use Rattle.plane_core.proofs.lemmas.clusters.GatherLemmas.{gathering-begun, gathering-grown, number_is_inside, parent_inside, pattern_grown, pattern-root}
 use Rattle.plane_core.proofs.clusters.gather.Goals as goal
 
--- appending a cell to an empty list gives the cluster of this cell
+-- appending a cell to an empty list gives the list with only this cell
 one_cell : (first new : List Cell) (cell : Cell) → first ≡ [] → new ≡ first ++ cell ∷ [] → new ≡ cell ∷ []
 one_cell first new cell none is = is ∙ ap (λ (cs : List Cell). cs ++ cell ∷ []) none
 
@@ -40,7 +40,7 @@ offset_bounds-parents-parent c =
     let long : Fits w64 (length c.args.parents.now * 8) = search rules in
     omega (arith, most, c.requires.place, c.requires.gathering.size, long)
 
--- the number of the parent's cluster is below the number of clusters
+-- the number of the parent's cluster is a valid index into the list of clusters
 pub index_mut-requires : goal.index_mut-requires
 index_mut-requires c =
     let number = number_is_inside c.args.cells.now c.args.parents.now c.args.clusters.now.items c.args.place c.requires.place c.requires.gathering

@@ -27,7 +27,7 @@ linked_law cells = record { itself = linked-itself cells; back = linked-sym cell
 cluster-has : (cells cluster : List Cell) (c : Cell) → IsCluster cells cluster → has cluster c ≡ true → has cells c ≡ true
 cluster-has cells cluster c is h = linked-has cells is.start c ((is.members c).0 h)
 
--- two clusters with linked cells are equal
+-- two clusters are equal if a cell of one is linked to a cell of the other
 same_cluster : (cells a b : List Cell) (c d : Cell) → IsCluster cells a → IsCluster cells b → has a c ≡ true → has b d ≡ true → Linked cells c d → a ≡ b
 same_cluster cells a b c d p q h k l =
     same_lists a b p.in_order q.in_order

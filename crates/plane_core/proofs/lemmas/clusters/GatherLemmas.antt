@@ -19,7 +19,8 @@ use Rattle.plane_core.proofs.lemmas.clusters.UnionFindLemmas.{has-cell_of, in_pl
 
 -- ---- the cells that have a number
 
--- appending the number n adds the cell at the new place; appending another number adds nothing
+-- if n is appended to the numbers, the cell at the new place is added to the cells with the number n; if another number
+-- is appended, no cell is added
 numbered-push : (n m : ℕ) (ms : List ℕ) (cs : List Cell) → length ms < length cs
     → numbered n (ms ++ m ∷ []) cs ≡ numbered n ms cs ++ cond (m == n) (cell_of cs (length ms) ∷ []) []
 numbered-push n m ms [] low = absurd (omega arith)
@@ -376,7 +377,8 @@ walk cells numbers n size alike (e ∷ es) k d low is leads =
     walk cells numbers n size alike es p.0 d p.1 (sym (alike k p.0 low p.1 close) ∙ is)
     (subst (λ (x : Cell). Leads cells x es d) (sym p.2) leads.2)
 
--- once all places are passed, the clusters are those of the pattern, if the forest joins any two places near each other
+-- once all places are passed, `clusters` are the clusters of the pattern, if the forest joins any two places whose
+-- cells are near each other
 pub gathered_all : (cells : List Cell) (parents numbers : List ℕ) (clusters : List (List Cell)) (place : ℕ) → InOrder cells → IsForest cells parents
     → JoinsAll cells parents (length cells) → length cells ≤ place → ArePutInClusters cells parents numbers clusters place → AreClusters cells clusters
 gathered_all cells parents numbers clusters place o f joins all g = record {
@@ -446,7 +448,7 @@ number_inside cells parents numbers clusters place n f low branch is g =
 -- the iteration that gives a number to `place`
 module _ (cells : List Cell) (parents : List ℕ) (clusters : List (List Cell)) (place : ℕ) (low : place < length cells)
     (g : IsGatheringCells cells parents clusters place) where
-  -- `parents` still has the parent of `place` in the forest
+  -- the parent of `place` in `parents` is still its parent in the forest
   leads : parent_of g.forest place ≡ parent_of parents place
   leads =
       let here : place ≡ place + 0 = omega arith in
@@ -499,7 +501,7 @@ module _ (cells : List Cell) (parents : List ℕ) (clusters : List (List Cell)) 
       (gathering-other cells g.forest (take place parents) clusters place _ p.in_order g.is_forest low (λ e. branch (sym leads ∙ e)) (number_there branch)
       g.passed))) told
 
--- an empty list of numbers and an empty list of clusters are right before the first place
+-- at the first place, `ArePutInClusters` holds for an empty list of numbers and an empty list of clusters
 gathering-none : (cells : List Cell) (parents numbers : List ℕ) (clusters : List (List Cell)) → numbers ≡ [] → clusters ≡ []
     → ArePutInClusters cells parents numbers clusters 0
 gathering-none cells parents numbers clusters none empty =

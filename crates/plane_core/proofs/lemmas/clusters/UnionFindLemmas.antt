@@ -47,8 +47,8 @@ pub record AreJoined (old new : List ℕ) (one other : ℕ) : Type 0 where
   pub keeps : Keeps old new
   pub joined : Joined new one other
 
--- making the root `later` lead to the place `first`, which isn't after it, joins the trees of `one` and `other`, if one
--- of these trees has `later` and the other has `first`
+-- Making the root `later` lead to the place `first` joins the trees of `one` and `other`, if one of these trees has
+-- `later` and the other has `first`. The place `first` isn't after `later`.
 hangs : (parents : List ℕ) (later first one other : ℕ) → first ≤ later → later < length parents → parent_of parents later ≡ later
     → ((label : ℕ → ℕ) → Labels parents label → label first ≡ label later → label one ≡ label other)
     → ((cells : List Cell) → IsForest cells parents → Linked cells (cell_of cells one) (cell_of cells other) → Linked cells (cell_of cells later) (cell_of cells first))
@@ -146,7 +146,7 @@ before_cases a b e = rows (int_cmp a.y b.y) (int_ranks a.y b.y) e
     rows Equal is e = inr (is, columns (int_cmp a.x b.x) (int_ranks a.x b.x) e)
     rows Greater is e = cc
 
--- a cell near d, in the row `dy` rows below d, doesn't come before the cell two columns left of d in that row
+-- if c is near d and is `dy` rows below d, c doesn't come before the cell of its row that is two columns left of d
 not_left : (c d : Cell) (dy : ℤ) → c.y ≡ (d.y +ℤ dy) → king_distance c d ≤ 2 → cell_cmp c (moved_by (negsuc 1) dy d) ≢ Less
 not_left c d dy row near e = elim (before_cases c (moved_by (negsuc 1) dy d) e) [
   | inl above ↦ let up : c.y <ℤ (d.y +ℤ dy) = above in absurd (omega (arith, ints, up, row))
@@ -156,7 +156,7 @@ not_left c d dy row near e = elim (before_cases c (moved_by (negsuc 1) dy d) e) 
       absurd (omega (arith, ints, far, most))
 ]
 
--- a cell near d, in the row `dy` rows below d, doesn't come after the cell two columns right of d in that row
+-- if c is near d and is `dy` rows below d, c doesn't come after the cell of its row that is two columns right of d
 not_right : (c d : Cell) (dy : ℤ) → c.y ≡ (d.y +ℤ dy) → king_distance c d ≤ 2 → cell_cmp (moved_by (pos 2) dy d) c ≢ Less
 not_right c d dy row near e = elim (before_cases (moved_by (pos 2) dy d) c e) [
   | inl above ↦ let up : (d.y +ℤ dy) <ℤ c.y = above in absurd (omega (arith, ints, up, row))
@@ -248,9 +248,9 @@ same_rows cells rows place o some low level r = record {
       ];
     }
 
--- at the first place of a row, if `begin` is the first place at most two rows above it, and `end` the first place at
--- most one row above it, the places from `begin` to before `end` are the row two above it, and the places from `end` to
--- before `place` are the row just above it
+-- If `place` is the first place of its row, the places from `end` to before `place` are the row just above, and the
+-- places from `begin` to before `end` are the row above that. Here `begin` is the first place whose cell is at most two
+-- rows above `place`, and `end` is the first place whose cell is at most one row above `place`.
 pub new_rows : (cells : List Cell) (rows : RowsAbove) (place begin end : ℕ) → InOrder cells → 0 < place → place < length cells
     → (cell_of cells (place - 1)).y ≢ (cell_of cells place).y → AreRowsAbove cells rows (place - 1) → rows.begin ≤ begin → begin ≤ place
     → ((k : ℕ) → rows.begin ≤ k → k < begin → (cell_of cells k).y <ℤ ((cell_of cells place).y +ℤ negsuc 1))
@@ -369,8 +369,8 @@ past_scan cells row place at from to is end least right less = elim (cases_lt at
   | inr outside ↦ let under = is.later at outside less in before_up to (cell_of cells at) (omega (arith, ints, under, end))
 ]
 
--- if the cell b just before `place` is near it and in the same row, b bridges each cell near `place` that is in a
--- higher row and less than three columns right of b
+-- Let the cell b just before `place` be near `place` and in the same row. Then b bridges `place` and each cell near
+-- `place` that is in a higher row and less than three columns right of b.
 pub bridged : (cells : List Cell) (place : ℕ) → 1 ≤ place → InOrder cells → place < length cells
     → (cell_of cells (place - 1)).y ≡ (cell_of cells place).y → king_distance (cell_of cells (place - 1)) (cell_of cells place) ≤ 2
     → IsFresh cells ((cell_of cells (place - 1)).x +ℤ pos 3) place
@@ -443,8 +443,8 @@ between c b d first second row near = go (before_cases c b first) (before_cases 
         let even : distance b.y d.y ≤ 2 = omega (arith, ints, right.0) in
         (omega (arith, west, level), omega (arith, east, even))
 
--- if the place just before `place` is joined with it when the two are in the same row and need to be joined, so is each
--- k with k + 1 ≡ place
+-- A law about the place just before `place`, restated for each k with k + 1 ≡ place: if k is in the row of `place` and
+-- needs to be joined with `place`, the two are joined.
 pub joins_before : (cells : List Cell) (parents : List ℕ) (place : ℕ)
     → ((cell_of cells (place - 1)).y ≡ (cell_of cells place).y → NeedsJoin cells (place - 1) place → Joined parents (place - 1) place)
     → (k : ℕ) → k + 1 ≡ place → (cell_of cells k).y ≡ (cell_of cells place).y → NeedsJoin cells k place → Joined parents k place
@@ -486,8 +486,8 @@ joins_rows cells a b c place o low first second here above top k less need =
     go (inr (inl row)) = joined-kept b c k place second (above k less (left (negsuc 0) row) (right (negsuc 0) row) need)
     go (inr (inr row)) = top k less (left (negsuc 1) row) (right (negsuc 1) row) need
 
--- if the earlier places that need to be joined with `place` are joined with it, then all earlier places near it are:
--- the place just before it joins the others
+-- if all earlier places that need to be joined with `place` are joined with it, so are all other earlier places near
+-- `place`: the place just before `place` joins them with it
 pub joins_near : (cells : List Cell) (old new : List ℕ) (place : ℕ) → Keeps old new → JoinsAll cells old place
     → ((k : ℕ) → k < place → NeedsJoin cells k place → Joined new k place)
     → (k : ℕ) → k < place → king_distance (cell_of cells k) (cell_of cells place) ≤ 2 → Joined new k place
@@ -592,8 +592,8 @@ not_left_of cells row place first at from o low is least more inside right = eli
       subst (λ (n : ℕ). from.x ≤ℤ (cell_of cells n).x) same (right (omega (arith, same, inside)))
 ]
 
--- if any two places before `place` that are near each other are joined, and `place` is joined with those near it, any
--- two places up to `place` that are near each other are joined
+-- if any two near places before `place` are joined, and each earlier place near `place` is joined with it, then any two
+-- near places up to `place` are joined
 pub joins_more : (cells : List Cell) (old new : List ℕ) (place : ℕ) → Keeps old new → JoinsAll cells old place
     → ((k : ℕ) → k < place → king_distance (cell_of cells k) (cell_of cells place) ≤ 2 → Joined new k place) → JoinsAll cells new (place + 1)
 joins_more cells old new place keeps before here j k less low near = elim (cases_eq k place) [

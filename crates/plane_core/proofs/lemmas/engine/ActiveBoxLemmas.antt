@@ -114,7 +114,7 @@ pub any_pushed : {X : Type 0} (P : X → Type 0) (xs new : List X) (y : X) → n
 any_pushed {X} P xs new y is (inl some) = subst (λ (zs : List X). Any P zs) (sym is) (any_kept P xs y some)
 any_pushed {X} P xs new y is (inr here) = subst (λ (zs : List X). Any P zs) (sym is) (Any-push P xs y here)
 
--- an element with the property among the first n + 1 is among the first n or is the last of them
+-- if one of the first n + 1 elements has the property, then one of the first n elements has it, or element n has it
 pub any_take_more : {X : Type 0} (P : X → Type 0) (xs : List X) (n : ℕ) (d : X) → n < length xs → Any P (take (n + 1) xs)
     → Any P (take n xs) ⊎ P (get_or xs n d)
 any_take_more {X} P xs n d less some = either (less_or_not some.0 n)
@@ -263,7 +263,7 @@ widened_sides n c b e h = record {
 
 -- ---- boxes around differences
 
--- the boxes hold each inner cell of the first n windows in which the patterns differ
+-- if the two patterns differ in an inner cell of one of the first n windows, the cell is in one of the boxes
 abbrev pub HoldFirst : ℕ → List LeapWindow → List Cell → List Cell → List Bounds → Type 0
 HoldFirst n places one other boxes = (k : ℕ) (p : LeapWindow) (c : Cell) → k < n → IsInnerCell (get_or places k p) c → has one c ≢ has other c
     → IsInOne boxes c

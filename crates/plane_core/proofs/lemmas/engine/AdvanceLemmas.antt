@@ -78,7 +78,8 @@ odd_or_even n = go (same_or_not (n % 2) 0)
     go (inl even) = inl even
     go (inr odd) = inr (omega arith)
 
--- if the boxes are right and the windows cover them, a leap doesn't change cells outside all inner parts
+-- if the boxes are right for a leap and the windows cover them, the leap changes no cell outside the inner parts of the
+-- windows
 pub still_for_leap : (rule : Numbers) (S : List Cell) (boxes : List Bounds) (places : List LeapWindow) (n : ℕ) → InOrder S → AreRightFor rule S boxes n
     → AreCovered places boxes → 1 ≤ n → n ≤ 4 → IsStillOutside rule places S n
 still_for_leap rule S boxes places n o right covered low high = elim (odd_or_even n) [
@@ -86,7 +87,8 @@ still_for_leap rule S boxes places n o right covered low high = elim (odd_or_eve
   | inr odd ↦ still_outside-held rule S boxes places n (right.odd odd) covered high
 ]
 
--- a board whose windows were put back has advanced; its boxes hold the differences, and its spans hold the windows
+-- a board has advanced if its windows were put back, its new boxes hold the differences, and its new spans hold the
+-- inner parts of the windows
 pub has_gone_on : (rule : Numbers) (at : Frame) (n : ℕ) (old new : List ℕ) (boxes later : List Bounds) (before wide : List RowSpan) (places : List LeapWindow)
     → IsReady rule at n old boxes before → AreCovered places boxes → 1 ≤ n → n ≤ 4 → All (IsOnBoard at) places → AreWidened before wide
     → HoldCovered at wide places → HasLeapt at rule n places old new → All (AreSidesWithin box_bound) later

@@ -76,7 +76,7 @@ joined_held boxes new i other one b less is removed first second c (inr some) =
 
 -- ---- windows side by side
 
--- a cell in a row of n + 1 spans is in the first n spans, or in the window over the last span
+-- a cell in a row of n + 1 spans is in the first n spans, or in the inner part of the window over the last span
 pub row_more : (first : ℤ) (n : ℕ) (row : ℤ) (p : LeapWindow) (c : Cell) → BeginsAt p (first +ℤ pos (56 * n)) row
     → IsInRow (record { first = first; count = n + 1 }) row p.rows c → IsInRow (record { first = first; count = n }) row p.rows c ⊎ IsInnerCell p c
 row_more first n row p c at h =
@@ -101,7 +101,8 @@ row_more first n row p c at h =
     further : (a x : ℤ) (n : ℕ) → x <ℤ (a +ℤ pos (56 * (n + 1))) → x <ℤ ((a +ℤ pos (56 * n)) +ℤ pos 56)
     further a x n h = omega (arith, ints)
 
--- if the spans cover the columns of the rectangle, each of its cells in an inner row of the windows is in a span
+-- if the spans cover the columns of the rectangle, each cell of the rectangle that is in an inner row of the windows is
+-- in a span
 in_row : (rectangle : Bounds) (across : Spans) (row : ℤ) (rows : ℕ) (c : Cell) → AreSideBySide rectangle.left rectangle.right 56 across
     → IsWithin rectangle c → row ≤ℤ c.y → (c.y +ℤ pos 8) <ℤ (row +ℤ pos rows) → IsInRow across row rows c
 in_row rectangle across row rows c beside within low high = record {
@@ -143,7 +144,7 @@ none_above y top first h k less = absurd (omega (arith, ints))
 
 -- ---- how many spans there are, and where they begin
 
--- the spans reach past what they cover by less than one span
+-- the spans reach past the numbers that they have to cover by less than one span
 pub left_over : (length size : ℕ) → 1 ≤ size → (length / size + 1) * size - length - 1 < size
 left_over length size some =
     let whole : length / size * size + length % size ≡ length = div-add-mod' length size in

@@ -1,4 +1,4 @@
--- The box around a change: it contains the column and the row of each inner cell in which two patterns differ.
+-- The box around a change: if two patterns differ in an inner cell of a window, the box contains this cell.
 use Rattle.std.proofs.Common.{◌≡◌, ◌≢◌, ◌+◌, ◌-◌, ◌^◌, ◌<◌, ◌≤◌, ℕ, zero, suc, ℤ, pos, ◌+ℤ◌, ◌-ℤ◌, ◌<ℤ◌, ◌≤ℤ◌, w64, unsigned_abs}
 use Rattle.std.proofs.Common.{arith, refl, ap, ◌∙◌, sym, inl, inr, ◌⊎◌, List}
 use Rattle.std.specs.Int.{bit_at, leading_zeros, trailing_zeros}

@@ -164,7 +164,7 @@ row_without at words gone s r word bits i hs hr hi small is here =
 
 -- ---- depths
 
--- the cell i columns after the first cell of a row of a word column is cell i of that row
+-- in a row of a word column, the cell that is i columns to the right of the first cell is cell i
 pub cell_along : (at : Frame) (s r i : ℕ) (first c : Cell) → first ≡ board_cell at s r 0 → c ≡ cell_at (first.x +ℤ pos i) first.y
     → c ≡ board_cell at s r i
 cell_along at s r i first c begins is = is ∙ ap (λ (d : Cell). cell_at (d.x +ℤ pos i) d.y) begins ∙ along_cell at s r i
@@ -400,14 +400,14 @@ all_seen at way words gone found seen c e =
     (seen (k / 64 / at.rows) (k / 64 % at.rows) spot.word_column spot.row (k % 64) (omega arith)
     (ap (λ (d : Cell). has (without (cells_on at words) gone) d) (sym bit.3) ∙ e))
 
--- if no live cell is deeper than the depth that was found, the turned pattern lies up to this depth
+-- if no live cell is deeper than the depth that was found, each cell of the turned pattern has at most this depth
 pub reaches : (way : Orientation) (direction : Direction) (cells : List Cell) (found : Option ℤ)
     → ((c : Cell) → depth_in direction c ≡ depth (turned_cell way c)) → ((c : Cell) → has cells c ≡ true → IsReached found (depth_in direction c))
     → IfSome found (λ m. LiesUpTo way m cells)
 reaches way direction cells None is seen = tt
 reaches way direction cells (Some m) is seen = λ c e. subst (λ (z : ℤ). z ≤ℤ m) (is c) (seen c e)
 
--- bit i of the word 0 is right for a cell that isn't in column i of the row
+-- in the word 0, bit i says correctly that the cell isn't in column i of the row
 pub no_bit : (first cell : Cell) (i : ℕ) → (first.y ≡ cell.y → first.x +ℤ pos i ≡ cell.x → ⊥)
     → (bit_at 0 i == 1) ≡ same_cell (cell_at (first.x +ℤ pos i) first.y) cell
 no_bit first cell i apart = bit_is 0 first cell i (λ one. absurd (omega (arith, one, bit_at-zero i)))

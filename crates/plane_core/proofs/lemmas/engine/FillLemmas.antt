@@ -88,7 +88,7 @@ put_shown at ws S c a d m long within p q is shown =
     subst (λ (n : ℕ). Shows at (set ws n (bit_or (get_or ws n 0) (1 * 2 ^ (a % 64) % 2 ^ 64))) (S ++ c ∷ [])) (sym is)
     (shown_more at ws S c (a / 64) d (a % 64) hs hd (omega arith) (spot_of at c a d p q) low shown)
 
--- a board that shows the first i cells of a list and cell i shows the first i + 1 cells
+-- if a board shows the first i cells of a list together with cell i, it shows the first i + 1 cells
 pub shown_taken : (at : Frame) (ws : List ℕ) (cs : List Cell) (i : ℕ) (d : Cell) → i < length cs → Shows at ws (take i cs ++ get_or cs i d ∷ [])
     → Shows at ws (take (i + 1) cs)
 shown_taken at ws cs i d low shown = subst (λ (S : List Cell). Shows at ws S) (sym (take_more cs i d low)) shown

@@ -46,7 +46,7 @@ one_word h s r t y e hr hy = go (same_or_not s t)
 
 -- ---- cells
 
--- the cell `a` columns and d rows from the board's corner is bit a % 64 of row d of word column a / 64
+-- the cell in column `a` and row d of the board is bit a % 64 of row d of word column a / 64
 pub spot_of : (at : Frame) (c : Cell) (a d : ℕ) → pos a ≡ c.x -ℤ at.left → pos d ≡ c.y -ℤ at.top → c ≡ board_cell at (a / 64) d (a % 64)
 spot_of at c a d p q = same_cells c.x c.y _ _ (omega (arith, ints)) (omega (arith, ints))
 

@@ -57,8 +57,8 @@ empty_window n left top r i a b d e =
     ap (λ (v : List ℕ). slice_index v (r / n)) vector ∙ get_or-replicate 4 (r / n) 0 0 (div_below r n 4 some low) in
     ap (λ (n : ℕ). n == 1) (sym (ap (λ (w : ℕ). bit_at w i) row ∙ bit_at-zero i))
 
--- y with `change` is a run of window x for an odd number of generations, if y is x that many generations later and
--- `change` marks where y differs from an empty window
+-- If window y is window x after one or three generations, and `change` marks where y differs from an empty window, then
+-- y and `change` are the result of running x for these generations.
 pub run_odd : (n : ℕ) (rule : Numbers) (count : ℕ) (x y : List (List ℕ)) (change : DifferenceMask) → count ≤ 4 → count % 2 ≡ 1 → IsLaterWindow rule n x y count
     → DiffersOnlyIn n change y (replicate n (replicate 4 0)) → IsRun n rule count x y change
 run_odd n rule count x y change few odd made differs p cells height o shown = (
@@ -73,8 +73,8 @@ run_odd n rule count x y change few odd made differs p cells height o shown = (
     none : compared_with rule cells count ≡ []
     none = ap (λ (n : ℕ). cond (n == 0) (after rule cells (count - 2)) []) odd
 
--- z with `change` is a run of window x for an even number of generations, if z is x that many generations later, y is
--- the window two generations before z, and `change` marks where z differs from y
+-- If window z is window x after two or four generations, y is the window two generations before z, and `change` marks
+-- where z differs from y, then z and `change` are the result of running x for these generations.
 pub run_even : (n : ℕ) (rule : Numbers) (count : ℕ) (x y z : List (List ℕ)) (change : DifferenceMask) → 2 ≤ count → count ≤ 4 → count % 2 ≡ 0
     → IsLaterWindow rule n x y (count - 2) → IsLaterWindow rule n y z 2 → DiffersOnlyIn n change z y → IsRun n rule count x z change
 run_even n rule count x y z change some few even first second differs p cells height o shown = (
@@ -156,8 +156,8 @@ run_place at p words rule count x y n read window later rows change height word_
 
 -- ---- one window after another
 
--- the first `done` windows were run: their rows in `held` show the board `count` generations later, and `boxes` hold
--- each of their inner cells in which this generation differs from the pattern that it is compared with
+-- Each of the first `done` windows was run: its rows in `held` show the board `count` generations later. If that
+-- generation and the pattern that it is compared with differ in an inner cell of the window, the cell is in a box.
 pub record AreRunFirst (at : Frame) (words : List ℕ) (rule : Numbers) (count : ℕ) (places : List LeapWindow) (held : List (List ℕ))
     (boxes : List Bounds) (done : ℕ) : Type 0 where
   pub long : length places ≤ length held

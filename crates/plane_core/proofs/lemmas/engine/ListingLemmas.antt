@@ -46,7 +46,7 @@ has-push cs c = has-append cs (c ∷ []) c ∙ or_right (has cs c) (has (c ∷ [
 
 -- ---- a word
 
--- bit i of a word is bit i - k of the word shifted down by k
+-- bit i of a word is bit i - k of the word shifted right by k
 moved_down : (n k i : ℕ) → k ≤ i → bit_at n i ≡ bit_at (n / 2 ^ k) (i - k)
 moved_down n k i low =
     ap (λ (m : ℕ). bit_at m i) (sym (div-add-mod' n (2 ^ k))) ∙ bit_at_cat_high (n / 2 ^ k) k (n % 2 ^ k) i (mod-lt n (pow_pos k)) low
@@ -204,7 +204,7 @@ word_column-empty at words s band from columns is zero here k b low small =
     let spot : word_of at s (8 * band + k) ≡ from + k = omega (arith, is) in
     ap (λ (n : ℕ). bit_at (slice_index words n) b) spot ∙ here b k (ap (λ (n : ℕ). bit_at n b) zero ∙ bit_at-zero b) low
 
--- if the first n word columns of a band and word column n are empty, the first n + 1 word columns are
+-- if the first n word columns of a band and word column n are empty, the first n + 1 word columns are empty
 pub band-more : (at : Frame) (words : List ℕ) (band n : ℕ) → IsBandEmpty at words band 0 n → IsWordColumnEmpty at words band n → IsBandEmpty at words band 0 (n + 1)
 band-more at words band n before here s low near = elim (same_or_not s n) [
   | inl same ↦ subst (λ (t : ℕ). IsWordColumnEmpty at words band t) (sym same) here
@@ -273,7 +273,7 @@ bands_held rows all from end r from_is end_is low inside =
     let b = inside.high in
     record { low = omega (arith, from_is); high = omega (arith, end_is) }
 
--- the bands before those that the spans reach add nothing to the list
+-- the bands before the first band that a span reaches add nothing to the list
 pub bands_before : (at : Frame) (words : List ℕ) (spans : List RowSpan) (bands : RowSpan) (cells : List Cell) → cells ≡ [] → 8 * bands.from ≤ at.rows
     → LieInSpans at spans (cells_on at words) → ((s r : ℕ) → s < at.word_columns → r < at.rows → IsInSpan spans s r → HasRow bands (r / 8))
     → HasReadRows at words (8 * bands.from) cells
@@ -298,7 +298,7 @@ bands_after at words spans bands band cells low live held before = record {
 natural : (d : ℤ) (a : ℤ) → a ≤ℤ d → pos (unsigned_abs (d -ℤ a)) ≡ d -ℤ a
 natural d a h = omega (arith, ints)
 
--- the cells read from the whole board, in order, are the pattern that it shows
+-- the cells that were read from the whole board, put in order, are the pattern that the board shows
 pub read_all : (at : Frame) (words : List ℕ) (S new : List Cell) → InOrder S → LieOn at S → Shows at words S → HasReadRows at words (at.rows) new
     → set_of new ≡ S
 read_all at words S new o fits shown read = sym (is_set_of S new o (λ c. both_true (has S c) (has new c) (there c) (read.sound S shown c)))
@@ -317,7 +317,7 @@ read_all at words S new o fits shown read = sym (is_set_of S new o (λ c. both_t
         let bit : (bit_at (slice_index words (word_of at (a / 64) d)) (a % 64) == 1) ≡ true = sym (shown (a / 64) d (a % 64) hs hr (omega arith)) ∙ alive in
         ap (λ (x : Cell). has new x) is ∙ read.complete (a / 64) d (a % 64) hs hr (omega arith) (eqb-true _ 1 bit)
 
--- the cells read from all rows, in order, are the pattern of the board
+-- the cells that were read from all rows, put in order, are the pattern of the board
 pub all_read : (at : Frame) (words : List ℕ) (new set : List Cell) → HasReadRows at words at.rows new → set ≡ set_of new → set ≡ cells_on at words
 all_read at words new set read is =
     is ∙ read_all at words (cells_on at words) new (cells_in_order at words) (cells_lie_on at words) (shows_cells at words) read

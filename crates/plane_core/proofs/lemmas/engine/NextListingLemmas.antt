@@ -139,7 +139,8 @@ band_skipped at y from x cells windows rows shown empty before = record {
         absurd (false≢true (sym ((λ t. has cells (cell_on at (column t) (row t))) ∙ shown (v - y) (u - x) (omega arith) (omega arith) (omega arith) (omega arith)
         ∙ ap (λ (n : ℕ). n == 1) (empty (v - y) (u - x) (omega arith))) ∙ alive))
 
--- windows that show a band up to before column `wide` also show it up to before each earlier column
+-- windows that show a band in the columns before `wide` also show it in the columns before `end`, if `end` is at most
+-- `wide`
 pub band_within : (at : Frame) (y from end wide : ℕ) (cells : List Cell) (windows : List NextRows) → end ≤ wide → AreBandOf at y from wide cells windows
     → AreBandOf at y from end cells windows
 band_within at y from end wide cells windows low band = record {
@@ -307,7 +308,7 @@ above_none at rule words hull new rim held none = record {
       absurd (omega (arith, ints));
 }
 
--- after the band that begins 4 below row y, all cells above row y + 36 have been listed
+-- once the band of rows y + 4 to y + 35 has been listed, all cells above row y + 36 have been listed
 pub above_more : (at : Frame) (rule : Numbers) (words : List ℕ) (hull : Hull) (y : ℕ) (windows : List NextRows) (old new : List Cell) → HasRim at hull
     → LiesInHull at hull (cells_on at words)
     → AreBandOf at y (64 * hull.word_columns.from - 5 + 4) (64 * hull.word_columns.end + 1) (after rule (cells_on at words) 1) windows

@@ -149,7 +149,7 @@ cells_in_order at ws = in_order-set_of (lit_before at ws (64 * (at.word_columns 
 natural : (d : ℤ) (a : ℤ) → a ≤ℤ d → pos (unsigned_abs (d -ℤ a)) ≡ d -ℤ a
 natural d a h = omega (arith, ints)
 
--- an ordered list of cells on the board that the board shows is the board's pattern
+-- if the board shows an ordered list of cells, all of them on the board, this list is the board's pattern
 pub only_cells : (at : Frame) (ws : List ℕ) (S : List Cell) → InOrder S → LieOn at S → Shows at ws S → cells_on at ws ≡ S
 only_cells at ws S o on shown = same_lists (cells_on at ws) S (cells_in_order at ws) o (λ c. both_true (has (cells_on at ws) c) (has S c) (there c) (back c))
   where

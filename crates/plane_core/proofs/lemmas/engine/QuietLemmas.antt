@@ -60,8 +60,8 @@ still-early rule S boxes m n c all le far =
 pub quiet-start : (rule : Numbers) (S : List Cell) (boxes : List Bounds) → HoldAll boxes S → IsQuiet rule S boxes
 quiet-start rule S boxes all c far = still-early rule S boxes 2 2 c all (omega arith) far
 
--- if the windows cover boxes that hold all live cells, each cell outside all inner parts is unchanged for up to four
--- generations
+-- if the windows cover boxes that hold all live cells, each cell outside the inner parts of the windows is unchanged
+-- after up to four generations
 pub still_outside-held : (rule : Numbers) (S : List Cell) (boxes : List Bounds) (places : List LeapWindow) (n : ℕ) → HoldAll boxes S
     → AreCovered places boxes → n ≤ 4 → IsStillOutside rule places S n
 still_outside-held rule S boxes places n all covered le c out =

@@ -143,7 +143,7 @@ shown_all at ws s r i hs hr hi =
     kept true = refl
     kept false = refl
 
--- a board that shows S without the first i cells and cell i shows S without the first i + 1 cells
+-- if a board shows S without the first i cells of a list and without cell i, it shows S without the first i + 1 cells
 pub fewer_taken : (at : Frame) (ws : List ℕ) (S cs : List Cell) (i : ℕ) (d : Cell) → i < length cs
     → Shows at ws (without S (take i cs ++ get_or cs i d ∷ [])) → Shows at ws (without S (take (i + 1) cs))
 fewer_taken at ws S cs i d low shown = subst (λ (gone : List Cell). Shows at ws (without S gone)) (sym (take_more cs i d low)) shown

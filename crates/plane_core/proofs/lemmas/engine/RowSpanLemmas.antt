@@ -50,7 +50,8 @@ cell_held at spans c a d p q held s r i hs hr hi e = elim (has-cases c [] (board
       subst (λ (t : ℕ). IsInSpan spans t r) (sym is.0) (held r (record { low = omega (arith, is.1); high = omega (arith, is.1) }))
 ]
 
--- if the old spans hold the first k cells, and the new spans are wider and hold cell k, they hold the first k + 1 cells
+-- if the old spans hold the first k cells, and the new spans contain the old spans and hold cell k, then the new spans
+-- hold the first k + 1 cells
 pub held_more : (at : Frame) (old new : List RowSpan) (cs : List Cell) (k : ℕ) (d : Cell) → k < length cs → AreWidened old new → LieInSpans at old (take k cs)
     → LieInSpans at new (get_or cs k d ∷ []) → LieInSpans at new (take (k + 1) cs)
 held_more at old new cs k d low wide before here s r i hs hr hi e =
@@ -87,8 +88,8 @@ inner_held at p x y end mid new left top height first wide second s r i hs hr hi
         let is : x / 64 + 1 ≡ s = omega (arith, ints) in
         subst (λ (t : ℕ). IsInSpan new t r) is (second r here)
 
--- if the old spans hold the first `done` windows, and the new spans are wider and hold the next window, they hold the
--- first `done + 1` windows
+-- if the old spans hold the first `done` windows, and the new spans contain the old spans and hold the next window,
+-- then the new spans hold the first `done + 1` windows
 pub places_more : (at : Frame) (old new : List RowSpan) (places : List LeapWindow) (done : ℕ) (d : LeapWindow) → done < length places → AreWidened old new
     → ((k : ℕ) (p : LeapWindow) → k < done → HoldInner at old (slice_index_or places k p)) → HoldInner at new (slice_index_or places done d)
     → (k : ℕ) (p : LeapWindow) → k < done + 1 → HoldInner at new (slice_index_or places k p)
@@ -136,7 +137,7 @@ zeroed_more old mid new first second m = go (first m) (second m)
     go (inl same) (inl here) = inl (here ∙ same)
     go (inr none) (inl here) = inr (here ∙ none)
 
--- a bit of a board that is 1 is a live cell
+-- if a bit of a board is 1, its cell is alive
 pub live_bit : (at : Frame) (words : List ℕ) (s r i : ℕ) → s < at.word_columns → r < at.rows → i < 64 → bit_at (slice_index words (word_of at s r)) i ≡ 1
     → has (cells_on at words) (board_cell at s r i) ≡ true
 live_bit at words s r i hs hr hi one = shows_cells at words s r i hs hr hi ∙ ap (λ (n : ℕ). n == 1) one

@@ -49,7 +49,7 @@ in_no_lane v word is (suc (suc (suc (suc j)))) i low none = absurd (omega (arith
 abbrev pub other_than : ℕ → ℕ → Bool
 other_than a b = not (eqb a b)
 
--- `rows` has the mark of lane j; if the mark isn't selected, lane j of `places` is 0
+-- if lane j of `rows` has a mark, but the mark isn't selected, lane j of `places` is 0
 pub not_marked : (places rows : List ℕ) (j i q : ℕ) → length places ≡ 4 → length rows ≡ 4 → j < 4 → bit_of rows j q ≡ 1
     → bit_of (sel_l (map (top 63) (zip2 (λ (a b : ℕ). cond (other_than a b) (2 ^ 64 - 1) 0) places (replicate 4 0))) rows (replicate 4 0)) j q ≡ 0
     → bit_of places j i ≡ 0
@@ -87,12 +87,14 @@ not_marked places rows j i q lp lr low one none = split (other_than (slice_index
 
 -- ---- one vector after another
 
--- in the inner cells of the first `count` vectors, the lanes j differ only in columns marked in lane j of `columns`
+-- in the inner cells of the first `count` vectors, lane j of one window differs from lane j of the other only in
+-- columns that are marked in lane j of `columns`
 abbrev pub DifferInColumns : ℕ → List (List ℕ) → List (List ℕ) → List ℕ → ℕ → Type 0
 DifferInColumns n one other columns count = (k : ℕ) → k < count → (j i : ℕ) → j < 4 → 4 ≤ i → i < 60 → 4 ≤ j * n + k → j * n + k + 4 < 4 * n
     → bit_of columns j i ≡ 0 → bit_at (lane_at one k j) i ≡ bit_at (lane_at other k j) i
 
--- in the inner cells of the first `count` vectors, the lanes j differ only in rows marked in lane j of `rows`
+-- in the inner cells of the first `count` vectors, lane j of one window differs from lane j of the other only in rows
+-- that are marked in lane j of `rows`
 abbrev pub DifferInRows : ℕ → List (List ℕ) → List (List ℕ) → List ℕ → ℕ → Type 0
 DifferInRows n one other rows count = (k : ℕ) → k < count → (j i : ℕ) → j < 4 → 4 ≤ i → i < 60 → 4 ≤ j * n + k → j * n + k + 4 < 4 * n
     → bit_of rows j (j * n + k) ≡ 0 → bit_at (lane_at one k j) i ≡ bit_at (lane_at other k j) i
@@ -149,7 +151,7 @@ differs_only n one other columns rows change by_columns by_rows all_columns all_
 
 -- ---- words with one bit
 
--- bit m of the word 1, shifted up by m, is 1
+-- if the word 1 is shifted up by m, bit m of the result is 1
 pub one_bit : (m q : ℕ) → m < 64 → q ≡ m → bit_at (1 * 2 ^ m % 2 ^ 64) q ≡ 1
 one_bit m q small e =
     let first : m - m ≡ 0 = omega arith in

@@ -1,4 +1,4 @@
--- Windows read from a board and put back.
+-- Windows that are read from a board and put back.
 use Rattle.std.proofs.Common.{◌≡◌, ◌≢◌, ◌==◌, ◌+◌, ◌-◌, ◌*◌, ◌/◌, ◌%◌, ◌<◌, ◌≤◌, ℕ, List, cond, length, set, slice_index}
 use Rattle.std.proofs.Common.{Fits, w64, arith, refl, ap, subst, ◌∙◌, sym, inl, inr, ◌⊎◌}
 use Rattle.std.specs.Int.{bit_at}
@@ -14,7 +14,7 @@ use Rattle.plane_core.proofs.lemmas.Between.{IsReadAt}
 
 -- ---- reading
 
--- the words of the n rows from row y on, in the word column of column x and in the next one, are in the list
+-- the list has the words of the n rows from row y on, for the word column of column x and for the next word column
 pub rows_inside : (at : Frame) (words : List ℕ) (x y n : ℕ) → FillsFrame at words → x / 64 + 1 < at.word_columns → y + n ≤ at.rows
     → x / 64 * at.rows + y + at.rows + n ≤ length words
 rows_inside at words x y n long low few =
@@ -75,7 +75,7 @@ read_packed at words x y n rows window read packed r i low inside = ap (λ (w : 
 
 -- ---- putting back
 
--- a bit of the mask says whether the column is an inner one
+-- bit i of the mask is 1 if column i is an inner column, and otherwise 0
 pub inner_bit : (i : ℕ) → ((bit_at inner_mask i ≡ 1) × (4 ≤ i) × (i < 60)) ⊎ ((bit_at inner_mask i ≡ 0) × (4 ≤ i → i < 60 → ⊥))
 inner_bit i = split (cases_lt i 4) (cases_lt i 60)
   where
@@ -213,7 +213,7 @@ out_of_four n a none = split (cases_lt n a) (cases_lt n (a + 4))
     split (inr least) (inr high) = inr high
     split (inr least) (inl low) = absurd (none (n - a) (omega arith) (omega arith))
 
--- writing the inner bits of four rows into four words of each of two word columns puts the rows back on the board
+-- writing the inner bits of four rows into two word columns, four words in each, puts the rows back on the board
 pub rows_put : (at : Frame) (old mid new rows first second : List ℕ) (x y r m1 m2 : ℕ) → y + 4 ≤ at.rows
     → ((i : ℕ) → i < x % 64 → bit_at m1 i ≡ 0) → ((i : ℕ) → x % 64 ≤ i → i < 64 → bit_at m1 i ≡ bit_at inner_mask (i - x % 64))
     → ((j i : ℕ) → j < 4 → x % 64 ≤ i → i < 64 → bit_at (slice_index first j) i ≡ bit_at (slice_index rows (r + j)) (i - x % 64))
@@ -295,7 +295,7 @@ rows_put at old mid new rows first second x y r m1 m2 inside m1low m1high v1high
     split (inr least) (inr high) = off (λ j low e. absurd (omega arith))
     split (inr least) (inl low) = on (v - y) (omega arith) (omega arith)
 
--- after the four rows from row `end` on, the inner part is put back up to before row `end + 4`
+-- once the four rows from row `end` on are put back, all inner rows before row `end + 4` are put back
 pub four_more : (at : Frame) (x y end : ℕ) (rows old mid new : List ℕ) → 4 ≤ end → IsPutBack at x y end rows old mid
     → AreRowsPut at x (y + end) end rows mid new → IsPutBack at x y (end + 4) rows old new
 four_more at x y end rows old mid new least put four u v hu hv = split (four u v hu hv) (put u v hu hv)
@@ -325,7 +325,7 @@ four_more at x y end rows old mid new least put four u v hu hv = split (four u v
                 let row = c.row.is in
                 off c.column (record { j = c.row.r - end; low = omega arith; is = omega arith })
 
--- after row `end`, the inner part is put back up to before row `end + 1`
+-- once row `end` is put back, all inner rows before row `end + 1` are put back
 pub put_more : (at : Frame) (x y end : ℕ) (rows old mid new : List ℕ) → 4 ≤ end → IsPutBack at x y end rows old mid
     → IsRowPut at x (y + end) (slice_index rows end) mid new → IsPutBack at x y (end + 1) rows old new
 put_more at x y end rows old mid new least put row u v hu hv = split (row u v hu hv) (put u v hu hv)
@@ -359,7 +359,7 @@ none_put at x y rows old u v hu hv = inr (λ c. let low = c.row.low in let high 
 pub column_low : (x : ℕ) → x % 64 < 64
 column_low x = omega arith
 
--- the indices of the two words of a row that begins in column x are in the list
+-- the list has both words of a row that begins in column x
 pub words_in : (at : Frame) (words : List ℕ) (x y : ℕ) → FillsFrame at words → x / 64 + 1 < at.word_columns → y < at.rows
     → (x / 64 * at.rows + y < length words) × (x / 64 * at.rows + y + at.rows < length words)
 words_in at words x y long word_column row =
@@ -383,6 +383,6 @@ pub fits_row : (at : Frame) (words : List ℕ) (x y : ℕ) → length words * 8 
     → y < at.rows → Fits w64 (x / 64 * at.rows) × Fits w64 (x / 64 * at.rows + y) × Fits w64 (x / 64 * at.rows + y + at.rows)
 fits_row at words x y small long word_column row = fits_begin at words x y 1 small long word_column (omega (arith, row))
 
--- the index of the word of a row of a word column is in the list
+-- the list has the word of row r of word column s, at index n
 pub index_in : (at : Frame) (words : List ℕ) (s r n : ℕ) → FillsFrame at words → s < at.word_columns → r < at.rows → n ≡ word_of at s r → n < length words
 index_in at words s r n long word_column row is = let inside = word-inside at s r word_column row in omega (arith, long, is, inside)

@@ -167,7 +167,7 @@ put_shown p rows S c a d at ha hd shown r i low near = has-append S (c ∷ []) e
         missed (same_cell e c) refl (λ (u, v). apart v) ∙ shown r i low near
         ∙ ap (λ (w : ℕ). bit_at w i == 1) (sym (get_or-set_other rows d r new 0 apart))
 
--- rows that show the first i cells of a list and cell i show the first i + 1 cells
+-- if the rows show the first i cells of a list together with cell i, they show the first i + 1 cells
 pub shown_taken : (p : WindowOrigin) (rows : List ℕ) (cs : List Cell) (i : ℕ) (d : Cell) → i < length cs → ShowsRows p rows (take i cs ++ get_or cs i d ∷ [])
     → ShowsRows p rows (take (i + 1) cs)
 shown_taken p rows cs i d low shown = subst (λ (S : List Cell). ShowsRows p rows S) (sym (take_more cs i d low)) shown

@@ -1,4 +1,4 @@
--- Whether a window shows a translate of the start, and what follows if it doesn't.
+-- Whether a window shows a translate of the pattern at the start, and what follows if it doesn't.
 use Rattle.std.proofs.Common.{◌≡◌, ◌≢◌, ◌==◌, ◌+◌, ◌*◌, ◌/◌, ◌^◌, ◌<◌, ◌≤◌, ℕ, ℤ, pos, ◌+ℤ◌, ◌≤ℤ◌, zero, suc, Bool, true, false}
 use Rattle.std.proofs.Common.{List, [], ◌∷◌, arith, refl, ap, ◌∙◌, sym, subst, inl, inr, ◌⊎◌, w64}
 use Rattle.std.specs.Cmp.{both_ways as both_true}
@@ -59,7 +59,7 @@ row_moves top dx dy S b a p q =
     one : (cx ex fx : ℤ) → cx ≡ top +ℤ pos b → ex ≡ top +ℤ pos a → ex ≡ fx +ℤ dy → (top +ℤ pos a) ≤ℤ (cx +ℤ dy) → (top +ℤ pos b) ≤ℤ fx → pos a ≡ pos b +ℤ dy
     one cx ex fx p q r s t = omega (arith, ints)
 
--- a bit of the window that is 1 is a cell of the pattern
+-- if a bit of the window is 1, its cell is in the pattern
 cell_of : (n : ℕ) (left top : ℤ) (x : List (List ℕ)) (S : List Cell) (i r : ℕ) → 0 < n → Holds n left top x S → AreVectors n x → bit_at (row_at n x r) i ≡ 1
     → has S (in_window left top i r) ≡ true
 cell_of n left top x S i r some h whole e = held_anywhere n left top x S i r some h whole ∙ ap (λ (m : ℕ). m == 1) e
@@ -151,7 +151,7 @@ alike_bits (suc zero) b p q f g = sym (f refl)
 alike_bits (suc (suc a)) b p q f g = absurd (omega arith)
 alike_bits zero (suc (suc b)) p q f g = absurd (omega arith)
 
--- the windows of a pattern and of the pattern moved have live cells in the same columns, counted from the first of them
+-- the windows of a pattern and of its translate have live cells in the same columns, counted from the first such column
 pub columns_again : (n : ℕ) (left top dx dy : ℤ) (x y : List (List ℕ)) (S : List Cell) (w v b a : ℕ) → 0 < n → AreVectors n x → AreVectors n y
     → IsColumns n x w → IsColumns n y v → Holds n left top x S → Holds n left top y (shifted dx dy S) → BeginsColumn left S b
     → BeginsColumn left (shifted dx dy S) a → w / 2 ^ b ≡ v / 2 ^ a
@@ -203,8 +203,8 @@ pub begins : (n : ℕ) (left top : ℤ) (x : List (List ℕ)) (S : List Cell) (w
 begins n left top x S w some h whole columns alive small =
     let f = bit_at-trailing_zeros w64 w alive small in begins_column n left top x S w (trailing_zeros w64 w) some h whole columns f.1 f.2
 
--- the windows of a pattern and of the pattern moved have the same rows, counted from the first row and column of their
--- cells; rows past a window are read as empty
+-- the windows of a pattern and of its translate have the same rows, counted from the first row and the first column
+-- with a live cell; rows past the last row of a window are read as empty
 pub same_rows : (n : ℕ) (left top dx dy : ℤ) (x y : List (List ℕ)) (S : List Cell) (w v p q r first second a b : ℕ) → 0 < n → AreVectors n x → AreVectors n y
     → IsColumns n x w → IsColumns n y v → Holds n left top x S → Holds n left top y (shifted dx dy S) → IsCorner n x w first a → IsCorner n y v second b
     → (first + r < 4 * n → p ≡ row_at n x (first + r)) → (4 * n ≤ first + r → p ≡ 0)
@@ -248,7 +248,8 @@ alike_held n left top x y S T alike hx hy = same_lists S T hx.in_order hy.in_ord
 pub new-none : (rule : Numbers) (S : List Cell) → NeverRecurs rule S 0
 new-none rule S p dx dy some none = absurd (omega arith)
 
--- a pattern doesn't recur within g + 1 generations if it doesn't within g, and generation g + 1 isn't a translate of it
+-- if a pattern doesn't recur within g generations, and generation g + 1 isn't a translate of the pattern, it doesn't
+-- recur within g + 1 generations
 pub new-more : (rule : Numbers) (S : List Cell) (g : ℕ) → NeverRecurs rule S g → ((dx dy : ℤ) → after rule S (g + 1) ≢ shifted dx dy S)
     → NeverRecurs rule S (g + 1)
 new-more rule S g before other p dx dy some low = new p some low (same_or_not p (g + 1))
@@ -313,7 +314,7 @@ changing_start rule n start now columns made followed whole are = record {
   earlier = (made, omega arith, followed.held);
 }
 
--- the window after one more generation, if that isn't a translate of the start
+-- the window after one more generation, if the pattern then isn't a translate of the pattern at the start
 pub changing_more : (rule : Numbers) (n : ℕ) (start now kept later : List (List ℕ)) (columns columns_later made : ℕ) (again : Bool) → 0 < n
     → IsChanging rule n start now kept columns made → IsRimClear n now → IsNextWindow rule n now later → AreVectors n later → IsColumns n later columns_later
     → ((S : List Cell) (left top dx dy : ℤ) → Holds n left top start S → Holds n left top later (shifted dx dy S) → again ≡ true) → again ≡ false

@@ -87,7 +87,8 @@ lit_in left top rows S c h e =
       },
     )
 
--- a crop shows, at least `depth` inside its border, the pattern that the rows show at least `depth` inside theirs
+-- if the rows show a pattern at least `depth` inside their border, the crop shows the pattern at least `depth` inside
+-- its own border
 pub crop_shown : (n from depth : ℕ) (left top : ℤ) (rows : List ℕ) (part : List (List ℕ)) (cells : List Cell) → from + 4 * n ≤ 64 → IsCrop n from rows part
     → ShowsInside left top depth rows cells → IsShownInside n left (top +ℤ pos from) depth part cells
 crop_shown n from depth left top rows part cells low is shown r i a b d e =

@@ -1,4 +1,4 @@
--- A cluster that is run alone, beside the whole pattern, generation by generation.
+-- A cluster is run alone and compared with the whole pattern, generation by generation.
 use Rattle.std.proofs.Common.{◌≡◌, ◌≢◌, ◌==◌, ◌+◌, ◌-◌, ◌*◌, ◌/◌, ◌%◌, ◌^◌, ◌<◌, ◌≤◌, ℕ, ◌+ℤ◌, pos, List, arith, ap, sym, ◌∙◌, ◌⊎◌, inl, inr}
 use Rattle.std.proofs.Common.{bit_and, bit_xor, min, w64}
 use Rattle.std.specs.Int.{bit_at, trailing_zeros}
@@ -42,7 +42,7 @@ made_more rule n whole alone later later_alone next next_alone made are a b = re
 
 -- ---- one word
 
--- a bit at least `depth` inside that is 1 in `here` and 0 in `there`
+-- bit i is 1 in `here` and 0 in `there`, and it is at least `depth` bits from both ends of the word
 pub record IsDivergingBit (here there depth : ℕ) : Type 0 where
   pub i : ℕ
   pub west : depth ≤ i
@@ -82,7 +82,7 @@ diverging_bit here there inside depth some small deep = record {
     digit : (bit_at here i ≡ 1) × (bit_at there i ≡ 0) × (bit_at inside i ≡ 1)
     digit = digits (bit_at here i) (bit_at there i) (bit_at inside i) (bit_at-lt here i) (bit_at-lt there i) (bit_at-lt inside i) (sym split ∙ one)
 
--- the bits of the mask are the columns at least d inside
+-- each bit that is 1 in the mask is at least d bits from both ends of the word
 pub inside_bit : (d i : ℕ) → d < 32 → bit_at ((2 ^ 64 - 1) / 2 ^ (2 * d) * 2 ^ d % 2 ^ 64) i ≡ 1 → (d ≤ i) × (i + d < 64)
 inside_bit d i small one = (west (cases_lt i d), east (cases_lt i 64))
   where

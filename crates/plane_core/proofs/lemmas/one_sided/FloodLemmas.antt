@@ -42,7 +42,7 @@ one_and a b i e f = let m = bit_at_and a b i in omega arith
 pub or_none : (a b i : ℕ) → bit_at (bit_or a b) i ≡ 0 → (bit_at a i ≡ 0) × (bit_at b i ≡ 0)
 or_none a b i e = let m = bit_at_or a b i in (omega arith, omega arith)
 
--- a bit of `a` is also in `b`, unless it is one of the bits of `a` that `b` lacks
+-- `a & (a ^ b)` has the bits of `a` that `b` lacks; any other bit of `a` is also in `b`
 pub not_missing : (a b i : ℕ) → bit_at (bit_and a (bit_xor a b)) i ≡ 0 → bit_at a i ≡ 1 → bit_at b i ≡ 1
 not_missing a b i none one =
     let m = bit_at_and a (bit_xor a b) i in
@@ -69,7 +69,7 @@ below_64 n i small one = go (less_or_not i 64)
     go (inl low) = low
     go (inr far) = absurd (let z = bit_at_above n 64 i small far in omega arith)
 
--- a bit of the word that vanishes when the bits of the mask are cleared is in the mask
+-- if a bit of the word is lost when the bits of the mask are cleared, the bit is in the mask
 pub not_outside : (word mask i : ℕ) → mask < 2 ^ 64 → word < 2 ^ 64 → bit_at (bit_and word (bit_not w64 mask)) i ≡ 0 → bit_at word i ≡ 1 → bit_at mask i ≡ 1
 not_outside word mask i fits small none one =
     let m = bit_at_and word (bit_not w64 mask) i in
@@ -120,7 +120,7 @@ all_beside word i j low near one = go (less_or_not j i) (less_or_not i j)
 pub near_twice : (a b c : ℕ) → AreNear 1 a b → AreNear 1 b c → AreNear 2 a c
 near_twice a b c p q = record { low = omega (arith, p.low, q.low); high = omega (arith, p.high, q.high) }
 
--- between two columns that are at most 2 apart is a column at most 1 from both
+-- if two columns are at most 2 apart, some column is at most 1 from both
 pub between : (i j : ℕ) → i < 64 → AreNear 2 i j → j < 64 → (k : ℕ) × (k < 64) × (AreNear 1 i k) × (AreNear 1 k j)
 between i j low near high = go (less_or_not j i) (less_or_not i j)
   where

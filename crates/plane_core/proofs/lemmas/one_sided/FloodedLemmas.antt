@@ -179,8 +179,8 @@ flooded_held rows flood left top row column cells is shows o = record {
         dead true b d e f = e
         dead false b d e f = sym f
 
--- if a window shows a pattern from a depth of at most 2 on, its rows show the pattern except in the two outer columns
--- and rows of each side
+-- if a window shows a pattern at least `depth` inside its border, and `depth` is at most 2, the rows of the window show
+-- the pattern except in the two outermost columns and rows on each side
 pub shown_rows : (window : List (List ℕ)) (rows : List ℕ) (left top : ℤ) (depth : ℕ) (cells : List Cell) → depth ≤ 2
     → ((r : ℕ) → r < 64 → slice_index rows r ≡ row_at 16 window r) → IsShownInside 16 left top depth window cells → ShowsInRows left top rows cells
 shown_rows window rows left top depth cells few unpacked shown r i a b d e =

@@ -17,7 +17,7 @@ followed_none rule start = record {
   new = λ S left top h. new-none rule S;
 }
 
--- the part is a crop of `many` rows, from row `from` on, that contain all live cells
+-- the part is a crop: it consists of the `many` rows from row `from` on, and these rows contain all live cells
 pub record IsCropOf (n many from : ℕ) (rows : List ℕ) (part : List (List ℕ)) : Type 0 where
   pub four : many ≡ 4 * n
   pub lies : LiesInCrop many from rows

@@ -1,4 +1,4 @@
--- A pattern alone in a window: its generations, and what the window says about the start.
+-- A pattern alone in a window: its cells, its next generation, its columns, and whether two windows are alike.
 use Rattle.std.proofs.Common.{◌≡◌, ◌≢◌, ◌==◌, ◌+◌, ◌-◌, ◌*◌, ◌/◌, ◌%◌, ◌^◌, ◌<◌, ◌≤◌, ℕ}
 use Rattle.std.proofs.Common.{ℤ, pos, negsuc, ◌+ℤ◌, ◌-ℤ◌, ◌≤ℤ◌, ◌<ℤ◌, zero, suc, Bool, true, false, cond}
 use Rattle.std.proofs.Common.{List, [], arith, refl, ap, ◌∙◌, sym, subst, inl, inr, ◌⊎◌, slice_index, slice_index_or, unsigned_abs, max, bit_or}
@@ -276,7 +276,7 @@ row_next n x r some whole = go (r + 1 == 4 * n) refl
     go true e = let last : r + 1 ≡ 4 * n = eqb-true (r + 1) (4 * n) e in sym (row_past n x (r + 1) some whole (omega arith))
     go false e = refl
 
--- three row sums count the live cells in the neighbourhood of a cell of the window, even at its border
+-- three row sums count the live cells in the neighbourhood of a cell, even at the border of the window
 block_seen : (S : List Cell) (n : ℕ) (left top : ℤ) (x : List (List ℕ)) → 0 < n → Holds n left top x S → AreVectors n x → (r i : ℕ) → i < 64
     → row_sum (row_above n x r) i + row_sum (row_at n x r) i + row_sum (row_below n x r) i
     ≡ around S (in_window left top i r) + cond (has S (in_window left top i r)) 1 0

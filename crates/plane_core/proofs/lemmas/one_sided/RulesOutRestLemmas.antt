@@ -1,4 +1,4 @@
--- One cluster proves that no pattern that a window shows is at rest.
+-- One cluster proves that a pattern shown in a window isn't at rest.
 use Rattle.std.proofs.Common.{◌≡◌, ◌==◌, ◌<◌, ℕ, ℤ, ◌+ℤ◌, pos, List, slice_index, ap, ◌∙◌, sym, arith, inl, inr}
 use Rattle.std.specs.Int.{bit_at}
 use Rattle.plane_core.specs.windows.LonePatterns.{FillsRows}

@@ -36,7 +36,7 @@ widened-within c d b h = record {
   bottom = omega (arith, ints, clamps, h.bottom);
 }
 
--- each cell of the list is in its smallest box
+-- each cell of the list is in the smallest box of the list
 pub all_within : (c : Cell) (cs : List Cell) → AllByRecursion (IsWithin (least c cs)) (c ∷ cs)
 all_within c [] = (record { left = omega (arith, ints); top = omega (arith, ints); right = omega (arith, ints); bottom = omega (arith, ints) }, tt)
 all_within c (d ∷ ds) = (

@@ -1,4 +1,4 @@
--- Which cells a text has.
+-- Which cells the pattern of a plaintext file has.
 use Rattle.std.proofs.Common.{◌≡◌, ℕ, zero, suc, pos, ◌+◌, ◌≤◌, Bool, true, false, ◌||◌, List, [], ◌∷◌, map, get_or, refl, sym, ap, subst, ◌∙◌, arith, ⊎_elim}
 use Rattle.std.specs.List.{AllByRecursion, flat_map, enumerate_from}
 use Rattle.std.proofs.lemmas.Int.{ints}

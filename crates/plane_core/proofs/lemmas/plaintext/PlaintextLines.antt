@@ -101,7 +101,8 @@ neither : {X : Type 0} (a b : Option X) → option_or a b ≡ None → (a ≡ No
 neither None b h = (refl, h)
 neither (Some x) b h = absurd (cc)
 
--- if the lines from line n + 1 on have no fault and the first of them is a row, neither it nor the later lines have one
+-- if line n + 1 is a row, and there is no fault from this line on, then the row has no fault, and the later lines have
+-- no fault
 no_fault_both : (n y : ℕ) (parts : List (List ℕ)) (line : List ℕ) → IsNext parts n line → is_comment (strip_carriage_return line) ≡ false
     → first_fault (places_after (n + 1) y (drop n parts)) ≡ None → (first_fault (places_of_row (y, (n + 1, strip_carriage_return line))) ≡ None)
     × (first_fault (places_after (n + 1 + 1) (y + 1) (drop (n + 1) parts)) ≡ None)
@@ -135,7 +136,7 @@ pub no_cell_past_lines : (n y : ℕ) (parts : List (List ℕ)) (cells : List Cel
 unfolding live_cells
 no_cell_past_lines n y parts cells h = rw (no_place_past n y parts h) (append-nil cells)
 
--- if the cells that are added to the list are those that the remainder loses, list and remainder are still `all`
+-- if cells move from the front of the remainder to the end of the list, list and remainder together are still `all`
 pub moved_over : (done more new remainder later all : List Cell) → new ≡ done ++ more → remainder ≡ more ++ later → done ++ remainder ≡ all → new ++ later ≡ all
 moved_over done more new remainder later all g e h = ap (λ cs. cs ++ later) g ∙ append_assoc done more later ∙ ap (λ cs. done ++ cs) (sym e) ∙ h
 
@@ -146,7 +147,7 @@ one_row_more y n h = omega arith
 pub one_line_more : (y n : ℕ) → y ≤ n → y ≤ n + 1
 one_line_more y n h = omega arith
 
--- the number of the next line or row fits in 64 bits, since a text has at most one line more than bytes
+-- the number of the next line or row fits in 64 bits, since a text has at most one more line than it has bytes
 pub fits_one_more : (text : List ℕ) (n k : ℕ) → length text * 1 < 9223372036854775808 → n < length (parts_of text) → k ≤ n → Fits w64 (k + 1)
 fits_one_more text n k small low few =
     omega (arith, length-slice_split (λ b. b == line_feed) text, count_by-le-length (λ b. b == line_feed) text, small, low, few)

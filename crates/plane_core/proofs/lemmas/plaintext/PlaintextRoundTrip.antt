@@ -60,7 +60,7 @@ split_rows cells b (z ∷ zs) =
     ∙ slice_split_at (λ b. b == line_feed) row line_feed remainder (no_feed (λ x. has cells (cell_at x z)) (span b.left b.right)) refl
     ∙ ap (λ ps. row ∷ ps) (split_rows cells b zs)
 
--- the places in the text of the rows `zs` of a box; the first line is line n, and the first row is row y of the text
+-- the places that the rows `zs` of a box have in the text; the first of these rows is line n and row y of the text
 abbrev grid_places : List Cell → Bounds → ℕ → ℕ → List ℤ → List Place
 grid_places cells b n y [] = []
 grid_places cells b n y (z ∷ zs) = places_from n y 0 (row_bytes cells b z) ++ grid_places cells b (n + 1) (y + 1) zs
@@ -219,7 +219,7 @@ absorb g true h = rw (h refl) refl
 absorb true false h = refl
 absorb false false h = refl
 
--- those cells of a pattern's smallest box that are in the pattern are the whole pattern
+-- filtering the cells of a pattern's smallest box by whether the pattern has them gives the pattern
 kept : (cells : List Cell) (b : Bounds) → IsPattern cells → box_of cells ≡ Some b → filter (has cells) (grid b (span b.top b.bottom)) ≡ cells
 kept cells b p e =
     let box = IsBox-box_of cells b p e in

@@ -1,4 +1,4 @@
--- The patterns that are read are near the origin.
+-- A pattern that was read from plaintext lies within 999 of the origin.
 use Rattle.std.proofs.Common.{◌≡◌, ℕ, ◌<◌, true, false, cond, List, [], ◌∷◌, Option, None, Some, Ok, map, filter, refl, subst, arith}
 use Rattle.std.proofs.lemmas.Bool.{and_from}
 use Rattle.std.proofs.lemmas.Bool.Decides.{nat_tests}

@@ -38,13 +38,13 @@ apart_rows_down a b h = grind (arith, ints)
 pub apart_columns : (a b : Cell) → a.y ≡ b.y → b.x <ℤ a.x → same_cell a b ≡ false
 apart_columns a b e h = grind (arith, ints)
 
--- the remaining cells of a row have no cell in a column before the first of them
+-- none of the remaining cells of a row is to the left of the first one
 pub has-gap : (y x e z : ℤ) (c : Cell) (cs : List Cell) → IsRowAhead y x e (c ∷ cs) → z <ℤ c.x → has (c ∷ cs) (cell_at z y) ≡ false
 has-gap y x e z c cs h l =
     let less = left_of (cell_at z y) c (sym h.here.0.0) l in
     has-before (cell_at z y) (c ∷ cs) (less, before-trans (cell_at z y) c cs less (in_order-head c cs h.in_order))
 
--- right of the first cell, in its row, the list has a cell exactly if the rest of the list has it
+-- a cell to the right of the first cell, in the same row, is in the list exactly if it is in the rest of the list
 pub has-past : (y z : ℤ) (c : Cell) (cs : List Cell) → c.y ≡ y → c.x <ℤ z → has (c ∷ cs) (cell_at z y) ≡ has cs (cell_at z y)
 has-past y z c cs e l = ap (λ b. b || has cs (cell_at z y)) (apart_columns (cell_at z y) c (sym e) l)
 
@@ -121,7 +121,7 @@ left_below_row y (c ∷ cs) o h =
     )))
     (cases_Bool (int_eq c.y y))
 
--- when a walk begins row y, the remaining cells at the front that are in row y are the remaining cells of that row
+-- when a walk begins row y, the remaining cells of the row are the cells at the front of the list that are in row y
 pub IsRowAhead-taken : (y : ℤ) (b : Bounds) (cs : List Cell) → IsAhead y b cs → IsRowAhead y b.left (b.right +ℤ pos 1) (take (len_in_row y cs) cs)
 IsRowAhead-taken y b cs h = record {
   in_order = in_order-take (len_in_row y cs) cs h.in_order;
@@ -186,7 +186,7 @@ above a b h = grind (arith, ints)
 pub apart_columns_left : (a b : Cell) → a.y ≡ b.y → a.x <ℤ b.x → same_cell a b ≡ false
 apart_columns_left a b e h = grind (arith, ints)
 
--- if a walk along row y has passed i cells and cell i is in row y, the walk has passed i + 1 cells of the row
+-- if the first i cells are in row y, and cell i is in row y too, then the first i + 1 cells are in row y
 pub walked-on : (y : ℤ) (cells : List Cell) (i : ℕ) (d : Cell) → i < length cells → int_eq (get_or cells i d).y y ≡ true
     → len_in_row y cells ≡ i + len_in_row y (drop i cells) → len_in_row y cells ≡ (i + 1) + len_in_row y (drop (i + 1) cells)
 walked-on y cells i d l e h =

@@ -126,7 +126,7 @@ box_text_is cells b l =
     let n : suc (distance b.top b.bottom) ≡ distance b.top (b.bottom +ℤ pos 1) = omega (arith, ints) in
     ap (λ k. flat_map (row_text cells b) (run b.top k)) n
 
--- in row y and in lower rows, the remaining cells are all cells of the pattern
+-- the pattern and the remaining cells have the same cells in row y and in the rows below it
 abbrev pub SameFrom : ℤ → List Cell → List Cell → Type 0
 SameFrom y cells remainder = (x z : ℤ) → y ≤ℤ z → has cells (cell_at x z) ≡ has remainder (cell_at x z)
 

@@ -43,7 +43,7 @@ module _ (f g : Cell → Cell) (rigid : IsRigid f g) where
       ∙ (λ i. cond ((ap (λ (x : Cell). king_distance x (f d)) (sym (rigid.there c)) ∙ rigid.keeps (g c) d) i == 1) 1 0 + around-image ds c i)
       ∙ sym (around-cons d ds (g c))
 
-  -- a cell has as many live neighbours if a new cell is inserted in order as if it is prepended
+  -- a cell has the same number of live neighbours whether a new cell is inserted in order or prepended
   around-put : (x : Cell) (ds : List Cell) (c : Cell) → has ds x ≡ false → around (put x ds) c ≡ around (x ∷ ds) c
   around-put x [] c h = refl
   around-put x (d ∷ ds) c h = go (cell_cmp x d) refl h (around-put x ds c)

@@ -1,4 +1,4 @@
--- Coordinates as the code passes them on: converted to 32 bits and read back from them.
+-- Coordinates as the code passes them on: converted to 32 bits and back.
 use Rattle.std.proofs.Common.{◌≡◌, ◌+◌, ◌/◌, ◌<◌, ◌≤◌, ℕ, ℤ, pos, negsuc, ◌+ℤ◌, ◌-ℤ◌, ◌≤ℤ◌, ◌<ℤ◌, true, false}
 use Rattle.std.proofs.Common.{arith, ap, ◌∙◌, sym, subst, Fits, FitsSigned, of_z, to_z, unsigned_abs, nat_le, w32, w64}
 use Rattle.std.proofs.lemmas.Int.{ints, to_z-of_z, to_z_pos}
@@ -91,7 +91,7 @@ row_apart at p frame on =
     let is = on.top in
     apart_by p.top at.top on.y (small_fits p.top (omega (arith, ints))) (small_fits at.top (omega (arith, near))) is (omega (arith, row, few))
 
--- if `a` is one of the 64 coordinates from `b` on, the difference `a - b`, computed in 32 bits, is right
+-- if `a` is one of the 64 coordinates from `b` on, the difference `a - b`, computed in 32 bits, is correct
 pub within_apart : (a b : ℤ) → FitsSigned w32 a → FitsSigned w32 b → b ≤ℤ a → a <ℤ (b +ℤ pos 64) → AreApart a b (unsigned_abs (a -ℤ b))
 within_apart a b fa fb from to = apart_by a b (unsigned_abs (a -ℤ b)) fa fb (omega (arith, ints, from)) (omega (arith, ints, from, to))
 

@@ -1,4 +1,4 @@
--- A pattern that is cut in two between two of its rows, or of its columns.
+-- A pattern that is cut into two parts, between two of its rows or between two of its columns.
 use Rattle.std.proofs.Common.{◌≡◌, ◌-◌, ◌*◌, ◌<◌, ◌≤◌, ◌+ℤ◌, ◌-ℤ◌, ◌≤ℤ◌, ℕ, ℤ, pos, ◌++◌, zero, suc, Bool, true, false, ◌&&◌, List, [], ◌∷◌}
 use Rattle.std.proofs.Common.{take, drop, length, get_or, map, arith, refl, ap, ◌∙◌, sym, subst, inl, inr}
 use Rattle.std.proofs.Common.{unsigned_abs, leb}
@@ -99,7 +99,7 @@ is_pattern-drop S cut p = record {
   on_plane = (and_parts _ _ (sym (list_all-append on_plane (take cut S) (drop cut S)) ∙ ap (list_all on_plane) (take-append-drop cut S) ∙ p.on_plane)).1;
 }
 
--- if both parts have run, their union is the run of the whole pattern
+-- if both parts have run for n generations, the union of the results is the whole pattern after n generations
 pub run_from_parts : (rule : Numbers) (S : List Cell) (cut n : ℕ) (above below whole : List Cell) → InOrder S → IsCut (2 * n) S cut
     → HasRun rule (take cut S) n above → HasRun rule (drop cut S) n below → whole ≡ set_of (above ++ below) → HasRun rule S n whole
 run_from_parts rule S cut n above below whole o p one other both = record {
@@ -160,7 +160,7 @@ turned_within n (c ∷ cs) = λ i. crossed (leb (unsigned_abs c.y) n) (leb (unsi
     crossed false true = refl
     crossed false false = refl
 
--- if the transposed pattern has run, the run transposed back is the run of the pattern
+-- if the transposed pattern has run for n generations, transposing the result gives the pattern after n generations
 pub run_from_turned : (rule : Numbers) (S : List Cell) (n : ℕ) (later whole : List Cell) → InOrder S → HasRun rule (image Diagonal S) n later
     → whole ≡ image Diagonal later → HasRun rule S n whole
 unfolding image

@@ -28,7 +28,7 @@ live S x y = cond (has S (cell_at x y)) 1 0
 live_low : (S : List Cell) (x y : ℤ) → live S x y ≤ 1
 live_low S x y = elim (has S (cell_at x y)) as (λ b. cond {A = ℕ} b 1 0 ≤ 1) [ true ↦ omega arith | false ↦ omega arith ]
 
--- a pattern in order has the cell at (x, y) `live` times
+-- a pattern in order has the cell at (x, y) once or not at all, as `live` says
 one_live : (S : List Cell) (c : Cell) (x y : ℤ) → InOrder S → c.x ≡ x → c.y ≡ y → times S c ≡ live S x y
 one_live S c x y o p q = times_once S c o ∙ (λ i. cond (has S (cell_at (p i) (q i))) 1 0)
 
@@ -151,7 +151,7 @@ ends-next rule m S o slow ends x y e = go (compare m (x +ℤ y))
 
 -- ---- two generations
 
--- a cell has 4 or 5 live neighbours if four of its neighbours are alive, three are dead, and the other is either
+-- a cell has 4 or 5 live neighbours if four of its neighbours are alive and three are dead, whatever the eighth is
 crowded : (n a b c d e f g h i : ℕ) → n + i ≡ (a + (b + c)) + ((d + (i + e)) + (f + (g + h))) → a ≡ 0 → b ≡ 0 → d ≡ 0 → c ≡ 1 → e ≡ 1 → f ≡ 1
     → g ≡ 1 → h ≤ 1 → (n ≡ 4) ⊎ (n ≡ 5)
 crowded n a b c d e f g h i s p q r t u v w low = elim (less_or_not n 5) [ inl four ↦ inl (omega arith) | inr five ↦ inr (omega arith) ]
@@ -175,7 +175,8 @@ none_two_past rule m S x y o slow ends deep e = refused (crowded (around S (cell
     v : ℤ
     v = y -ℤ pos 1
 
-    -- the live cells behind the cell one generation earlier, and behind its left and upper neighbours before that
+    -- one generation earlier, the three neighbours behind the cell are alive; two generations earlier, so are the three
+    -- neighbours behind its left neighbour, and the three behind its upper neighbour
     between : SawThree (m +ℤ pos 1) (next rule S) x y
     between = saw_three rule (m +ℤ pos 1) (next rule S) x y (in_order-next rule S) slow (ends-next rule m S o slow ends) (omega (arith, ints)) e
 

@@ -111,7 +111,7 @@ lives_near rule S c e = elim (lives_cases rule S c e) [
   | inr beside ↦ let d = a_neighbour S c beside in has-flat_map S d.0 c d.1 (in_neighbourhood d.0 c (omega (arith, d.2)))
 ]
 
--- each cell of the plane is in the next generation exactly if the rule's numbers say so
+-- a cell is in the next generation exactly if the rule's numbers say so
 pub has-next : (rule : Numbers) (S : List Cell) (c : Cell) → has (next rule S) c ≡ lives rule S c
 unfolding next
 has-next rule S c = has-filter (lives rule S) (set_of (flat_map neighbourhood S)) c ∙ ap (λ b. b && lives rule S c) (has-set_of (flat_map neighbourhood S) c)

@@ -28,7 +28,7 @@ times-sum : (cs : List Cell) (c : Cell) → times cs c ≡ sum_by (λ d. cond (s
 times-sum [] c = refl
 times-sum (d ∷ ds) c = ap (λ (n : ℕ). cond (same_cell c d) 1 0 + n) (times-sum ds c) ∙ sym (sum_by-cons (λ d. cond (same_cell c d) 1 0) d ds)
 
--- a permutation of a list contains each cell equally often
+-- a permutation of a list contains each cell as often as the list does
 times-moved : (cs ds : List Cell) (c : Cell) → IsPermutation cs ds → times ds c ≡ times cs c
 times-moved cs ds c moved = times-sum ds c ∙ sum_by-IsPermutation _ cs ds moved ∙ sym (times-sum cs c)
 

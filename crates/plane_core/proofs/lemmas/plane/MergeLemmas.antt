@@ -1,4 +1,4 @@
--- Merging ordered cells with others, from the last cell on.
+-- Merging two lists of cells, from the last cell to the first.
 use Rattle.std.proofs.Common.{◌≡◌, ◌∙◌, ◌+◌, ◌<◌, ◌||◌, ℕ, Bool, true, false, List, [], ◌∷◌, ◌++◌, ap, arith, drop, get_or, length, refl, set, sym, take}
 use Rattle.std.proofs.Math.Seq.{take-append_seam}
 use Rattle.std.proofs.lemmas.List.{drop-set, drop_all, take-append-drop, take-set-le, take_all, take_more}

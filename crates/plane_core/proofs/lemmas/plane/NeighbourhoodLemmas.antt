@@ -17,7 +17,7 @@ use Rattle.plane_core.proofs.lemmas.plane.CellLemmas.{cell_cmp_total, same_cell-
 
 -- ---- one coordinate
 
--- where one number is relative to another, as three tests say: one to the left, equal, one to the right, or further off
+-- three tests say where a number is relative to another: 1 to the left, equal, 1 to the right, or at least 2 away
 abbrev pub IsNear : Bool → Bool → Bool → ℕ → Type 0
 IsNear left middle right far =
     ((left ≡ true) × (middle ≡ false) × (right ≡ false) × (far ≡ 1))
@@ -73,7 +73,7 @@ hits row left middle right = cond (row && right) 1 0 + (cond (row && middle) 1 0
 far_off : (m n : ℕ) → 2 ≤ max m n → (max m n == 1) ≡ false
 far_off m n h = ne_eqb _ _ (λ e. absurd (omega arith))
 
--- a cell is a neighbour or the cell itself exactly if it is one of the nine cells
+-- a cell is c or a neighbour of c exactly if it is one of the nine cells of the neighbourhood of c
 one_cell : (x0 x1 x2 y0 y1 y2 : Bool) (dx dy : ℕ) → IsNear x0 x1 x2 dx → IsNear y0 y1 y2 dy
     → cond (max dx dy == 1) 1 0 + cond (y1 && x1) 1 0 ≡ hits y2 x0 x1 x2 + (hits y1 x0 x1 x2 + hits y0 x0 x1 x2)
 one_cell x0 x1 x2 y0 y1 y2 dx dy (inr (inr (inr (a, b, c, e)))) v = rw (a, b, c, far_off dx dy (omega arith)) (no_hits y0 y1 y2)

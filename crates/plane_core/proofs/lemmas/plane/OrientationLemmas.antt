@@ -1,4 +1,5 @@
--- The orientations are the group of the square, and they commute with moving and with the next generation.
+-- The orientations are the symmetry group of the square. A pattern and its translates have the same image, if the image
+-- is moved to the corner.
 use Rattle.std.proofs.Common.{◌≡◌, ℤ, pos, cond, ◌+ℤ◌, neg_ℤ, Bool, true, false, ◌||◌, List, [], ◌∷◌}
 use Rattle.std.proofs.Common.{arith, refl, ap, ◌∙◌, sym, subst, inl, inr, ◌⊎◌, map, Option, Some, None}
 use Rattle.std.specs.Int.{int_min, int_max}
@@ -84,7 +85,7 @@ mirror-cell Flip c = refl
 mirror-cell Diagonal c = refl
 mirror-cell AntiDiagonal c = λ i. cell_at (back c.y i) (neg_ℤ c.x)
 
--- turning a cell by `a` and then by two quarter turns is turning it by the orientation two quarter turns after `a`
+-- turning a cell by `a` and then twice by `Quarter` is turning it once by `quarter_after (quarter_after a)`
 twice : (a : Orientation) (c : Cell) → turned_cell Quarter (turned_cell Quarter (turned_cell a c)) ≡ turned_cell (quarter_after (quarter_after a)) c
 twice a c = ap (turned_cell Quarter) (quarter-cell a c) ∙ quarter-cell (quarter_after a) c
 

@@ -41,8 +41,8 @@ pub digits-prefix-end : (n i : ℕ) (logic : List Bool) (prefix text : List ℕ)
 unfolding digits
 digits-prefix-end n i logic prefix text h p = p ∙ ap (λ (xs : List Bool). prefix ++ digits (n + i) xs) (drop_all i logic h) ∙ append-nil prefix
 
--- if the answer at place i is true and its digit is put at place `end`, the text up to there and the later digits are
--- still `whole`
+-- if the answer at place i is true and its digit is put at place `end`, then the text up to and including `end`,
+-- followed by the later digits, is still `whole`
 pub digits-put : (n i end : ℕ) (logic : List Bool) (text whole : List ℕ) → i < length logic → get_or logic i false ≡ true
     → end < length text → whole ≡ take end text ++ digits (n + i) (drop i logic)
     → whole ≡ take (end + 1) (set text end (48 + n + i)) ++ digits (n + (i + 1)) (drop (i + 1) logic)

@@ -10,13 +10,13 @@ use Rattle.plane_core.specs.plane.Rules.{Reading, with_answer, numbers_at, begin
 abbrev pub in_prefix : List Bool → Reading → Reading
 in_prefix prefix read = record { logic = prefix ++ read.logic; remainder = read.remainder }
 
--- if the text begins with the digit n, the answer for n is true, and the text after the digit is read on
+-- if the text begins with the digit n, the answer for n is true, and reading continues after the digit
 pub numbers_at-hit : (more n : ℕ) (text : List ℕ) → begins text ((48 + n) ∷ []) ≡ true
     → numbers_at (suc more) n text ≡ with_answer true (numbers_at more (n + 1) (drop 1 text))
 unfolding numbers_at
 numbers_at-hit more n text h = rw h refl
 
--- if the text doesn't begin with the digit n, the answer for n is false, and the same text is read on
+-- if the text doesn't begin with the digit n, the answer for n is false, and reading continues with the same text
 pub numbers_at-miss : (more n : ℕ) (text : List ℕ) → begins text ((48 + n) ∷ []) ≡ false
     → numbers_at (suc more) n text ≡ with_answer false (numbers_at more (n + 1) text)
 unfolding numbers_at

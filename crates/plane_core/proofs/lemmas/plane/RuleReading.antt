@@ -1,4 +1,5 @@
--- Reading a rule: each text that is read is its rule's text, each rule's text is read, and a fault is the leftmost one.
+-- Reading a rule. If a text is read as a rule, it is the text of that rule. Each rule's text is read as that rule. If a
+-- place is reported, it is the place of the first fault.
 use Rattle.std.proofs.Common.{◌≡◌, ◌≢◌, ◌<◌, ◌≤◌, ◌+◌, ◌-◌, ◌==◌, ℕ, zero, suc, Bool, true, false, List, [], ◌∷◌, ◌++◌, length, take, drop, refl}
 use Rattle.std.proofs.Common.{sym, ◌∙◌, ap, subst, arith, append_assoc, append-nil, length-append, length-drop, codes, Result, Ok, Err, IfOk, IsTrue, ◌↔◌}
 use Rattle.std.proofs.lemmas.List.{take_at}
@@ -83,7 +84,7 @@ IsPastDigits-nil = record { past = λ n h. refl }
 pub IsPastDigits-s : (more : List ℕ) → IsPastDigits (115 ∷ more)
 IsPastDigits-s more = record { past = λ n h. let ne : 115 ≢ 48 + n = omega arith in begins-other 115 (48 + n) more ne }
 
--- a text of digits of numbers greater than n, followed by no digit, doesn't begin with the digit n
+-- if all digits at the beginning of a text are greater than n, the text doesn't begin with the digit n
 pub begins-digits : (n m : ℕ) (logic : List Bool) (remainder : List ℕ) → n < m → n < 10 → IsPastDigits remainder
     → begins (digits m logic ++ remainder) ((48 + n) ∷ []) ≡ false
 unfolding digits
@@ -143,11 +144,11 @@ pub rule_read-all : (text : List ℕ) → begins text (codes "b") ≡ true → b
 unfolding rule_read
 rule_read-all text b no_zero s end = rw (b, no_zero, s, end) refl
 
--- numbers are read from a slice as from the text without its first byte
+-- the slice after the first byte, from which the code reads numbers, gives the same reading as `drop 1 text`
 pub sliced : (k n : ℕ) (text : List ℕ) → numbers_at k n (take (length text - 1) (drop 1 text)) ≡ numbers_at k n (drop 1 text)
 sliced k n text = ap (numbers_at k n) (take-drop-remainder 1 text)
 
--- the text that remains after the births is the same if they are read from a slice, as the code does
+-- if the births are read from this slice, the remainder is the same as the remainder of `births_in`
 pub births_sliced : (text remainder : List ℕ) → remainder ≡ (numbers_at 8 1 (take (length text - 1) (drop 1 text))).remainder → remainder ≡ (births_in text).remainder
 births_sliced text remainder e = e ∙ ap (λ (r : Reading). r.remainder) (sliced 8 1 text)
 
@@ -235,8 +236,8 @@ BeginsRule-births births len =
 pub BeginsRule-rule_text : (rule : Numbers) → IsRule rule → BeginsRule (rule_text rule)
 BeginsRule-rule_text rule whole = record { rule = rule; remainder = []; is_rule = whole; spelled = sym (append-nil (rule_text rule)) }
 
--- if a rule's text begins with `b`, the births' digits of the text and the byte c after them, then c and what follows
--- it in the rule's text are `s` and the survivals' digits
+-- Let c be the byte after the births' digits of `text`. If the text of a rule begins with `b`, the same digits and c,
+-- then c and the rest of the rule's text are `s` and the rule's survivals' digits.
 pub births-shared : (text : List ℕ) (c : ℕ) (cs more : List ℕ) (rule : Numbers) → IsRule rule → (births_in text).remainder ≡ c ∷ cs
     → rule_text rule ≡ 98 ∷ (digits 1 (births_in text).logic ++ c ∷ more) → 115 ∷ digits 0 rule.survivals ≡ c ∷ more
 unfolding rule_text
@@ -247,7 +248,7 @@ births-shared text c cs more rule whole remainder spelled =
     (sym (numbers_at-digits 8 1 rule.births after_s whole.births (omega arith) (IsPastDigits-s (digits 0 rule.survivals)))
     ∙ ap (numbers_at 8 1) same ∙ numbers_at-other_remainder 8 1 (drop 1 text) c cs more remainder)
 
--- nothing follows the survivals' digits in a rule's text
+-- if c is the byte after the survivals' digits of `text`, no rule's survivals' digits are these digits followed by c
 pub survivals-shared : (text : List ℕ) (c : ℕ) (cs more : List ℕ) (rule : Numbers) → IsRule rule → (survivals_in text).remainder ≡ c ∷ cs
     → digits 0 rule.survivals ≡ digits 0 (survivals_in text).logic ++ c ∷ more → [] ≡ c ∷ more
 survivals-shared text c cs more rule whole remainder same =
@@ -302,7 +303,7 @@ Says_no_s text b no_zero no_s =
       no_zero,
     )
 
--- the rule whose text is the text up to the end of the survivals' digits
+-- the rule with the birth and survival numbers that are read from the text
 abbrev pub rule_in : List ℕ → Numbers
 rule_in text = record { births = (births_in text).logic; survivals = (survivals_in text).logic }
 
@@ -359,7 +360,7 @@ Says_all text b s end =
     empty [] h = refl
     empty (x ∷ xs) h = grind (arith, nat_tests)
 
--- the outcome of reading a text implies what `Says` states for it
+-- `Says` holds for each text and the outcome of reading it
 pub Says_rule_read : (text : List ℕ) → Says text (rule_read text)
 Says_rule_read text =
     go (begins text (codes "b")) (begins text (codes "b0")) (begins (births_in text).remainder (codes "s")) (length (survivals_in text).remainder == 0) refl

@@ -1,4 +1,4 @@
--- Generations, one after another.
+-- Runs of several generations: they keep the cells in order, and two runs join into one.
 use Rattle.std.proofs.Common.{◌≡◌, ◌+◌, ◌-◌, ◌<◌, ◌≤◌, ℕ, zero, suc, false, List}
 use Rattle.std.proofs.Common.{arith, ap, ◌∙◌, sym, subst, inl, inr, ◌⊎◌}
 use Rattle.plane_core.specs.declared.plane.cell.Cell.{Cell}

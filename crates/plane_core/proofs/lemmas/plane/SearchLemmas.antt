@@ -1,4 +1,4 @@
--- Finding a cell in a list in order, and cells of the plane.
+-- Searching lists of cells, testing all their cells, and sorting them into sets.
 use Rattle.std.proofs.Common.{◌≡◌, ℕ, ◌+◌, ◌≤◌, Bool, true, false, not, List, [], ◌∷◌, ◌<◌, drop, arith, cond, refl, ap, ◌∙◌, sym, subst}
 use Rattle.std.proofs.Common.{inl, inr, length, position, Some, None, Result, Ok, Err, is_ok, get_or, nat_lt, ◌||◌, ◌&&◌}
 use Rattle.std.specs.List.{dedup, list_all, Contains, position_from, prefix_len}
@@ -66,7 +66,7 @@ position-none p cs e = reached p cs (whole (nat_lt (prefix_len (λ c. not (not (
         head true h ih = ih (omega arith)
         head false h ih = absurd (omega arith)
 
--- each member of a list passes a test that all its cells pass
+-- if all cells of a list pass a test, each member of the list passes it
 pub list_all-has : (p : Cell → Bool) (cs : List Cell) → list_all p cs ≡ true → (c : Cell) → has cs c ≡ true → p c ≡ true
 list_all-has p [] all c e = absurd (false≢true e)
 list_all-has p (d ∷ ds) all c e =
@@ -84,7 +84,7 @@ has-list_all p (d ∷ ds) h = and_from (p d) (list_all p ds) (h d (has-head d ds
         right true b e = refl
         right false b e = e
 
--- the set of a list of cells of the plane is a pattern
+-- if all cells of a list are on the plane, the set of the list is a pattern
 pub is_pattern-set_of : (cs : List Cell) → position off_plane cs ≡ None → IsPattern (set_of cs)
 is_pattern-set_of cs none = record {
   in_order = in_order-set_of cs;

@@ -1,4 +1,4 @@
--- Lists of cells in order as finite sets.
+-- Ordered lists of cells as finite sets.
 use Rattle.std.proofs.Common.{◌≡◌, Bool, true, false, ◌||◌, List, [], ◌∷◌, ◌++◌, arith, cond, refl, ap, ◌∙◌, sym, subst, filter, ◌&&◌, inl, inr, ◌⊎◌}
 use Rattle.std.specs.List.{AllByRecursion}
 use Rattle.std.specs.List.Sorted.{IsStrictlySortedBy}
@@ -110,7 +110,7 @@ or_assoc : (a b c : Bool) → ((a || b) || c) ≡ (a || (b || c))
 or_assoc true b c = refl
 or_assoc false b c = refl
 
--- after c is inserted into a list, its members are c and those that it had before
+-- after c is inserted into a list, the members of the list are c and the earlier members
 pub has-put : (c : Cell) (ds : List Cell) (x : Cell) → has (put c ds) x ≡ (same_cell x c || has ds x)
 has-put c [] x = refl
 has-put c (d ∷ ds) x = go (cell_cmp c d) refl (has-put c ds x)
@@ -155,7 +155,7 @@ pub has-set_of : (cs : List Cell) (x : Cell) → has (set_of cs) x ≡ has cs x
 has-set_of [] x = refl
 has-set_of (c ∷ cs) x = has-put c (set_of cs) x ∙ ap (λ b. same_cell x c || b) (has-set_of cs x)
 
--- a list in order with the members of another list is the set of that list
+-- an ordered list that has the same members as another list is the set of the other list
 pub is_set_of : (S cs : List Cell) → InOrder S → ((c : Cell) → has S c ≡ has cs c) → S ≡ set_of cs
 is_set_of S cs o h = same_lists S (set_of cs) o (in_order-set_of cs) (λ c. h c ∙ sym (has-set_of cs c))
 

@@ -14,7 +14,7 @@ use Rattle.plane_core.proofs.lemmas.plane.GenerationLemmas.{a_neighbour, after-n
 use Rattle.plane_core.proofs.lemmas.plane.SearchLemmas.{list_all-has, has-list_all}
 use Rattle.plane_core.proofs.lemmas.plane.SetLemmas.{all-has, has-all}
 
--- a neighbour of a cell is at most one further from the origin
+-- a neighbour of a cell is at most one cell further from the origin
 within-beside : (n : ℕ) (c d : Cell) → king_distance c d ≤ 1 → is_within n d ≡ true → is_within (n + 1) c ≡ true
 within-beside n c d near h =
     let parts = and_parts (leb (unsigned_abs d.x) n) (leb (unsigned_abs d.y) n) h in

@@ -61,7 +61,8 @@ step_on a b d e = omega (arith, ints)
 step_of : (a b d : ℤ) → a +ℤ d ≡ b → (b -ℤ a) ≡ d
 step_of a b d e = omega (arith, ints)
 
--- if the first i cells are shifted by (dx, dy) and the next two cells are (dx, dy) apart, the first i + 1 are shifted
+-- if the first i cells of `ds` are those of `cs` shifted by (dx, dy), and the two cells at place i are (dx, dy) apart,
+-- then the first i + 1 cells of `ds` are those of `cs` shifted
 pub stepped_more : (dx dy : ℤ) (cs ds : List Cell) (i : ℕ) (z : Cell) (s : ℤ × ℤ) → i < length cs → length cs ≡ length ds
     → shifted dx dy (take i cs) ≡ take i ds
     → s ≡ ((get_or ds i z).x -ℤ (get_or cs i z).x, (get_or ds i z).y -ℤ (get_or cs i z).y) → not (int_eq s.0 dx && int_eq s.1 dy) ≡ false
@@ -76,7 +77,7 @@ stepped_more dx dy cs ds i z s low same so_far is ne =
     ap (shifted dx dy) (take_more cs i z low) ∙ map-append (moved_by dx dy) (take i cs) (get_or cs i z ∷ [])
     ∙ (λ k. so_far k ++ there k ∷ []) ∙ sym (take_more ds i z low_too)
 
--- if two cells aren't (dx, dy) apart, the lists aren't shifted by (dx, dy)
+-- if the two cells at some place aren't (dx, dy) apart, `ds` isn't `cs` shifted by (dx, dy)
 pub stepped_not : (dx dy : ℤ) (cs ds : List Cell) (i : ℕ) (z : Cell) (s : ℤ × ℤ) → i < length cs → shifted dx dy cs ≡ ds
     → s ≡ ((get_or ds i z).x -ℤ (get_or cs i z).x, (get_or ds i z).y -ℤ (get_or cs i z).y) → not (int_eq s.0 dx && int_eq s.1 dy) ≡ true → ⊥
 stepped_not dx dy cs ds i z s low same is ne =
@@ -86,7 +87,7 @@ stepped_not dx dy cs ds i z s low same is ne =
     let y : s.1 ≡ dy = ap (λ (t : ℤ × ℤ). t.1) is ∙ step_of (get_or cs i z).y (get_or ds i z).y dy (ap (λ (c : Cell). c.y) there) in
     false≢true (sym (λ k. not (int_eq-same s.0 dx x k && int_eq-same s.1 dy y k)) ∙ ne)
 
--- a nonempty list is shifted by the step between the first cells
+-- if shifting a nonempty list gives another list, the shift is the step between their first cells
 shift_is_step : (dx dy : ℤ) (c : Cell) (cs : List Cell) (d : Cell) (ds : List Cell) → shifted dx dy (c ∷ cs) ≡ d ∷ ds
     → ◌≡◌ {A = ℤ × ℤ} (d.x -ℤ c.x, d.y -ℤ c.y) (dx, dy)
 shift_is_step dx dy c cs d ds e =
@@ -139,7 +140,7 @@ clamped_same : (z : ℤ) → leb (unsigned_abs (saturate_to_bits 31 z)) plane_bo
 clamped_same (pos n) h = let low = leb-true (min n 2147483647) plane_bound h in ap pos (omega arith)
 clamped_same (negsuc n) h = let low = leb-true (suc (min n 2147483647)) plane_bound h in ap negsuc (omega arith)
 
--- a cell moved by sums that are clamped to 32 bits is on the plane exactly if the cell moved by exact sums is
+-- if the coordinates of a moved cell are clamped to 32 bits, this doesn't change whether the cell is on the plane
 pub lands_plane : (dx dy : ℤ) (c d : Cell) → d.x ≡ saturate_to_bits 31 (c.x +ℤ dx) → d.y ≡ saturate_to_bits 31 (c.y +ℤ dy)
     → on_plane d ≡ on_plane (moved_by dx dy c)
 unfolding on_plane

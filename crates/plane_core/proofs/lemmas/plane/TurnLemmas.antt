@@ -1,4 +1,4 @@
--- Images of patterns in the eight orientations, at the corner.
+-- Images of patterns in the eight orientations, moved to the corner (0, 0).
 use Rattle.std.proofs.Common.{◌≡◌, ℕ, ℤ, suc, ◌<◌, ◌≤◌, ◌+ℤ◌, ◌-ℤ◌, ◌≤ℤ◌, get_or, length, max, neg_ℤ, unsigned_abs, Bool, true, ◌&&◌, List, [], ◌∷◌}
 use Rattle.std.proofs.Common.{arith, refl, ap, ◌∙◌, sym, subst, map, Option, Some, None, Any, leb}
 use Rattle.std.specs.List.{list_all}
@@ -36,7 +36,7 @@ grown-swap : (c d : Cell) (b : Option Bounds) → grown c (Some (grown d b)) ≡
 grown-swap c d None = widened-pair c d
 grown-swap c d (Some b) = widened-swap c d b
 
--- putting a cell into a list widens its box by the cell
+-- if a cell is put into a list, the box of the list is widened to contain the cell
 box_of-put : (c : Cell) (ds : List Cell) → box_of (put c ds) ≡ Some (grown c (box_of ds))
 box_of-put c [] = refl
 box_of-put c (d ∷ ds) = go (cell_cmp c d) refl (box_of-put c ds)
@@ -85,7 +85,7 @@ landed-map : (o : Orientation) (b : Bounds) (cs : List Cell)
 landed-map o b [] = refl
 landed-map o b (c ∷ cs) = ap (λ (ds : List Cell). landed (corner_transform o (Some b)) c ∷ ds) (landed-map o b cs)
 
--- if the images of the cells have a box, the set of the cells placed by its corner transform is the image at the corner
+-- if the images of the cells have a box, the corner transform for this box maps the cells to the image at the corner
 pub landed-turned : (o : Orientation) (cs : List Cell) (b : Bounds) → box_of (map (turned_cell o) cs) ≡ Some b
     → set_of (map (landed (corner_transform o (Some b))) cs) ≡ turned o cs
 unfolding turned image
@@ -141,7 +141,7 @@ images_on_plane o (c ∷ cs) h =
     let parts = and_parts (on_plane c) (list_all on_plane cs) h in
     and_from (on_plane (turned_cell o c)) (list_all on_plane (map (turned_cell o) cs)) (on_plane-turned o c parts.0) (images_on_plane o cs parts.1)
 
--- the corner of the box around cells of the plane is within the bound of the plane
+-- if all cells of a list are on the plane, the left and the top of their box are within `plane_bound`
 pub corner_small : (cs : List Cell) (b : Bounds) → box_of cs ≡ Some b → list_all on_plane cs ≡ true
     → (unsigned_abs b.left ≤ plane_bound) × (unsigned_abs b.top ≤ plane_bound)
 unfolding on_plane

@@ -11,7 +11,7 @@ use lib.Lanes.{zip2, Each1}
 
 -- ---- one operation
 
--- lane j of the result of an operation is the operation on lane j of each operand
+-- lane j of the result of an operation is the operation applied to lane j of both operands
 pub lane_of : (f : ℕ → ℕ → ℕ) (a b : List ℕ) (j : ℕ) → length a ≡ 4 → length b ≡ 4 → j < 4
     → slice_index (zip2 f a b) j ≡ f (slice_index a j) (slice_index b j)
 lane_of f a b j la lb low = get_or-zip2 f a b j 0 0 0 (omega arith) (omega arith)
@@ -95,7 +95,8 @@ lane_choice test one other j i lt lo ln low =
 
 -- ---- two words joined into one
 
--- lane j of the union of `first` shifted down by s and `second` shifted up by 64 - s is the union of both shifted lanes
+-- if vector `first` is shifted down by s bits and `second` up by 64 - s bits, lane j of their bitwise OR is computed in
+-- the same way from lane j of `first` and lane j of `second`
 pub joined_lane : (first second : List ℕ) (j s : ℕ) → length first ≡ 4 → length second ≡ 4 → j < 4
     → slice_index
     (zip2 bit_or (zip2 (λ (a b : ℕ). a / 2 ^ b) first (replicate 4 s))

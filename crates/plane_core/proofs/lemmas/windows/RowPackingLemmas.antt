@@ -1,4 +1,4 @@
--- The rows of a window, one after another and in vectors.
+-- The two forms of a window's rows: in a list, one after another, and packed in vectors.
 use Rattle.std.proofs.Common.{zero, suc, length, length-set, ◌∷◌, ◌++◌, ◌≡◌, ◌≢◌, ◌+◌, ◌-◌, ◌*◌, ◌%◌, ◌<◌, ◌≤◌, ◌⊎◌, ℕ, List, [], arith, refl, ap, subst, ◌∙◌, sym, inl, inr, get_or, set, slice_index}
 use Rattle.std.proofs.lemmas.Bool.{cases_lt}
 use Rattle.std.proofs.lemmas.List.{get_or-append_right, get_or-set_other, get_or-set_same, get_or_append_left}
@@ -46,7 +46,7 @@ four_of x k (suc (suc (suc (suc i)))) j low = absurd (omega (arith, low))
 abbrev pub ArePacked : ℕ → List ℕ → List (List ℕ) → ℕ → Type 0
 ArePacked n rows x k = (m j : ℕ) → m < k → j < 4 → lane_at x m j ≡ slice_index rows (j * n + m)
 
--- packing vectors k to k + 3, and leaving the packed vectors before them unchanged, packs the vectors before k + 4
+-- once vectors k to k + 3 are packed too, and the earlier vectors are unchanged, all vectors before k + 4 are packed
 pub packed_four : (n k : ℕ) (rows : List ℕ) (x y : List (List ℕ)) → ArePacked n rows x k
     → ((i j : ℕ) → i < 4 → j < 4 → lane_at y (k + i) j ≡ slice_index rows (j * n + (k + i)))
     → ((m j : ℕ) → m < k → lane_at y m j ≡ lane_at x m j) → ArePacked n rows y (k + 4)
@@ -74,7 +74,7 @@ unpacked_more n window rows more vector k small is same at others j m low less =
         ap (λ (q : ℕ). slice_index more (j * n + q)) e ∙ at j low ∙ ap (λ (v : List ℕ). slice_index v j) same ∙ ap (λ (q : ℕ). lane_at window q j) (sym e)
     split (inr apart) = others j m low (omega arith) apart ∙ is j m low (omega arith)
 
--- unpacking vectors k to k + 3, and leaving the rows of vectors before k unchanged, unpacks the first k + 4 vectors
+-- once vectors k to k + 3 are unpacked too, and the rows of earlier vectors are unchanged, the first k + 4 are unpacked
 pub unpacked_four : (n k : ℕ) (window : List (List ℕ)) (rows more : List ℕ) → AreUnpacked n window rows k
     → ((i j : ℕ) → i < 4 → j < 4 → slice_index more (j * n + (k + i)) ≡ lane_at window (k + i) j)
     → ((m j : ℕ) → m < k → j < 4 → slice_index more (j * n + m) ≡ slice_index rows (j * n + m)) → AreUnpacked n window more (k + 4)
@@ -86,8 +86,8 @@ unpacked_four n k window rows more before made others j m lane less = split (cas
         let is : k + (m - k) ≡ m = omega arith in
         subst (λ (q : ℕ). slice_index more (j * n + q) ≡ lane_at window q j) is (made (m - k) j (omega arith) lane)
 
--- four words are written in each quarter of the rows: r1 is r0 with vector 0 of `four` from row k on, r2 is r1 with
--- vector 1 of `four` from row n + k on, and so on; r4 is the result
+-- Four words are written in each quarter of the rows. r1 is r0 with vector 0 of `four` in rows k to k + 3, r2 is r1
+-- with vector 1 of `four` in rows n + k to n + k + 3, and so on. r4 is the result.
 module _ (n k : ℕ) (r0 r1 r2 r3 r4 : List ℕ) (four : List (List ℕ)) (fit : k + 4 ≤ n)
     (at1 : (i : ℕ) → i < 4 → slice_index r1 (k + i) ≡ lane_at four 0 i) (others1 : (m : ℕ) → (m < k) ⊎ (k + 4 ≤ m) → slice_index r1 m ≡ slice_index r0 m)
     (at2 : (i : ℕ) → i < 4 → slice_index r2 (n + k + i) ≡ lane_at four 1 i)

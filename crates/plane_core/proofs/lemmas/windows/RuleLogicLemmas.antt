@@ -41,8 +41,8 @@ lives_by-cond : (rule : Numbers) (n : ℕ) (alive : Bool) → cond alive (is_sur
 lives_by-cond rule n true = refl
 lives_by-cond rule n false = refl
 
--- `dead` xor (`change` and `now`) is the rule's answer for the total n, in each lane, if the bits of `dead` are the
--- answer for births and the bits of `change` are 1 exactly if the answer for survival differs
+-- Let the bits of `dead` be the answer for births, and let the bits of `change` be 1 exactly if the answer for survival
+-- differs. Then `dead` xor (`change` and `now`) is the rule's answer for the total n in each lane.
 pub lane_answer : (rule : Numbers) (n dead change : ℕ) (now : List ℕ) (j i : ℕ) → length now ≡ 4 → j < 4 → bit_at dead i ≡ one_if (is_birth rule n)
     → bit_at change i ≡ (one_if (is_birth rule n) + one_if (is_survival rule (n - 1))) % 2
     → bit_of (zip2 bit_xor (replicate 4 dead) (zip2 bit_and (replicate 4 change) now)) j i ≡ one_if (lives_by rule n (bit_of now j i == 1))
@@ -107,8 +107,8 @@ lane_only_one a b c d j i la lb lc ld low =
         (max (min (bit_of a j i) (bit_of b j i)) (min (bit_of c j i) (bit_of d j i)))
     both = together odds twos odds_long twos_long ∙ (λ t. min (odd t) (two t))
 
--- `one` and (`low.ones` or `now`) is Life's answer, in each lane, if `low` is the sum of the three ones digits, and a
--- bit of `one` is 1 if exactly one of the four twos digits is 1, otherwise 0
+-- Let `low` be the sum of the three ones digits, and let a bit of `one` be 1 if exactly one of the four twos digits is
+-- 1, otherwise 0. Then the bitwise formula `one` and (`low.ones` or `now`) is Life's answer in each lane.
 pub lane_life : (up beside down low : Sum) (one now : List ℕ) (j i : ℕ) → length one ≡ 4 → length low.ones ≡ 4 → length now ≡ 4 → j < 4
     → sum_of low j i ≡ bit_of up.ones j i + bit_of down.ones j i + bit_of beside.ones j i
     → bit_of one j i ≡ one_if (bit_of up.twos j i + bit_of down.twos j i + bit_of beside.twos j i + bit_of low.twos j i == 1)

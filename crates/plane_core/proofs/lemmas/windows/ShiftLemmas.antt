@@ -64,7 +64,8 @@ no_second a b i none = omega (arith, bit_at_or a b i, none)
 no_first : (a b i : ℕ) → bit_at a i ≡ 0 → bit_at (bit_or a b) i ≡ bit_at b i
 no_first a b i none = omega (arith, bit_at_or a b i, none)
 
--- the 64 bits from column s on of two words side by side: the bits of `first` from s on, then low bits of `second`
+-- with two words side by side, the 64 bits that begin at column s are the bits of `first` from s on, then the low s
+-- bits of `second`
 pub joined_left : (first second s i : ℕ) → s < 64 → i + s < 64
     → bit_at (bit_or (first / 2 ^ s) (second * 2 % 2 ^ 64 * 2 ^ (63 - s) % 2 ^ 64)) i ≡ bit_at first (i + s)
 joined_left first second s i small inside =

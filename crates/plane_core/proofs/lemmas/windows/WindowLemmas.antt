@@ -35,8 +35,8 @@ lane_end n (suc (suc zero)) low = omega arith
 lane_end n (suc (suc (suc zero))) low = omega arith
 lane_end n (suc (suc (suc (suc j)))) low = absurd (omega arith)
 
--- the row above a row is in the previous vector, in the same lane, unless the row is in the first vector; the row below
--- it is in the next vector, in the same lane, unless the row is in the last vector
+-- The row above a given row is in the same lane of the previous vector, unless the given row is in the first vector.
+-- The row below is in the same lane of the next vector, unless the given row is in the last vector.
 above_more : (n : ℕ) (x : List (List ℕ)) (j k : ℕ) → row_above n x (j * n + (k + 1)) ≡ row_at n x (j * n + k)
 above_more n x j k = let at : j * n + (k + 1) ≡ suc (j * n + k) = omega arith in ap (row_above n x) at
 
@@ -118,12 +118,13 @@ below_stop n x first down some others last is j i low inside =
 
 -- ---- the next generation, vector by vector
 
--- the lanes of the first `count` vectors of y are the rows of these vectors of x one generation later
+-- the first `count` vectors of y are computed: their lanes are the rows of the same vectors of x one generation later
 abbrev pub AreMade : Numbers → ℕ → List (List ℕ) → List (List ℕ) → ℕ → Type 0
 AreMade rule n x y count = (k : ℕ) → k < count → (j : ℕ) → j < 4
     → IsNextRow rule (row_above n x (j * n + k)) (row_at n x (j * n + k)) (row_below n x (j * n + k)) (lane_at y k j)
 
--- if `next` answers the sums above, at and below vector k, its lanes are the rows of vector k one generation later
+-- if `next` has the rule's answers for the sums above, at and below vector k, the lanes of `next` are the rows of
+-- vector k one generation later
 pub made_next : (rule : Numbers) (n : ℕ) (x : List (List ℕ)) (up here down : Sum) (now next : List ℕ) (k : ℕ) → k < n → AreAbove n x up k → AreHere n x here k
     → AreBelow n x down k → now ≡ get_or x k [] → AnswersRows rule up here down now next → (j : ℕ) → j < 4
     → IsNextRow rule (row_above n x (j * n + k)) (row_at n x (j * n + k)) (row_below n x (j * n + k)) (slice_index next j)
@@ -273,8 +274,8 @@ block_shown S n left top depth x o shown (suc r) i h1 h2 h3 h4 =
     ap (λ (w : ℕ). row_sum w i) (below_inner n x (suc r) (omega arith)) in
     omega (arith, neighbourhood_total-around S c, times_once S c o, above, here, below, under)
 
--- if a window shows a pattern from `depth` cells inside on, the next window shows the next generation from `depth` + 1
--- cells inside on
+-- if a window shows a pattern in all cells that are at least `depth` inside its border, the next window shows the next
+-- generation in all cells that are at least `depth` + 1 inside
 pub shown_next : (rule : Numbers) (S : List Cell) (n : ℕ) (left top : ℤ) (depth : ℕ) (x y : List (List ℕ)) → InOrder S → IsShownInside n left top depth x S
     → IsNextWindow rule n x y → IsShownInside n left top (depth + 1) y (next rule S)
 shown_next rule S n left top depth x y o shown step r i h1 h2 h3 h4 =

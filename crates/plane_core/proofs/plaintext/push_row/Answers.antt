@@ -8,7 +8,7 @@ use Rattle.plane_core.proofs.lemmas.plaintext.PlaintextRows.{live_here, dead_her
 use Rattle.plane_core.proofs.plaintext.push_row.Goals as goal
 use Rattle.plane_core.proofs.plaintext.push_row.Goals.{then-is_live+in_ok-push, else-is_live}
 
--- a number below `side_limit` is the same as a signed number of 32 bits
+-- a number below `side_limit` keeps its value when it is cast to `i32`
 to_z_small : (n : ℕ) → n < side_limit → to_z w32 n ≡ pos n
 to_z_small n small = omega (arith, ints, small)
 

@@ -1,5 +1,5 @@
-//! How a board advances: by leaps of four generations, after an odd leap if the number of generations is odd, and with
-//! a leap of two at the end if two are left.
+//! How a board advances. If the number of generations is odd, an odd leap is made first. Leaps of four generations
+//! follow, and then a leap of two if at least two generations are left.
 //!
 //! ```text
 //! advance(most: 11)    a leap of 3, while the boxes hold all live cells
@@ -60,8 +60,8 @@ impl Board {
     }
 
     /// Makes one leap of `count` generations, 1 to 4, and returns the number made: all, or none. None are made if the
-    /// leap would come too near to the border of the board, or if `count` is odd and the boxes may not hold all live
-    /// cells.
+    /// leap would come too near to the border of the board, or if `count` is odd and the boxes aren't known to hold all
+    /// live cells.
     fn leap(&mut self, count: u32) -> Result<u32, OutOfMemory>
         requires some { 1 ≤ count }
         requires few { count ≤ 4 }

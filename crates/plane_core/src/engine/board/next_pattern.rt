@@ -45,7 +45,7 @@ const ROWS: usize = 40;
 /// The number of rows of a band, which are the inner rows of its windows.
 const BAND_ROWS: usize = ROWS - 2 * MARGIN;
 
-/// A window after one generation: its rows, of which the inner ones are right.
+/// A window after one generation, of which only the inner part is known to be correct.
 #[derive(Clone, Copy)]
 pub(crate) struct NextRows {
     /// The column of the board in which the window begins.

@@ -67,7 +67,8 @@ pub(crate) fn longer_side(bounds: Bounds) -> u32 {
 }
 
 /// Returns the first column (or row) of a view whose middle is halfway between `from` and `to`. The result is counted
-/// from `start`, the first column (or row) of the board. Returns `None` if the view would begin before the board.
+/// from `start`, the first column (or row) of the board. Returns `None` if `from` or `to` is before `start`, or if the
+/// view would begin before `start`.
 #[tactic(auto, using(crate::proofs::lemmas::engine::FrameFits::middle_low))]
 fn first_of(from: i32, to: i32, start: i32) -> Option<usize>
     ensures { IfSome result (λ first. first < 2 ^ 32) }

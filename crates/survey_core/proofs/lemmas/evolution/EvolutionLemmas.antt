@@ -9,7 +9,7 @@ use Rattle.survey_core.specs.UnderWay.{StaysNear, survey_reach}
 use Rattle.survey_core.proofs.lemmas.FindingLemmas.{after-then}
 use Rattle.survey_core.proofs.lemmas.PlaneLemmas.{within_later}
 
--- a generations and then b generations are n generations if a + b is n
+-- if a + b is n, `a` generations followed by `b` generations are n generations
 pub in_parts : (rule : Numbers) (cells : List Cell) (a b n : ℕ) → a + b ≡ n → after rule (after rule cells a) b ≡ after rule cells n
 in_parts rule cells a b n is = after-then rule cells a b ∙ ap (after rule cells) is
 
@@ -17,8 +17,8 @@ in_parts rule cells a b n is = after-then rule cells a b ∙ ap (after rule cell
 pub near_now : (rule : Numbers) (cells : List Cell) (n : ℕ) → StaysNear rule cells n → lies_within survey_reach cells ≡ true
 near_now rule cells n near = ap (lies_within survey_reach) (sym (after-none rule cells)) ∙ near 0 (omega arith)
 
--- if a pattern is near the origin now, and the pattern `ahead` generations later, where `ahead` is 0 or 1, stays near
--- it for n generations, the pattern stays near it for `ahead` + n generations
+-- if a pattern is near the origin now and in the generations `ahead` (0 or 1) to `ahead` + n, it stays near the origin
+-- for `ahead` + n generations
 pub near_ahead : (rule : Numbers) (cells : List Cell) (ahead n : ℕ) → ahead ≤ 1 → lies_within survey_reach cells ≡ true
     → StaysNear rule (after rule cells ahead) n → StaysNear rule cells (ahead + n)
 near_ahead rule cells ahead n few here near g low = go (less_or_not g ahead)

@@ -47,7 +47,8 @@ whole-none rule t board order =
     same_lists (whole_at rule t board []) board (in_order-whole rule t board []) order
     (λ c. has-whole rule t board [] c ∙ or_nothing (has board c))
 
--- if `all` is the board and a spaceship together, listing the spaceship apart from the board doesn't change the whole
+-- if `all` is the union of a board and a spaceship, taking the spaceship off and adding it to the list doesn't change
+-- the whole
 pub whole-more : (rule : Numbers) (t : ℕ) (all board : List Cell) (spaceships : List Spaceship) (spaceship : Spaceship)
     → ((c : Cell) → has all c ≡ (has board c || has (spaceship_at rule t spaceship) c)) → whole_at rule t all spaceships ≡ whole_at rule t board (spaceships ++ spaceship ∷ [])
 whole-more rule t all board spaceships spaceship is =
@@ -137,8 +138,7 @@ same_whole_now rule t board spaceships spaceship order slow now is =
     (λ i. whole_at rule (sym (add-zero t) i) (sym (after-none rule board) i) spaceships) ∙ same_whole rule t 0 board spaceships spaceship order slow now is
     ∙ (λ i. whole_at rule (add-zero t i) (after-none rule (without board spaceship.cells) i) (spaceships ++ spaceship ∷ []))
 
--- under a slow rule, a spaceship that is ahead of the rest of the board is off the board once it is removed, like those
--- removed before
+-- under a slow rule, removing one more spaceship that is ahead of the rest of the board keeps `AreOff` true
 pub all_off_more : (rule : Numbers) (t : ℕ) (board : List Cell) (spaceships : List Spaceship) (spaceship : Spaceship) → is_slow rule ≡ true → spaceship.since ≡ t
     → IsForemost rule board spaceship.recurrence spaceship.cells → AreOff rule t board spaceships → AreOff rule t (without board spaceship.cells) (spaceships ++ spaceship ∷ [])
 all_off_more rule t board spaceships spaceship slow now is off = record {
@@ -178,7 +178,7 @@ all_off_more rule t board spaceships spaceship slow now is off = record {
 
 -- ---- what the board says about the whole
 
--- a part of the board `ahead` generations later, where `ahead` is 0 or 1, stays apart from each removed spaceship
+-- if `ahead` is 0 or 1, a part of the board's generation `ahead`, run alone, stays apart from each removed spaceship
 part_apart : (rule : Numbers) (t : ℕ) (board cells : List Cell) (spaceship : Spaceship) (ahead g : ℕ) → IsOff rule t board spaceship → InOrder board → InOrder cells
     → ahead ≤ 1 → ((c : Cell) → has cells c ≡ true → has (after rule board ahead) c ≡ true)
     → LieApart (after rule cells g) (spaceship_at rule (t + (ahead + g)) spaceship)
@@ -194,8 +194,8 @@ part_apart rule t board cells spaceship ahead g off order in_order few part =
     further : (m d : ℤ) (half : ℕ) → (pos 2 *ℤ d) ≤ℤ ((pos 2 *ℤ (m +ℤ pos half)) +ℤ pos (ahead + 1)) → d ≤ℤ (m +ℤ pos (half + ahead))
     further m d half low = omega (arith, ints, few)
 
--- no removed spaceship ever has a cell at king distance 2 or less from a part of the board `ahead` generations later,
--- where `ahead` is 0 or 1
+-- if `ahead` is 0 or 1, and a part of the board's generation `ahead` is run alone, no removed spaceship ever has a cell
+-- at king distance 2 or less from a cell of that part
 no_spaceship_near : (rule : Numbers) (t : ℕ) (board cells : List Cell) (spaceships : List Spaceship) (ahead g : ℕ) → AreOff rule t board spaceships → InOrder cells
     → ahead ≤ 1 → ((c : Cell) → has cells c ≡ true → has (after rule board ahead) c ≡ true) → (c d : Cell) → has (after rule cells g) c ≡ true
     → king_distance c d ≤ 2 → list_any (λ (spaceship : Spaceship). has (spaceship_at rule (t + (ahead + g)) spaceship) d) spaceships ≡ true → ⊥
@@ -208,7 +208,7 @@ no_spaceship_near rule t board cells spaceships ahead g off in_order few part c 
         let far : 3 ≤ king_distance c d = part_apart rule t board cells spaceship ahead g is off.in_order in_order few part c d here there in
         omega (arith, near, far)
 
--- a cell of the whole at a later time is a cell of the board or of a spaceship
+-- at a later time, a cell is in the whole if and only if it is on the board or in a removed spaceship
 whole_later : (rule : Numbers) (t : ℕ) (board : List Cell) (spaceships : List Spaceship) (g : ℕ) (c : Cell) → AreOff rule t board spaceships
     → has (after rule (whole_at rule t board spaceships) g) c
     ≡ (has (after rule board g) c || list_any (λ (spaceship : Spaceship). has (spaceship_at rule (t + g) spaceship) c) spaceships)

@@ -283,7 +283,7 @@ pub minus_told : (s : ℤ) → unsigned_abs s ≤ 2 ^ 33 → to_z w64 (of_z w64 
 minus_told s small =
     ap (λ (v : ℤ). to_z w64 (of_z w64 (pos 0 -ℤ v))) (is_told s small) ∙ is_told (pos 0 -ℤ s) (minus_small s small)
 
--- a fast enough pattern whose envelope begins far enough past m is a spaceship ahead of m
+-- a fast enough pattern whose envelope begins far enough past depth m is a spaceship ahead of everything up to depth m
 pub ahead_by_envelope : (rule : Numbers) (limit : ℕ) (cells : List Cell) (envelope : EnvelopeBounds) (way : Orientation) (m : ℤ) → IsEnvelope rule limit cells envelope
     → pos envelope.recurrence.period ≤ℤ (pos 2 *ℤ depth (turned_cell way (cell_at envelope.recurrence.dx envelope.recurrence.dy))) → BeginsPast way m envelope
     → IsAheadOf rule way m envelope.recurrence cells
@@ -359,14 +359,14 @@ pub times-product : (n : ℕ) (d : ℤ) → times n d ≡ pos n *ℤ d
 times-product zero d = sym (zero-*ℤ d)
 times-product (suc n) d = ap (λ (t : ℤ). t +ℤ d) (times-product n d) ∙ sym (suc_ℤ-*ℤ (pos n) d)
 
--- the pattern at an age is one of its phases, displaced by whole periods
+-- at any age, a spaceship is one of its phases, displaced once for each whole period
 pub spaceship_by_cycles : (rule : Numbers) (r : Recurrence) (cells : List Cell) (age : ℕ) → IsSpaceship rule r cells
     → after rule cells age ≡ shifted (times (age / r.period) r.dx) (times (age / r.period) r.dy) (after rule cells (age % r.period))
 spaceship_by_cycles rule r cells age is =
     ap (after rule cells) (sym (div-add-mod' age r.period))
     ∙ after_cycles rule cells r.period r.dx r.dy is.in_order is.back (age / r.period) (age % r.period)
 
--- the phase, displaced by whole periods, is the spaceship at this age
+-- the phase, displaced once for each whole period, is the spaceship at this age
 pub spaceship_moved : (rule : Numbers) (r : Recurrence) (cells phase result : List Cell) (age : ℕ) (x y dx dy : ℤ) → IsSpaceship rule r cells
     → phase ≡ after rule cells (age % r.period) → x ≡ times (age / r.period) dx → y ≡ times (age / r.period) dy → dx ≡ r.dx → dy ≡ r.dy
     → result ≡ shifted x y phase → result ≡ after rule cells age

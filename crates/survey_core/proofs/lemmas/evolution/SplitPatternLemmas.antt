@@ -62,7 +62,7 @@ small_by_envelope rule limit spaceship cells envelope few some near same back is
 
 -- ---- a split pattern
 
--- the position of each spaceship can be computed at any later time
+-- the position of each spaceship at any later time can be computed
 pub traced_later : (rule : Numbers) (t g : ℕ) (board : List Cell) (spaceships : List Spaceship) → IsSplitAt rule t board spaceships
     → All (IsTraced rule (t + g)) spaceships
 traced_later rule t g board spaceships is k d low = record {

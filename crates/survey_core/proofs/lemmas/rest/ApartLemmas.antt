@@ -1,4 +1,4 @@
--- Parts that lie apart now: in the next generation, they are together what each of them becomes alone.
+-- Parts that lie apart now: the next generation of their union is the union of their next generations.
 use Rattle.std.proofs.Common.{◌≡◌, ◌≢◌, ◌∙◌, ◌+◌, ◌<◌, ◌≤◌, ◌⊎◌, ◌||◌, ap, sym, refl, subst, inl, inr, ℕ, zero, suc, Bool, true, false, List, [], ◌∷◌, All, AllPairs, arith, get_or, length, map}
 use Rattle.std.specs.List.{list_any}
 use Rattle.std.proofs.lemmas.List.{get_or_default, get_or-map, length-map}
@@ -184,7 +184,8 @@ later_parts rule g clusters latest is = ap (map (λ part. after rule part 1)) is
     each [] = refl
     each (part ∷ parts) = λ i. after-plus rule part g 1 i ∷ each parts i
 
--- clusters keep apart in generation g + 1 if and only if their generations g, run anew, keep apart in generation 1
+-- clusters keep apart in generation g + 1 if and only if `latest`, the same clusters in generation g, keep apart one
+-- generation later
 pub record AreOneLater (rule : Numbers) (cells : List Cell) (clusters latest : List (List Cell)) (g : ℕ) : Type 0 where
   pub there : KeepApart rule (union_of latest) latest 1 → KeepApart rule cells clusters (g + 1)
   pub back : KeepApart rule cells clusters (g + 1) → KeepApart rule (union_of latest) latest 1

@@ -51,7 +51,7 @@ members_all P k (g ∷ gs) (part ∷ parts) all =
     go false more = more
     go true more = All-cons P part (members k gs parts) (all 0 part (omega arith)) more
 
--- a group has at most as many parts as its number has occurrences
+-- the number of parts in group k is at most the number of entries of `gs` that are k
 pub members_few : (k : ℕ) (gs : List ℕ) (parts : List (List Cell)) → length (members k gs parts) ≤ length (filter (λ (g : ℕ). g == k) gs)
 members_few k [] parts = let none = ap length (members-none k parts) in omega (arith, none)
 members_few k (g ∷ gs) [] = let none = ap length (members-nil k (g ∷ gs)) in omega (arith, none)
@@ -453,8 +453,8 @@ members_more k gs parts i d low same =
     length_take : {X : Type 0} (xs : List X) (i : ℕ) → i < length xs → length (take i xs) ≡ i
     length_take xs i h = length-take-le i xs (omega arith)
 
--- `members_other`: part i is in another group, so that the first i + 1 parts have no more parts of group k than the
--- first i; `members_one`: part i is one more part of the group
+-- `members_other`: if part i isn't in group k, the parts of group k among the first i + 1 parts are the same as among
+-- the first i parts; `members_one`: if part i is in group k, it is added to them
 pub members_other : (k : ℕ) (gs : List ℕ) (parts : List (List Cell)) (i : ℕ) → i < length parts → length gs ≡ length parts → get_or gs i 0 ≢ k
     → members k (take (i + 1) gs) (take (i + 1) parts) ≡ members k (take i gs) (take i parts)
 members_other k gs parts i low same ne =

@@ -140,7 +140,7 @@ places_more horizon envelopes old new place other there count before coarser eac
       (subst (λ (n : ℕ). j < n) (sym count) (omega (arith, less, before, there))) ne)
 ]
 
--- an element of a nonempty list
+-- the first element of a nonempty list
 pub first_of : (envelopes : List EnvelopeBounds) (i : ℕ) → i < length envelopes → EnvelopeBounds
 first_of [] i low = absurd (omega arith)
 first_of (s ∷ ss) i low = s

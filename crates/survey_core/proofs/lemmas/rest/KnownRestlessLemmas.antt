@@ -1,4 +1,4 @@
--- Checkpoints that are known not to be at rest.
+-- Checkpoints at which a pattern is known not to be at rest.
 use Rattle.std.proofs.Common.{◌≡◌, ◌∙◌, ◌+◌, ◌%◌, ℕ, Bool, true, false, List, ap, arith, get_or-set_other, inl, inr, replicate, set, sym, subst}
 use Rattle.std.proofs.lemmas.List.{get_or-replicate}
 use Rattle.std.proofs.lemmas.Bool.{cases_eq, false≢true}

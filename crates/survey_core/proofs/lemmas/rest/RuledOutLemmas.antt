@@ -17,7 +17,7 @@ use Rattle.survey_core.specs.shapes.RecurringShapes.{RecursWithin}
 use Rattle.survey_core.proofs.lemmas.rest.GroupLemmas.{keeps_adds}
 use Rattle.survey_core.proofs.lemmas.shapes.MemoLemmas.{never_recurs}
 
--- each cluster of a pattern is in the list of its clusters
+-- each cluster of a pattern is in the pattern's list of clusters
 is_one_of : (cells cluster : List Cell) (clusters : List (List Cell)) → AreClusters cells clusters → IsCluster cells cluster
     → Any (λ one. one ≡ cluster) clusters
 is_one_of cells cluster clusters are is = go (are.every is.start is.has_start)

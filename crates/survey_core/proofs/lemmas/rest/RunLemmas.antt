@@ -1,4 +1,4 @@
--- Clusters that are run alone, and those that are themselves again.
+-- Clusters that are run alone, and clusters that are the same as at the start.
 use Rattle.std.proofs.Common.{◌≡◌, ◌∙◌, ◌+◌, ◌<◌, ◌≤◌, ◌++◌, ap, sym, refl, subst, ℕ, List, [], ◌∷◌, All, append_assoc, arith, drop, get_or, length, map, set}
 use Rattle.std.proofs.Common.{take, true}
 use Rattle.std.proofs.lemmas.List.Elements.{All-map}
@@ -14,7 +14,7 @@ use Rattle.survey_core.specs.UnderWay.{survey_reach}
 use Rattle.survey_core.proofs.lemmas.rest.GroupLemmas.{members_one}
 use Rattle.survey_core.proofs.lemmas.PlaneLemmas.{within_later}
 
--- if all clusters are themselves again, each of them is
+-- if all clusters are the same as at the start, each of them is
 pub back_at : (list : List Alone) (i : ℕ) (alone : Alone) → i < length list → alone ≡ get_or list i alone → latest_of list ≡ clusters_of list
     → alone.latest ≡ alone.cluster
 back_at list i alone low is same =
@@ -22,7 +22,7 @@ back_at list i alone low is same =
     ∙ ap (λ (all : List (List Cell)). get_or all i []) same
     ∙ get_or-map (λ (a : Alone). a.cluster) list i alone [] low ∙ ap (λ (a : Alone). a.cluster) (sym is)
 
--- if the first i clusters and cluster i are themselves again, the first i + 1 clusters are
+-- if the first i clusters and cluster i are the same as at the start, the first i + 1 clusters are
 pub back_more : (list : List Alone) (i : ℕ) (alone : Alone) → i < length list → alone ≡ get_or list i alone
     → latest_of (take i list) ≡ clusters_of (take i list) → alone.latest ≡ alone.cluster
     → latest_of (take (i + 1) list) ≡ clusters_of (take (i + 1) list)
@@ -31,8 +31,8 @@ back_more list i alone low is before same =
     ∙ (λ j. before j ++ (ap (λ (a : Alone). a.latest) (sym is) ∙ same ∙ ap (λ (a : Alone). a.cluster) is) j ∷ [])
     ∙ sym (map_more (λ (a : Alone). a.cluster) list i alone low)
 
--- for clusters that are run alone for g generations, `clusters_of` is the clusters, and `latest_of` is what they are
--- after g generations
+-- for clusters that are run alone for g generations, `clusters_of` gives the clusters, and `latest_of` gives the
+-- clusters g generations later
 pub clusters_alone : (rule : Numbers) (g : ℕ) (clusters : List (List Cell)) → clusters_of (map (alone_at rule g) clusters) ≡ clusters
 clusters_alone rule g [] = refl
 clusters_alone rule g (cluster ∷ clusters) = ap (λ (more : List (List Cell)). cluster ∷ more) (clusters_alone rule g clusters)
@@ -75,8 +75,8 @@ latest_near rule g clusters list is low near =
     (All-map (λ (a : Alone). lies_within 999999 a.latest ≡ true) (alone_at rule g) clusters
     (λ k d there. within_later survey_reach 999999 rule (get_or clusters k d) g (omega arith) (near k d there)))
 
--- if part i is in group k, adding it as a cluster that is run for 0 generations gives the list for the group's parts
--- among the first i + 1 parts
+-- if part i is in group k, adding part i to the list of the group's parts among the first i parts gives the list for
+-- the first i + 1 parts; each part is listed as a cluster that is run for 0 generations
 pub start_more : (rule : Numbers) (k : ℕ) (gs : List ℕ) (parts : List (List Cell)) (i : ℕ) (d : List Cell) (list : List Alone) (alone : Alone)
     → i < length parts → length gs ≡ length parts → get_or gs i 0 ≡ k → list ≡ map (alone_at rule 0) (members k (take i gs) (take i parts))
     → alone ≡ alone_at rule 0 (get_or parts i d) → list ++ alone ∷ [] ≡ map (alone_at rule 0) (members k (take (i + 1) gs) (take (i + 1) parts))

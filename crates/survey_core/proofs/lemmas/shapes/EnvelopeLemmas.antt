@@ -121,7 +121,7 @@ in_cycle rule limit cells s p n r is (inr still) low =
 
 -- ---- clear boxes
 
--- if a box begins more than two past the end of another, coordinates in the two differ by 3 or more
+-- if a box begins more than two past the end of another, coordinates in the two boxes differ by 3 or more
 far_past : (end begin x t u a b : ℤ) → is_past end (pos 0) begin x ≡ true → x +ℤ t ≡ u → a ≤ℤ (end +ℤ t) → (begin +ℤ u) ≤ℤ b → 3 ≤ distance a b
 far_past end begin x t u a b h e low high =
     let less : ((end +ℤ pos 0) +ℤ pos 2) <ℤ (begin +ℤ x) = strict _ _ h in
@@ -261,7 +261,7 @@ clear_more one other n x y is_x is_y before now m low = elim (eq-or-lt_of_le (m_
     m_low : (m : ℕ) → m < n + 1 → m ≤ n
     m_low m h = omega arith
 
--- induction from cycle n: a property that carries over from each cycle to the next holds in all later cycles
+-- induction: a property that holds in cycle n, and carries over from each cycle to the next, holds in all later cycles
 in_later_cycles : (P : ℕ → Type 0) (n : ℕ) → ((m : ℕ) → P m → P (suc m)) → P n → (m : ℕ) → n ≤ m → P m
 in_later_cycles P n more now zero low = subst P (omega (arith, low)) now
 in_later_cycles P n more now (suc m) low = elim (eq-or-lt_of_le low) [
@@ -296,14 +296,15 @@ either {a} {b} {c} {d} one other some = elim (or_cases a b some) [ inl e ↦ or_
 abbrev is_parting : Bounds → Bounds → ℤ → ℤ → ℤ → ℤ → Bool
 is_parting one other x y dx dy = gap_stays (gaps_of one other x y) dx dy
 
--- boxes that part are clear in all later cycles
+-- if `is_parting` is true in cycle n, the boxes are clear of each other in all later cycles
 parting_clear : (one other : Bounds) (dx dy : ℤ) (n m : ℕ) → n ≤ m → is_parting one other (times n dx) (times n dy) dx dy ≡ true
     → is_clear one other (times m dx) (times m dy) ≡ true
 parting_clear one other dx dy n m low =
     either (either (either (past_later one.right other.left dx n m low) (ahead_later other.right one.left dx n m low))
     (past_later one.bottom other.top dy n m low)) (ahead_later other.bottom one.top dy n m low)
 
--- boxes that are clear in the first n cycles, and then part, are clear in all cycles
+-- if the boxes are clear of each other in the first n cycles, and `is_parting` is true in cycle n, they are clear of
+-- each other in all cycles
 pub clear_from_here : (one other : EnvelopeBounds) (n cycles : ℕ) (x y s t : ℤ) → s ≡ other.recurrence.dx -ℤ one.recurrence.dx
     → t ≡ other.recurrence.dy -ℤ one.recurrence.dy → x ≡ times n s → y ≡ times n t → StayClear n one other
     → is_parting one.bounds other.bounds x y s t ≡ true → StayClear cycles one other
@@ -397,7 +398,7 @@ envelopes_after rule limit before parts i part envelopes envelope items low at a
     (append_assoc before (take i parts) (get_or parts i part ∷ []) ∙ ap (λ (more : List (List Cell)). before ++ more) (sym (take_more parts i part low)))
     (envelopes_push rule limit (before ++ take i parts) envelopes (get_or parts i part) envelope are (subst (λ (p : List Cell). IsEnvelope rule limit p envelope) at is)))
 
--- if `one` begins past the bottom of `other`, the two boxes are clear of each other
+-- if `one` begins more than two rows past the bottom of `other`, the two boxes are clear of each other
 pub above_is_clear : (one other : Bounds) → is_past other.bottom (pos 0) one.top (pos 0) ≡ true → true ≡ is_clear one other (pos 0) (pos 0)
 above_is_clear one other is =
     last_of_four (is_past one.right (pos 0) other.left (pos 0)) (is_past other.right (pos 0) one.left (pos 0))

@@ -85,7 +85,7 @@ no_ship period is = go (period == 1) is
 
 -- ---- codes among objects and among clusters
 
--- a property of the code of each object is a property of each code with a count of at least 1
+-- if the code of each object has a property, each code with a count of at least 1 has this property
 pub listed_code : (objects : List (List ℕ × ℕ)) (code : List ℕ) → 1 ≤ count_of objects code → (P : List ℕ → Type 0)
     → All (λ object. P object.0) objects → P code
 listed_code [] code some P all = absurd (omega arith)
@@ -113,7 +113,7 @@ listed_some (object ∷ objects) some (suc k) d low =
 count_by-cons : (p : List ℕ → Bool) (y : List ℕ) (ys : List (List ℕ)) → count_by p (y ∷ ys) ≡ (0 + cond (p y) 1 0) + count_by p ys
 count_by-cons p y ys = sum_by-append (λ x. cond (p x) 1 0) (y ∷ []) ys
 
--- if each counted code has a property, each cluster has a code with it
+-- if each counted code has a property, each cluster has a code with this property
 pub each_listed : (rule : Numbers) (limit : ℕ) (clusters : List (List Cell)) (codes : List (List ℕ))
     → AllZip (λ cluster code. IsCode rule cluster limit code) clusters codes
     → (Q : List ℕ → Type 0) → ((code : List ℕ) → 1 ≤ count_by (is_code code) codes → Q code)
@@ -232,14 +232,14 @@ module _ (rule : Numbers) (limit : ℕ) (clusters : List (List Cell)) (objects :
       within = good.within;
     }
 
--- codes and clusters agree on what stays for good
+-- the objects of some clusters stay for good if and only if the clusters do
 pub marks_match : (rule : Numbers) (limit horizon : ℕ) (clusters : List (List Cell)) (objects : List (List ℕ × ℕ))
     → limit ≤ 64 → All (λ cluster. cluster ≢ []) clusters → AreObjectsOf rule limit clusters objects
     → StayForGood horizon objects ↔ ClustersStayForGood rule limit horizon clusters
 marks_match rule limit horizon clusters objects low some counted =
     (stay_there rule limit clusters objects low some counted horizon, stay_back rule limit clusters objects low some counted horizon)
 
--- the mark of a pattern at rest says whether its objects, by their codes, stay for good
+-- for a pattern at rest, `good` is true if and only if its objects, judged by their codes, stay for good
 pub settled_mark : (rule : Numbers) (profile : Settling) (cells : List Cell) (objects : List (List ℕ × ℕ)) (good : Bool) → profile.period ≤ 64
     → IsSettled rule profile cells objects good → IsTrue good ↔ StayForGood profile.horizon objects
 settled_mark rule profile cells objects good low settled =

@@ -91,8 +91,8 @@ pub common_before : (objects : List (List ℕ × ℕ)) (i m : ℕ) → IsCommonM
 common_before objects i m common =
     record { some = common.some; each = All-take (λ object. IsMultiple m (period_in object.0)) i objects common.each }
 
--- the least common multiple of `one`, which is that of the first i objects, and of the period of object i is the least
--- common multiple of the first i + 1 objects
+-- if `one` is the least common multiple of the periods of the first i objects, the least common multiple of `one` and
+-- the period of object i is the least common multiple of the periods of the first i + 1 objects
 pub least_more : (objects : List (List ℕ × ℕ)) (i one next : ℕ) (item : List ℕ × ℕ) → i < length objects → item ≡ get_or objects i item
     → IsLeastCommonMultiple (take i objects) one → 1 ≤ next → IsMultiple next one → IsMultiple next (period_in item.0)
     → ((m : ℕ) → 1 ≤ m → IsMultiple m one → IsMultiple m (period_in item.0) → next ≤ m)
@@ -128,7 +128,7 @@ is_code-sym a b = ap is_eq (nat_list_cmp_total.antisymm a b) ∙ turned (slice_c
     turned Equal = refl
     turned Greater = refl
 
--- if the count of code k is set to `before` + 1, one more than it was, one more object with code k is counted
+-- if the count of code k was `before` and is set to `before` + 1, one more object with code k is counted
 pub counted_more : (old new : List (List ℕ × ℕ)) (k : List ℕ) (before : ℕ)
     → ((q : List ℕ) → lookup (is_code q) new ≡ cond (is_code k q) (Some (before + 1)) (lookup (is_code q) old))
     → before ≡ count_of old k → (q : List ℕ) → count_of new q ≡ count_of old q + (if is_code q k then 1 else 0)
@@ -171,7 +171,7 @@ number_more old new k before ordered is at =
     ap (λ (es : List (List ℕ × ℕ)). sum (values_of es)) is in
     omega (arith, put)
 
--- if code k isn't counted yet, giving it the count 1 counts one more object with code k
+-- if code k has no count yet, giving it the count 1 adds one object with code k
 pub first_counted : (old : BTreeMap (List ℕ) ℕ) (new : List (List ℕ × ℕ)) (k : List ℕ) → IsOrdered (slice_cmp nat_cmp) old
     → lookup (is_code k) old.entries ≡ None
     → ((q : List ℕ) → lookup (is_code q) new ≡ cond (is_code k q) (Some 1) (lookup (is_code q) old.entries))
@@ -185,7 +185,7 @@ first_counted old new k ordered none updates is = record {
     before : 0 ≡ count_of old.entries k
     before = sym (ap (λ (o : Option ℕ). unwrap_or o 0) none)
 
--- if code k is already counted, adding 1 to its count counts one more object with code k
+-- if code k has a count, adding 1 to this count adds one object with code k
 pub once_more : (old new : List (List ℕ × ℕ)) (k : List ℕ) (before : ℕ) → lookup (is_code k) old ≡ Some before
     → ((q : List ℕ) → lookup (is_code q) new ≡ cond (is_code k q) (Some (before + 1)) (lookup (is_code q) old))
     → new ≡ set_value (is_code k) old (before + 1) → IsOneMore k old new

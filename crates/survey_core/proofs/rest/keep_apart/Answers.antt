@@ -56,8 +56,8 @@ step_apart-requires-clause-off c =
     subst ShareNoCell (sym (latest_is c.args.rule.now c.loop.counter clusters c.loop.clusters c.loop.invariant.alone))
     (c.loop.invariant.apart c.loop.counter (omega arith)).disjoint
 
--- the clusters of the start keep apart in the next generation if and only if their latest generations, run anew, keep
--- apart in generation 1
+-- the clusters, run from the start, keep apart in the next generation if and only if their latest generations keep
+-- apart one generation later
 later : (c : After-step_apart) → AreOneLater c.args.rule.now (union_of (clusters_of c.args.clusters.now)) (clusters_of c.args.clusters.now)
     (latest_of c.loop.clusters) c.loop.counter
 later c =
@@ -75,7 +75,7 @@ returns-then-not-keeps c =
           ∙ c.in_ok-keeps.ensures.apart.1 ((later (goal.at.returns-then-not-keeps c).After-step_apart).back (apart (c.loop.counter + 1) low)))),
     )
 
--- the case in which each cluster is itself again, so that later generations needn't be tested
+-- the case in which each cluster is the same as at the start, so that later generations needn't be tested
 pub returns-then-have_recurred : goal.returns-then-have_recurred
 returns-then-have_recurred c =
     let rule = c.args.rule.now in

@@ -6,7 +6,7 @@ use Rattle.pattern_commands.specs.SizeSteps.{RunApart, later_sizes}
 use Rattle.pattern_commands.specs.Streams.{Has, stream}
 use Rattle.pattern_commands.proofs.sizes.stretch.put_board_sizes.Given as goal
 
--- the lines of the `made` generations so far have been written, and the boards hold the last of these generations
+-- the lines of the first `made` generations have been written, and the boards have been advanced by `made` generations
 abbrev pub invariant-loop-made : goal.invariant-loop-made
 invariant-loop-made g l = record {
   most : l.made ≤ l.most;

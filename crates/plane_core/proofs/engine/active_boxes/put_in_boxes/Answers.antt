@@ -17,7 +17,7 @@ sides_at : (cells : List Cell) (i : ℕ) (d : Cell) (part : Bounds) (n : ℕ) �
 sides_at cells i d part n low is e =
     subst (λ (b : Bounds). AreSidesWithin n b) (sym is) (cell_box_sides n (get_or cells i d) (passes_at (is_within n) cells i d low e))
 
--- if all cells of a cell's box are in the boxes, so is the cell
+-- if the boxes contain all cells of `part`, the box of one cell, they contain this cell
 held_at : (cells : List Cell) (i : ℕ) (d : Cell) (part : Bounds) (boxes : List Bounds) → part ≡ box_at (get_or cells i d)
     → ((c : Cell) → IsWithin part c → IsInOne boxes c) → IsInOne boxes (get_or cells i d)
 held_at cells i d part boxes is held =

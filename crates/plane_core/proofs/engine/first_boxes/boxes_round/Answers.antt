@@ -16,7 +16,8 @@ use Rattle.plane_core.proofs.engine.first_boxes.boxes_round.Goals as goal
 abbrev origin : Cell
 origin = cell_at (pos 0) (pos 0)
 
--- the first k + 1 cells are in the new boxes, if these keep the cells of the old boxes and `next` has cell k
+-- If the first k cells are in `run` or a box of `old`, the first k + 1 are in `next` or a box of `new`. `next` has cell
+-- k, and `next` and `new` together keep the cells of `run` and `old`.
 more_held : (cells : List Cell) (k : ℕ) (x : Cell) (run next : Bounds) (old new : List Bounds) → k < length cells
     → ((d : Cell) → IsWithin run d → IsWithin next d ⊎ IsInOne new d) → ((d : Cell) → IsInOne old d → IsInOne new d) → IsWithin next (get_or cells k x)
     → All (λ (d : Cell). IsWithin run d ⊎ IsInOne old d) (take k cells) → All (λ (d : Cell). IsWithin next d ⊎ IsInOne new d) (take (k + 1) cells)

@@ -7,7 +7,7 @@ use Rattle.plane_core.specs.engine.WindowIo.{inner_mask}
 use Rattle.plane_core.proofs.lemmas.engine.WindowDifferenceLemmas.{no_difference}
 use Rattle.plane_core.proofs.engine.window_difference.differing.Goals as goal
 
--- the mask has a 1 for each cell in the inner part of the window
+-- the mask of vector k has a 1 for each cell of the vector that is in the inner part of the window
 inner : (n first last k j i : ℕ) → (4 ≤ k → first ≡ inner_mask) → (k + 4 < n → last ≡ inner_mask) → j < 4 → 4 ≤ i → i < 60 → 4 ≤ j * n + k
     → j * n + k + 4 < 4 * n → bit_of (first ∷ inner_mask ∷ inner_mask ∷ last ∷ []) j i ≡ 1
 inner n first last k zero i above below low a b d e = ap (λ (w : ℕ). bit_at w i) (above (omega (arith, d))) ∙ bit_at_mask_inside 4 60 i a b

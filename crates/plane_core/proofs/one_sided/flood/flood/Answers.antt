@@ -10,7 +10,7 @@ use Rattle.plane_core.proofs.one_sided.flood.flood.Goals as goal
 within_64 : (n : ℕ) → n < 60 → n < 64
 within_64 n low = omega (arith, low)
 
--- bit i of a word is 1 if the lowest bit of the word, shifted right by i, is 1
+-- if a word is shifted right by i and its lowest bit is then 1, bit i of the word is 1
 lit : (w i : ℕ) → bit_and (w / 2 ^ i) 1 ≢ 0 → bit_at w i ≡ 1
 lit w i some = omega (arith, bit_at-lt w i, shr_and_one w i, some)
 

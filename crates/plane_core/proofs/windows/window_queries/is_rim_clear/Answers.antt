@@ -16,7 +16,7 @@ dark n x w i r columns none low = elim (same_or_not (bit_at (row_at n x r) i) 1)
   | inr apart ↦ omega (arith, apart, bit_at-lt (row_at n x r) i)
 ]
 
--- the word's bit of the first column, or of the last column, is 0 if the test of this bit gives 0
+-- the code tests the first and the last column: if the test of a column gives 0, the bit of this column is 0
 first_dark : (w : ℕ) → bit_and w 1 ≡ 0 → bit_at w 0 ≡ 0
 first_dark w none = grind (arith, common_steps)
 

@@ -8,7 +8,8 @@ use Rattle.survey_core.proofs.lemmas.evolution.EvolutionLemmas.{still_ahead}
 use Rattle.survey_core.proofs.lemmas.evolution.SplitPatternLemmas.{still_whole}
 use Rattle.survey_core.proofs.evolution.Evolution.is_still.Goals as goal
 
--- if no spaceship was removed and the board is still, the pattern is the same after an even number of generations
+-- if no spaceship was removed and the board is still, the pattern is the same again after every even number of
+-- generations
 pub returns-then-is_empty : goal.returns-then-is_empty
 returns-then-is_empty c seen rule is_kept n even =
     let is = rw c.in-Shown.is at is_kept in

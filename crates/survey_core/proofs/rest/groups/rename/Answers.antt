@@ -2,7 +2,7 @@ use Rattle.std.proofs.Common.{◌<◌, ℕ, arith, get_or, length, subst, sym}
 use Rattle.survey_core.proofs.lemmas.rest.GroupingLemmas.{left_after, renamed_from, renamed_more, renamed_other}
 use Rattle.survey_core.proofs.rest.groups.rename.Goals as goal
 
--- the case of an entry of another group than `from`
+-- the case of an entry of a group other than `from`
 pub loop-group-preserved-then-group-from : goal.loop-group-preserved-then-group-from
 loop-group-preserved-then-group-from c =
     let now = c.loop-group.groups in

@@ -1,7 +1,7 @@
 use Rattle.plane_core.specs.plane.Generations.{NeverRecurs}
 use Rattle.survey_core.proofs.shapes.memo.code_of.Goals as goal
 
--- the cluster recurs, so it has a code
+-- the pattern recurs, so `name` doesn't return `Ok(None)`
 pub unreachable-requires : goal.unreachable-requires
 unreachable-requires c =
     let new : NeverRecurs c.args.rule.now c.args.pattern.now c.args.limit = rw c.in-Ok-None.field-0-is at c.in-Ok-None.ensures.never in

@@ -34,7 +34,8 @@ loop-place-preserved-then-eq c =
     (next_tells near c.loop-place.place cell next _ true (inside _ _ _ c.if-place-end.true c.loop-place.invariant.whole) c.index-then-place-end.ensures
     (sym (same_cell-eq next cell) ∙ sym c.eq.ensures ∙ c.if-eq.true))
 
--- at the end of a run of equal cells, the rule decides by the run's length whether the cell is kept
+-- at the end of a run of equal cells, the rule decides whether the cell is kept, by the length of the run and by
+-- whether the cell is alive
 pub loop-place-preserved : goal.loop-place-preserved
 loop-place-preserved c =
     let near = c.loop-place.near.items in

@@ -66,8 +66,8 @@ refused_at_edge : (cells : List Cell) (error : StepError) → RefusesStep cells 
 refused_at_edge cells Edge refused e = refused
 refused_at_edge cells (Memory error) refused e = cc
 
--- if the pattern begins far enough from the edge, the error of the step isn't `Edge`: in `generations` generations the
--- pattern can't reach the edge
+-- if the pattern begins far enough from the edge, the error of the step isn't `Edge`: before generation `generations`,
+-- the pattern can't touch the edge
 pub returns-in_err-pattern-in-None-clause-never_edge : goal.returns-in_err-pattern-in-None-clause-never_edge
 returns-in_err-pattern-in-None-clause-never_edge c reach h far e =
     let told = err_from_is_err_and c.from_residual-in_err-pattern-in-None.result c.from_residual-in_err-pattern-in-None.ensures.1 in

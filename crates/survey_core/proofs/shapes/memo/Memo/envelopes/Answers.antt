@@ -12,7 +12,7 @@ use Rattle.survey_core.proofs.lemmas.shapes.MemoLemmas.{none_of_part}
 use Rattle.survey_core.proofs.shapes.memo.Memo.envelopes.Goals.{After-split_at}
 use Rattle.survey_core.proofs.shapes.memo.Memo.envelopes.Goals as goal
 
--- a property of all patterns is a property of those from the first one that isn't remembered on
+-- a property of all patterns is a property of the others: the first pattern that isn't remembered, and all after it
 of_others : (c : After-split_at) (P : List Cell → Type 0) → All P c.args.patterns.now → All P c.split_at.result.1.now
 of_others c P all = subst (All P) (sym c.split_at.ensures.back) (All-drop P _ c.args.patterns.now all)
 
