@@ -1,6 +1,6 @@
 # shellcheck shell=bash
-# What the recipes share: how they read their arguments, and the file `job` in a folder of lines or hauls, which says of
-# what census these are.
+# What the recipes share: how they read their arguments, and how they keep the file `job`. That file says which census
+# the lines or hauls in its folder belong to.
 #
 # A recipe sets `here` to the folder that it is in, loads this file, and then calls `read_folder`, `read_words` and
 # `keep_job`. A recipe for Slurm calls `read_array` before `keep_job`.
@@ -59,7 +59,7 @@ read_words() {
     "$census" "${tried[@]}" "$@" > /dev/null || exit
 }
 
-# Refuses more parts than an array job of Slurm may have tasks, before a file is made.
+# Ends the script before it makes a file, if there are more parts than Slurm allows tasks in an array job.
 read_array() {
     local most
     most=$(scontrol show config 2> /dev/null | sed -n 's/^MaxArraySize *= *//p')
@@ -67,12 +67,12 @@ read_array() {
         refuse "an array job has at most $most tasks here, and these are $parts parts; take a greater SIZE"
 }
 
-# Writes the file `job`, which says of what census the lines in the folder are. If the file is there, refuses other
-# arguments, another SIZE, or fewer soups than it says. If there are more soups than it says, the census grows.
+# Writes the file `job`, which says which census the lines or hauls in the folder belong to. If the file is there,
+# refuses other arguments, another SIZE, or a smaller TOTAL than it says. With a greater TOTAL, the census grows.
 #
 # The file has a line `total N`, then `size N`, and then a line `word W` for each further argument, quoted for a shell.
-# It is made under another name and then linked, so that one of many parts that begin at once makes it, and none reads
-# an incomplete file.
+# It is made under another name and then linked. So if many parts begin at once, only one makes it, and no part reads an
+# incomplete file.
 keep_job() {
     local lines now new known
     mkdir -p -- "$folder" || exit

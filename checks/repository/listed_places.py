@@ -30,7 +30,7 @@ DROPS = "Fields that a written `drop` leaves"
 MAIN = "The lines of `main`"
 HEADINGS = [LOOPS, WITNESSES, STEPS, DROPS, MAIN]
 
-# A number from this on is large.
+# The smallest number that counts as large.
 LARGE = 2**32
 
 
@@ -73,7 +73,7 @@ def loops_in(file: File) -> Iterator[Token]:
 # ---- Failures
 
 MADE = {"WriteError", "ReadError", "OutOfMemory"}
-# The files that define these, where they can be made as `Self` too.
+# The files that define these types. There, `Self` can stand for such a type.
 WITNESS_FILES = ("plane_core/output.rt", "pattern_commands/read_error.rt", "memory/lib.rt")
 
 
@@ -135,7 +135,7 @@ LEAKS = {"forget", "ManuallyDrop", "MaybeUninit", "leak", "into_raw"}
 
 
 def leaks_in(file: File) -> Iterator[tuple[Token, str]]:
-    """Yields what could leave a value without dropping it."""
+    """Yields the tokens at which a value could leak, each with the reason."""
     for token in file.code:
         if token in LEAKS:
             yield token, f"`{token}` leaks"
@@ -146,7 +146,7 @@ def leaks_in(file: File) -> Iterator[tuple[Token, str]]:
 
 
 def written_drops(code: Code) -> Iterator[tuple[int, Code]]:
-    """Yields the place and the body of each `drop` that an `impl` of `Drop` has."""
+    """Yields the place of each `impl` of `Drop`, and the body of its `drop`."""
     for place, token in enumerate(code):
         if token == "Drop" and code[place + 1] == "for":
             start = code.index(Token("{"), place)
@@ -156,8 +156,8 @@ def written_drops(code: Code) -> Iterator[tuple[int, Code]]:
 
 
 def fields_of_drop(body: Code) -> list[list[Token]] | None:
-    """Returns the parts of the pattern with which a body takes its value apart, or `None` if the
-    body doesn't begin with such a pattern.
+    """Returns the parts of the pattern with which a `drop` destructures `self`, or `None` if its
+    body doesn't begin with such a `let`.
     """
     if body[:1] != ["let"] or "{" not in body or body[:3][2:] != ["{"]:
         return None
@@ -174,8 +174,8 @@ def fields_of_drop(body: Code) -> list[list[Token]] | None:
 
 
 def fault_of_drop(body: Code) -> str:
-    """Returns what is wrong with a hand-written `drop`. It must take the value apart, and then drop
-    each field that has a name, once.
+    """Returns what is wrong with the body of a hand-written `drop`. It must destructure `self`, and
+    then drop each field that the pattern binds, once and in order.
     """
     fields = fields_of_drop(body)
     if fields is None or any(len(field) != 1 and field[1:] != [":", "_"] for field in fields):
@@ -245,8 +245,9 @@ def by_file(places: Iterable[Place]) -> dict[tuple[str, str], list[str]]:
 
 
 def difference(file: str, found: list[str], listed: list[str]) -> str:
-    """Returns how the lines of a file differ from those in a table, in the order of the source. A
-    line that isn't listed is given as a row, whose reason is missing.
+    """Returns how the lines found in a file differ from the lines that a table lists, or nothing if
+    they are the same in the same order. A line that isn't listed is returned as a row without a
+    reason.
     """
     if found == listed:
         return ""

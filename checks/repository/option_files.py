@@ -201,13 +201,13 @@ def sentences(option: Option) -> list[str]:
     found = re.split(r"(?<=[a-z0-9`)]\.) (?=[A-Z])", said)
     if option.default is not None:
         found.append(f"The default is {option.default or 'empty'}.")
-    elif option.value and option.name in ("count", "worker"):
+    elif option.is_required:
         found.append("It must be given.")
     return found
 
 
 def roff(text: str) -> str:
-    """Returns a text in the form for a manual, with marked quotations and escaped hyphens."""
+    """Returns a text as roff: backquotes as quotation marks, and `--` and backslashes escaped."""
     quoted = re.sub(r"`([^`]*)`", r"\\(oq\1\\(cq", text.replace("\\", "\\e"))
     return quoted.replace("--", "\\-\\-")
 
@@ -238,7 +238,7 @@ def table(commands: list[Command]) -> str:
             value = f" {option.value}" if option.value else ""
             default = (
                 "required"
-                if option.value and option.default is None and not option.optional
+                if option.is_required
                 else ""
                 if option.default is None
                 else f"`{option.default}`"

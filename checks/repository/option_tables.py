@@ -38,6 +38,11 @@ class Option:
     optional: bool = False
 
     @property
+    def is_required(self) -> bool:
+        """Checks whether the option must be given."""
+        return self.flag and self.value != "" and self.default is None and not self.optional
+
+    @property
     def short(self) -> str:
         """Returns the first words of the help, for a list of options."""
         said = re.sub(r"^with --\w+: ", "", self.help)
@@ -156,4 +161,5 @@ def haul_options(command: HaulCommand) -> Iterator[Option]:
             value in FILES or (not argument.is_option() and value != "ID"),
             argument.repeats in ("*", "+"),
             tuple(other.name for other in others),
+            optional=True,
         )

@@ -17,8 +17,8 @@ CHOOSES = 'libexec=$1; . "$libexec/processor.sh"; printf %s "$program"'
 
 
 def find_beside() -> str | None:
-    """Returns the program that is installed beside this one, or the program that bin/census of this
-    checkout starts, which is built if need be. Returns `None` if there is neither."""
+    """Returns the path of the census program: the one installed beside this program, or the one of
+    this checkout, which bin/census builds if need be. Returns `None` if there is neither."""
     starter = Path(sys.argv[0]).resolve().parent / "census"
     if not os.access(starter, os.X_OK):
         return None
@@ -28,7 +28,7 @@ def find_beside() -> str | None:
         return choose_for_processor(starter, top / "libexec" / "gokzerd")
     if not (starter.parent / "built.bash").is_file():
         return str(starter)
-    # bin/census may build the program. Everything that it starts ends with this process.
+    # bin/census may build the program. If this process ends, the launcher ends the build.
     words = [str(starter), "--version"]
     with start_child(words, subprocess.DEVNULL, None, apart=LAUNCH_CENSUS) as launcher:
         launcher.wait()

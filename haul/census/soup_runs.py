@@ -1,5 +1,4 @@
-"""Asks `census` about the patterns of soups: in which exact generation they settle, and how they
-grow."""
+"""Asks `census` in which exact generation soups settle, and how the population of a soup grows."""
 
 from __future__ import annotations
 

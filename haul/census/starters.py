@@ -1,5 +1,5 @@
-"""Starts programs with `launcher.py`: in sessions of their own, and so that they end when `haul`
-ends."""
+"""The command line of `launcher.py`, which runs a program in a session of its own and ends it when
+`haul` ends."""
 
 from __future__ import annotations
 
@@ -8,7 +8,7 @@ import sys
 from functools import cache
 from importlib.resources import files
 
-# The launcher's mode that runs a program to its end, and ends in the same way.
+# In this mode, the launcher runs a program and then ends with the program's status or signal.
 LAUNCH_CENSUS = "census"
 
 
@@ -21,6 +21,6 @@ def read_launcher() -> str:
 
 def list_starter_words(how: str) -> list[str]:
     """Returns the command line of `launcher.py`, up to the words of the program to start."""
-    # Without a PATH, Python may not know where it is.
+    # Without a PATH, `sys.executable` may be empty.
     python = sys.executable or os.readlink("/proc/self/exe")
     return [python, "-I", "-S", "-c", read_launcher(), how, str(os.getpid())]

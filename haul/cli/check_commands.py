@@ -1,4 +1,4 @@
-"""Runs `haul check` on hauls and on an index, and `haul index`."""
+"""Runs `haul index`, and `haul check` on hauls or on an index."""
 
 from __future__ import annotations
 
@@ -146,7 +146,8 @@ def report(found: Iterator[tuple[Range, bool]] | list[tuple[Range, bool]], strea
 
 
 def compare_hauls(streams: Streams, index: Index, names: list[str]) -> Iterator[tuple[Range, bool]]:
-    """Yields the part of each haul, and whether the haul has the digest in the index."""
+    """Yields, for each haul, its part of the index, and whether its digest is the one in the
+    index."""
     for name in names:
         haul = streams.read_haul(name)
         if haul.job != index.job or len(haul.ranges) != 1 or haul.ranges[0] not in index.parts:

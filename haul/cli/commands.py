@@ -1,4 +1,4 @@
-"""The functions that run the commands of `haul`."""
+"""Runs the commands `join`, `compare`, `table`, `rarity`, `page`, `soups` and `search`."""
 
 from __future__ import annotations
 

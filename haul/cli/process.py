@@ -21,16 +21,16 @@ from haul.terminal import Terminal
 ENDING = (signal.SIGINT, signal.SIGTERM, signal.SIGHUP)
 # The number that takes the place of a signal when the work is done. No signal has this number.
 IS_DONE = 0
-# The number that takes the place of a signal when the work begins, and how many seconds it may take
-# to begin. It begins in time if there is enough memory.
+# The number that takes the place of a signal when the work begins, and how many seconds may pass
+# until then. If there is enough memory, the work begins in time.
 HAS_BEGUN, SECONDS_TO_BEGIN = 128, 10.0
 
 
 def run_heeding_signals(work: Callable[[], int]) -> int:
-    """Does the work in a separate thread, and returns its status. A signal ends the programs that
-    were started, then this one, as if the signal hadn't been handled. If the work handles signals
-    itself, it is notified instead. If it then ends because of a signal, this program is ended by
-    the same signal.
+    """Does the work in a separate thread, and returns its status. If a signal comes, the programs
+    that were started are ended, and then the signal ends this process, too. If the work handles
+    signals itself (`children.stopping`), it is notified instead, and decides whether it goes on. If
+    the work then ends because of the signal, the same signal ends this process.
 
     Python checks for signals between two steps of its main thread. If a signal came just before the
     main thread started to wait, it would be noticed only after the wait. Therefore the main thread
@@ -79,7 +79,7 @@ def begin_thread(do: Callable[[], None], reading: int) -> None:
         raise MemoryError
     came = os.read(reading, 1)[0]
     if came != HAS_BEGUN:
-        # A signal came first. Nothing that it would have to end has been started yet.
+        # A signal came first. No other program has been started yet, so only this process is ended.
         signal.signal(came, signal.SIG_DFL)
         os.kill(os.getpid(), came)
 

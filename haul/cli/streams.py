@@ -45,7 +45,7 @@ class Streams:
 
     def read_haul(self, name: str | None) -> Haul:
         """Reads a file that consists of a single haul, which may be a haul of apgsearch. Raises
-        `Refused` if it doesn't."""
+        `Refused` for any other file."""
         with self.open_input(name) as stream:
             try:
                 haul = read_any_haul(stream)
@@ -61,16 +61,16 @@ class Streams:
     def read_pattern(self, name: str | None) -> bytes:
         """Reads the text of a pattern. Raises `OSError` if it is too long."""
         with self.open_input(name) as stream:
-            # mutant: equal because what is longer is refused, however much of it is read
+            # mutant: equal because a longer text is refused, however much of it is read
             return check_length(stream.read(PATTERN_LIMIT + 1), name)
 
     @contextmanager
     def open_pattern(self, name: str | None) -> Iterator[tuple[bytes, Iterator[bytes]]]:
-        """Opens a pattern. Yields its text and no lines, or, for coordinates, which may have any
-        number of cells, the beginning of the text and all lines. Raises `OSError` if any other
-        pattern is too long."""
+        """Opens a pattern. If the pattern is given as coordinates, yields the beginning of the text
+        and all lines, since the text may be longer than `PATTERN_LIMIT`. Otherwise, yields the
+        whole text and no lines, or raises `OSError` if the text is too long."""
         with self.open_input(name) as stream:
-            # mutant: equal because what is longer is refused, however much of it is read
+            # mutant: equal because a longer text is refused, however much of it is read
             text = stream.read(PATTERN_LIMIT + 1)
             if is_coordinates(text):
                 # The last line of the text may have been cut off.

@@ -1,4 +1,4 @@
-"""Reads the values of options from their words, and refuses invalid ones."""
+"""Reads the values of options and of other arguments, and refuses invalid values."""
 
 from __future__ import annotations
 

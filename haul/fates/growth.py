@@ -5,8 +5,8 @@ from __future__ import annotations
 from dataclasses import dataclass
 from fractions import Fraction
 
-# The longest cycle that is looked for, and the number of generations for which the population must
-# grow in the same cycle.
+# The longest cycle that is looked for. Each of the first `GENERATIONS + 1` populations is compared
+# with the population one cycle later.
 MOST_CYCLE, GENERATIONS = 2880, 8640
 # Engines by the number of cells that they gain per generation.
 ENGINES = {
@@ -29,7 +29,7 @@ class Growth:
 
 def find_growth(populations: list[int]) -> Growth | None:
     """Returns the linear growth with the shortest cycle, or `None` if there is none. `populations`
-    has the population of each generation."""
+    has the populations of `GENERATIONS + MOST_CYCLE + 1` successive generations."""
     for cycle in range(1, MOST_CYCLE + 1):
         cells = populations[cycle] - populations[0]
         if cells > 0 and all(

@@ -117,8 +117,8 @@ def find_meeting(field: Field, groups: list[Group], last: int) -> int | None:
 
 
 def pass_on(owners: dict[int, int], change: Change) -> bool:
-    """Assigns each newborn cell to the group of its parents. Returns whether none of these cells is
-    near another group."""
+    """Assigns each newborn cell to the group of its parents. Returns `False` if a newborn cell is
+    near another group, otherwise `True`."""
     born = {
         cell: next(owners[cell + step] for step in NEIGHBOURS if cell + step in owners)
         for cell in change.births
@@ -132,9 +132,9 @@ def pass_on(owners: dict[int, int], change: Change) -> bool:
 
 
 def is_recognised(rule: Rule, one: Recurring, most: int) -> bool:
-    """Checks whether a census would recognise a group as objects. It does if, in one of the group's
-    phases, each cluster recurs soon enough when it is run alone, and evolves alone as it does in
-    the group."""
+    """Checks whether a census would recognise a group as objects. It would if, in one of the
+    group's first `PERIOD` phases, each cluster recurs within `most` generations when it is run
+    alone, and evolves alone as it does in the group."""
     phases = one.phases
     for place in range(min(one.period(), PERIOD)):
         wanted = [*phases[place:], *({c + one.move for c in phase} for phase in phases[:place])]

@@ -1,1 +1,1 @@
-"""The texts that censuses read and write: hauls, report lines, indexes, late soups and tables."""
+"""Reads and writes hauls and indexes. Reads report lines, and the tables kept beside the code."""

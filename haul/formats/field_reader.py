@@ -9,7 +9,7 @@ from haul.formats.syntax import DECIMAL
 
 # Every line of a haul is shorter than this: the longest one has a code of 400 characters and three
 # numbers. The rest of a longer line isn't read.
-# mutant: equal because what is longer is refused, however much of it is read
+# mutant: equal because a longer line is refused, however much of it is read
 LINE_LIMIT = 1000
 
 

@@ -21,7 +21,7 @@ Range = tuple[int, int]
 
 @dataclass(frozen=True)
 class Job:
-    """Which soups a census runs, and how."""
+    """How a census makes its soups (seed and symmetry), and how it runs them (rule and profile)."""
 
     seed: str
     rule: str
@@ -49,7 +49,7 @@ class Haul:
     # The version of apgsearch, or `None` for a haul of `census`. A haul of apgsearch doesn't say
     # which soups it has, how many of them are unsettled, or how many settled for good.
     apgsearch: str | None = None
-    # The number of objects that a haul of apgsearch claims to have. It may differ from its table.
+    # The number of objects that a haul of apgsearch claims. The sum of its totals may differ.
     said_objects: int | None = None
     # The line of the input in which the haul begins.
     # mutant: equal because only the line of a haul that was read is printed

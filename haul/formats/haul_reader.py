@@ -1,7 +1,7 @@
 """Reads haul texts, byte for byte as described in docs/FORMATS.md.
 
-Only texts that `census take` or `census gather` can print are accepted, so writing a haul that has
-been read gives the same text again.
+Only the exact form that `census take` and `census gather` print is accepted, so writing a haul that
+has been read gives the same text again.
 """
 
 from __future__ import annotations
@@ -142,8 +142,8 @@ def read_job(lines: FieldReader) -> Job:
 
 
 def read_ranges(lines: FieldReader) -> list[Range]:
-    """Reads one or more ranges. A single empty range, which begins at 0, means that there are
-    none."""
+    """Reads one or more ranges. A single empty range, which begins at 0, stands for the empty
+    set."""
     ranges: list[Range] = []
     least = 0
     while not ranges or lines.peek().removesuffix(b"\n").split(b" ")[0] == b"@RANGE":

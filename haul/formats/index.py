@@ -1,5 +1,5 @@
-"""Indexes: the SHA-256 of the haul of each part of a census, so that anyone can check some of the
-parts."""
+"""Indexes: the parts of a census, each with the SHA-256 of its haul, so that anyone can check some
+of the parts."""
 
 from __future__ import annotations
 

@@ -4,7 +4,8 @@ from __future__ import annotations
 
 from typing import NamedTuple
 
-# The smallest and the largest period, stride and limit. A horizon isn't below its period.
+# The smallest and the largest period, stride and limit, and the largest horizon. The smallest
+# horizon is the period of the profile.
 PERIOD, STRIDE, LIMIT = (1, 64), (1, 10000), (0, 100000)
 MOST_HORIZON = 4096
 

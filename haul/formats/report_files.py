@@ -79,10 +79,10 @@ class Reports:
 
 
 def split_lines(stream: IO[bytes]) -> Iterator[bytes]:
-    """Yields the lines of an input without their line feeds. Cuts a line that is too long to one
-    byte more than is allowed. Raises `OSError` if the input is too long."""
+    """Yields the lines of an input without their line feeds. If a line is too long, yields only its
+    first `LINE_LIMIT + 1` bytes. Raises `OSError` if the input is too long."""
     size = 0
-    # mutant: equal because what is longer is refused, however much of it is read
+    # mutant: equal because a longer line is refused, however much of it is read
     while line := stream.readline(LINE_LIMIT + 1):
         size += len(line)
         if size > INPUT_LIMIT:
@@ -90,6 +90,6 @@ def split_lines(stream: IO[bytes]) -> Iterator[bytes]:
         yield line.removesuffix(b"\n")
         # mutant: equal because only the last line lacks its line feed
         while len(line) > LINE_LIMIT and not line.endswith(b"\n"):
-            # mutant: equal because what is longer is refused, however much of it is read
+            # mutant: equal because a longer line is refused, however much of it is read
             line = stream.readline(LINE_LIMIT + 1)
             size += len(line)

@@ -187,8 +187,8 @@ def is_number_between(found: re.Match[bytes] | None, ends: tuple[int, int]) -> b
 
 
 def is_next_count(field: bytes, before: bytes | None) -> bool:
-    """Checks whether a field is a code with a count. If there is a count before it, its code must
-    come after the code of that count."""
+    """Checks whether `field` is a code with a count. `before` is the previous code with a count, or
+    `None` if `field` is the first one. The codes must ascend."""
     found = COUNT_FIELD.fullmatch(field)
     return (
         found is not None

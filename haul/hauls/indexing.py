@@ -1,4 +1,4 @@
-"""Makes the index of a census in parts from the hauls of the parts."""
+"""Makes the index of a census from the hauls of its parts."""
 
 from __future__ import annotations
 

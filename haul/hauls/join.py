@@ -1,4 +1,4 @@
-"""Joins hauls of one job whose sets have no soup in common into the haul of the union of the sets.
+"""Joins hauls of one job whose sets of soups are disjoint. The result is the haul of the union.
 
 If each haul is right, so is the joined one. Its totals are the sums of the totals of disjoint sets,
 and each of the three lowest samples of a code in the union is one of the three lowest in its set.
@@ -57,8 +57,8 @@ class Joining:
             self.samples[code] = sorted(self.samples.get(code, []) + numbers)[:MOST_SAMPLES]
 
     def put(self, range_: Range) -> bool:
-        """Adds a range to the set and returns `True`, or returns `False` if the set already has one
-        of its numbers."""
+        """Adds a range to the set and returns `True`, or returns `False` if the set already has a
+        number of the range."""
         first, end = range_[0], range_[0] + range_[1]
         # mutant: equal because a range with the same first number overlaps on either side
         place = bisect_right(self.ranges, (first, 0))

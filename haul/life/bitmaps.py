@@ -5,9 +5,9 @@ Bit `STRIDE * y + x` is the cell (x, y). The bounding box of a pattern begins at
 `MARGIN`), and its *room* is that box with `MARGIN - 1` more columns and rows on each side:
 
     . . . . . . . . . .     Two cells (O) in their room (r), if the margin were three. No room has
-    . r r r r r r . . .     cells in the first or in the last column, so the cells at both ends of a
-    . r r r r r r . . .     row, whose bits follow one another, are never taken for neighbours.
-    . r r O O r r . . .
+    . r r r r r r . . .     cells in the first or in the last column. So the last cell of a row and
+    . r r r r r r . . .     the first cell of the next row, whose bits are adjacent, are never taken
+    . r r O O r r . . .     for neighbours.
     . r r r r r r . . .
     . r r r r r r . . .
 """
@@ -26,7 +26,7 @@ MOST_SIDE = STRIDE - 2 * MARGIN
 CORNER = MARGIN * STRIDE + MARGIN
 # mutant: equal because all cells in the first column are dead in each pattern
 ROW = (1 << STRIDE) - 1
-# Half of the rows that a room may have, half of these, and so on.
+# Shifts by these numbers of rows, one after another, join 64 rows into one.
 HALVES = (32, 16, 8, 4, 2, 1)
 # The live cells of each column in a code, as bits.
 # mutant: equal because a pattern that is read is moved to the corner
@@ -36,8 +36,8 @@ COLUMNS = {
 
 
 def read_bitmap(text: str) -> int | None:
-    """Reads a text in extended Wechsler format. Returns `None` if it isn't one, has no live cells,
-    has more than `MOST_SIDE` columns before its last live cell, or draws more than `MOST_SIDE`
+    """Reads a text in extended Wechsler format. Returns `None` if it isn't in this format, has no
+    live cells, has a live cell after the first `MOST_SIDE` columns, or draws more than `MOST_SIDE`
     rows."""
     bits = x = top = 0
     characters = iter(text)

@@ -67,8 +67,8 @@ class Blocks:
         return self.completed([], frozenset(range(len(self.islands))))
 
     def completed(self, runs: list[list[Cells]], left: Block) -> Iterator[list[Cells]]:
-        """Yields the separations that consist of the blocks with these `runs` and of further blocks
-        of the islands in `left`."""
+        """Yields each separation that has the blocks with these `runs` and divides the islands in
+        `left` into further blocks."""
         if not left:
             if self.is_separation(runs):
                 # mutant: equal because every phase of a part has the same code

@@ -1,5 +1,5 @@
-"""Draws patterns as SVG paths. Each run of live cells is a line that is as wide as a cell is
-high."""
+"""Draws patterns as SVG paths. Each run of live cells is a horizontal line through the middle of
+its cells. The style sheet of the page sets the thickness of the line."""
 
 from __future__ import annotations
 
@@ -37,9 +37,8 @@ def draw_path(rows: Rows) -> str:
 
 @cache
 def draw_runs(row: str) -> tuple[int, str, int] | None:
-    """Returns the column of the first live cell in a row, the path of the row's runs and of the
-    moves between them, and the column in which the last run ends, or `None` if there are no live
-    cells."""
+    """Returns the column of the first live cell in a row, the path that draws the row's runs, and
+    the column after the last live cell. Returns `None` if there are no live cells."""
     runs = [run.span() for run in RUNS.finditer(row)]
     if not runs:
         return None

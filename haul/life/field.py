@@ -1,5 +1,5 @@
 """Runs a pattern for hundreds of generations. The time for a generation depends only on the number
-of cells near the latest changes, since most of what a soup leaves doesn't change.
+of cells near the latest changes. This is fast, since most of what a soup leaves doesn't change.
 
 Here, a cell is a single number: its row times `ROW`, plus its column.
 """
@@ -63,8 +63,8 @@ class Field:
     def __init__(self, rule: Rule, cells: Iterable[int]) -> None:
         self.rule = rule
         self.live = set(cells)
-        # The number of live neighbours of each cell. Most cells without live neighbours aren't in
-        # it.
+        # The number of live neighbours of each cell. Most cells without live neighbours are left
+        # out.
         self.counts: dict[int, int] = {}
         self.changed = list(self.live)
         self.count(self.changed, 1)

@@ -80,8 +80,8 @@ class Watched:
 
 
 def list_meetings(ones: list[Stay], others: list[Stay]) -> Iterator[tuple[int, int]]:
-    """Yields the places of each pair of stays that overlap, or that follow one another in
-    successive generations. Both lists are in ascending order."""
+    """Yields the indices of each pair of stays, one from each list, that overlap or that follow one
+    another without a gap. Both lists are in ascending order."""
     one = other = 0
     while one < len(ones) and other < len(others):
         (begin, end), (other_begin, other_end) = ones[one], others[other]

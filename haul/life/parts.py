@@ -2,7 +2,7 @@
 
 docs/PROFILE.md has the definition. A bi-block, for example, is two blocks:
 
-    OO.OO    the census counts it as one object, since the blocks are two steps apart;
+    OO.OO    the census counts it as one object, since the blocks are two columns apart;
     OO.OO    run by itself, each block does the same as it does beside the other
 """
 
@@ -39,17 +39,17 @@ class Separator:
 
     def __init__(self, rule: Rule) -> None:
         self.rule = rule
-        # The codes of parts, by their cells moved to the corner.
+        # The code of each known part. The key is the part's cells, moved to the corner.
         self.known: dict[Cells, str] = {}
-        # The runs of islands, by their cells moved to the corner. Many objects have the same
-        # islands.
+        # The run of each known island. The key is the island's cells, moved to the corner. Many
+        # objects have the same islands.
         self.runs: dict[Cells, Run] = {}
         self.quick = QuickSeparator(rule)
-        # The codes of parts that `QuickSeparator` found, by their bits.
+        # The codes of parts that `QuickSeparator` found, indexed by the bits of the part.
         self.quickly_known: dict[int, str] = {}
 
     def count_runs(self) -> int:
-        """Returns the number of islands whose runs are remembered."""
+        """Returns the number of remembered runs of islands."""
         return len(self.runs) + len(self.quick.known)
 
     def forget(self) -> None:
@@ -114,8 +114,9 @@ def is_counted(rule: Rule, code: str) -> bool:
 
 
 def read_object(rule: Rule, code: str) -> Recurrence | None:
-    """Returns how the object that a code draws recurs. The drawing is phase 0. Returns `None` if
-    the code draws nothing, or if the drawn pattern doesn't recur as the code's prefix says."""
+    """Returns the recurrence of the object that a code draws. The drawing is phase 0. Returns
+    `None` if the code draws nothing, if its period is above `MOST_PERIOD`, or if the drawn pattern
+    doesn't recur as the code's prefix says."""
     text, known = read_drawing(code), read_kind(code)
     cells = read_wechsler(text) if text is not None else None
     if known is None or cells is None or known.period() > MOST_PERIOD:

@@ -36,13 +36,13 @@ class QuickSeparator:
 
     rule: Rule
     # The generations and the move of each island that was run by itself, indexed by the island and
-    # the period. `None` if the island can't be a part.
+    # the period. `None` if the island doesn't count as a part.
     known: dict[tuple[int, int], tuple[Generations, int] | None] = field(default_factory=dict)
 
     def separate(self, code: str) -> list[list[int]] | None:
         """Returns those separations of an object that have the most parts, each part moved to the
-        corner. If each island is a part, only that separation is returned. Returns `None` if it
-        gives up."""
+        corner. If each island is a part, returns only the separation into islands. Returns
+        `None` if it gives up."""
         text, kind = read_drawing(code), read_kind(code)
         bits = read_bitmap(text) if text is not None else None
         if bits is None or kind is None or not 1 <= kind.period() <= MOST_PERIOD:
@@ -114,8 +114,8 @@ class QuickBlocks:
         return self.completed([], frozenset(range(len(self.islands))))
 
     def completed(self, runs: list[Generations], left: Block) -> Iterator[list[int]]:
-        """Yields the separations that consist of the blocks with these `runs` and of further blocks
-        of the islands in `left`."""
+        """Yields each separation that has the blocks with these `runs` and divides the islands in
+        `left` into further blocks."""
         if not left:
             if is_separation(self.generations, runs):
                 # mutant: equal because every phase of a part has the same code
@@ -153,8 +153,8 @@ class QuickBlocks:
 
 def is_separation(generations: Generations, runs: list[Generations]) -> bool:
     """Checks whether the blocks with these `runs` never have a cell in common, and together make up
-    the object in each generation. If the sum of their numbers equals their union, no two blocks
-    have a cell in common."""
+    the object in each generation. The sum of the blocks' bitmaps equals their union only if no two
+    blocks have a cell in common."""
     return all(
         sum(live) == together == reduce(or_, live)
         for together, *live in zip(generations, *runs, strict=True)

@@ -14,8 +14,8 @@ NOT_SEPARATED = "not separated"
 
 
 def find_label(code: str, separation: Separation) -> str:
-    """Returns the name of an object, or its parts in words if it has several, or otherwise an empty
-    text."""
+    """Returns the name of an object. If the object has no name, returns its parts in words if there
+    are several, otherwise an empty text."""
     name = find_name(code)
     if name is not None:
         return name

@@ -1,7 +1,7 @@
 """Names of objects on LifeWiki (conwaylife.com/wiki), from the file names.tsv.
 
 The file has only names that are certain. haul/tests/pictures.txt has a picture for each of them,
-and a test checks that the object in the picture has the code in the file.
+and a test checks that the object in the picture has the code in names.tsv.
 """
 
 from __future__ import annotations
@@ -21,7 +21,7 @@ BETWEEN = "; "
 
 @dataclass(frozen=True)
 class Names:
-    """All names, indexed by code."""
+    """The names of objects by code, and the codes by name."""
 
     # The name that is shown for each code.
     shown: dict[str, str]
@@ -63,8 +63,8 @@ def find_other_names(code: str) -> tuple[str, ...]:
 
 
 def find_code_of_name(name: str) -> str | None:
-    """Returns the code of the object with this name, other name or abbreviation, or `None` if there
-    is none. Case, blanks and hyphens don't matter."""
+    """Returns the code of the object with this name, or `None` if there is no such object. Other
+    names and abbreviations count, too. Case, spaces, hyphens and underscores don't matter."""
     return load_names().codes.get(simplify(name))
 
 

@@ -111,8 +111,9 @@ def describe_object(sides: Sides, code: str) -> dict[str, object]:
 
 
 def describe_rates(sides: Sides, code: str) -> dict[str, object]:
-    """Returns the data about the rates of a part: its rarity in the reference and, if hauls are
-    compared, the intervals and which rates differ from the rate in the first haul."""
+    """Returns the data about the rates of a part. If the reference has the rarity of the parts, the
+    data includes the part's rarity. If hauls are compared, it includes the interval of each haul's
+    rate, and whether the rate differs significantly from the rate in the first haul."""
     rates: dict[str, object] = {}
     if sides.has_rarity:
         rates["rarity"] = list_part_words(code)
@@ -124,7 +125,7 @@ def describe_rates(sides: Sides, code: str) -> dict[str, object]:
 
 
 def shorten(number: float) -> float:
-    """Returns a number rounded to six digits, which are more than a page shows."""
+    """Returns a number rounded to six significant digits, which is more than a page shows."""
     return float(f"{number:.6g}")
 
 
@@ -135,8 +136,8 @@ def list_counts(haul: Haul, code: str) -> list[object] | int:
 
 
 def describe_parts(side: Side, code: str) -> object:
-    """Returns the parts of an object in a haul that has it, a word if the object is strict or isn't
-    separated, or `None` if the haul doesn't have it."""
+    """Returns the parts of an object, or a word if the object is strict or isn't separated. Returns
+    `None` if the haul doesn't have the object."""
     if not side.has(code):
         return None
     separation = side.separate(code)
@@ -160,9 +161,10 @@ def count_cells(code: str) -> int | None:
 
 
 def list_soups(side: Side, codes: list[str]) -> dict[int, list[object]]:
-    """Returns the sample soups of a haul, by number. Each has its 256 cells. If `census` was asked
-    about the soup, it also has the checkpoint at which it settled, and the fewest and the most live
-    cells there, or a single zero if these aren't known."""
+    """Returns a haul's sample soups for these codes, indexed by number. Each entry has the soup's
+    256 cells. If `census` was asked about the soup, the entry also has the checkpoint at which the
+    soup settled, and the fewest and the most live cells there. If these aren't known, the entry has
+    a single zero instead."""
     return {
         number: [encode_soup(f"{side.haul.job.seed}{number}"), *describe_end(side, number)]
         for number in side.soups(codes)
@@ -177,8 +179,8 @@ def describe_end(side: Side, number: int) -> list[object]:
 
 
 def encode_soup(text: str) -> str:
-    """Returns the 256 cells of the soup of a seed and a number, row by row, as bits in base64,
-    without the padding."""
+    """Returns the 256 cells of the soup made from `text`, row by row, as bits in base64 without the
+    padding."""
     bits = "".join(make_soup(text)).translate(BITS)
     return b64encode(int(bits, 2).to_bytes(len(bits) // 8, "big")).decode("ascii").rstrip("=")
 

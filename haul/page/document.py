@@ -43,7 +43,7 @@ def make_page(
     census: Census, hauls: list[Haul], least: int, play: int, lives: Lives | None = None
 ) -> Iterator[str]:
     """Yields the page, piece by piece. Codes with fewer than `least` objects in each haul are left
-    out. `census` finds out when the sample soups of the first `play` objects settle. Only the page
+    out. `census` finds out when the sample soups of the first `play` codes settle. Only the page
     of a single haul may have `lives`, the section *Long lives*."""
     sides = make_sides(hauls, least, play, census.terminal)
     # All data is computed before the first byte is written, so a page is either complete or

@@ -20,7 +20,7 @@ from haul.plurals import pluralize, write_count
 
 # The most soups in each list: the longest-lived soups, and the unsettled soups.
 MOST_SHOWN = 20
-# The chart of lifespans: about how many bars it has at most, and its size.
+# The chart of lifespans has at most one bar more than `BARS`. `WIDTH` and `HEIGHT` are its size.
 BARS, WIDTH, HEIGHT = 24, 640, 100
 TIDY_STEPS = (100, 200, 500, 1000, 2000, 5000, 10_000)
 KINDS = {
@@ -42,7 +42,7 @@ class LongLife:
     checkpoint: int
     objects: int
     # The exact generation in which the soup settled, and the number of live cells then. `None` and
-    # 0 if the soup doesn't settle, so that its line is wrong.
+    # 0 if the soup doesn't settle, which means that its line in FILE.late is wrong.
     generation: int | None = None
     cells: int = 0
 
@@ -172,7 +172,7 @@ def write_lives(lives: Lives) -> Iterator[str]:
 
 
 def write_summary(lives: Lives) -> str:
-    """Returns a sentence that says which soups are late, and how many there are."""
+    """Returns a text that says how many soups are late, and how many are unsettled."""
     late, limit = lives.late, lives.job.profile.limit
     from_then = (
         f"{write_count(len(lives.checkpoints()), 'soup')} from number {late.since:,} on settled in "

@@ -45,7 +45,8 @@ def write_table(sides: Sides) -> Iterator[str]:
 
 
 def describe_omissions(sides: Sides) -> str:
-    """Returns sentences that say what is counted, how many parts have a row, and how many don't."""
+    """Returns sentences that say how many kinds of parts are on the page, what is counted, and
+    which parts are left out."""
     kinds = len(sides.kinds_of_parts())
     text = (
         f"{len(sides.parts):,} of {kinds:,} kinds, the most frequent first. Parts are counted: a "

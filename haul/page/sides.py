@@ -114,7 +114,7 @@ def make_sides(hauls: list[Haul], least: int, play: int, terminal: Terminal) -> 
 
 
 def rank_for_page(hauls: list[Haul], least: int) -> list[str]:
-    """Returns the codes on the page, by descending rate. A single haul is ordered by totals, so
-    that it has an order even if it has objects but no soups."""
+    """Returns the codes on the page, by descending rate. The codes of a single haul are ordered by
+    total, since in a haul with objects but no soups all rates are 0."""
     codes = rank_codes(hauls, least)
     return sorted(codes, key=lambda code: -hauls[0].totals[code]) if len(hauls) == 1 else codes

@@ -14,7 +14,7 @@ from haul.patterns.rules import LIFE, format_rule
 from haul.page.sides import Side, Sides
 from haul.plurals import pluralize, write_count
 
-# If there are more ranges than this, only their number is shown.
+# The most ranges that are listed. If there are more, the number of further ranges follows.
 MOST_RANGES = 12
 NO_NUMBER = "–"
 COUNTED = "the formally verified program <code>census</code> counted the objects that they left"

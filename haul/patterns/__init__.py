@@ -1,1 +1,1 @@
-"""Texts of patterns: plaintext, RLE and coordinates, rules and codes."""
+"""Patterns as texts (plaintext, RLE and coordinates), notations of rules, and codes of objects."""

@@ -8,12 +8,12 @@ from collections.abc import Iterable, Iterator
 from haul.patterns.rle import LINE_LENGTH, format_run
 from haul.patterns.rules import format_rule
 
-# The columns of the live cells in each row, by row.
+# The columns of the live cells, indexed by their row.
 Columns = dict[int, set[int]]
 # A number has at most 15 digits.
 NUMBER = rb"(0|-?[1-9][0-9]{0,14})"
 LINE = re.compile(NUMBER + rb" " + NUMBER + rb"\r?\n?")
-# The form of the whole first line, since RLE without a header may begin with a digit, too.
+# Matches the whole first line, since RLE without a header may begin with a digit, too.
 FIRST_LINE = re.compile(rb"[\r\n]*[-0-9][-0-9 ]*(?:\r?\n|$)")
 
 

@@ -14,9 +14,9 @@ from haul.rarity.reference import find_occurrence, load_reference
 
 @cache
 def find_occurrence_of_counted(code: str) -> Occurrence | None:
-    """Returns how often a code occurs in the reference, or `None` if `census` doesn't count objects
-    with the code: if it isn't a code that `census` writes, or if the object is several clusters in
-    every phase, such as a queen bee shuttle."""
+    """Returns how often a code occurs in the reference. Returns `None` if `census` doesn't count
+    objects with the code, because it never writes such a code, or because the object is several
+    clusters in every phase, such as a queen bee shuttle."""
     if code in load_reference() or is_counted_under_life(code):
         return find_occurrence(code)
     return None

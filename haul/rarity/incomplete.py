@@ -1,9 +1,9 @@
 """The incomplete beta and gamma functions. They give binomial and Poisson probabilities, also for
 counts that aren't whole numbers.
 
-Both use continued fractions: the NIST Digital Library of Mathematical Functions, 8.17.22 and 8.9.2.
-The relative error is below 1e-9 for parameters up to 100, and below 1e-5 up to 100 million, where
-the logarithms of factorials lose digits.
+Both use continued fractions, 8.17.22 and 8.9.2 in the NIST Digital Library of Mathematical
+Functions. The relative error is below 1e-9 for parameters up to 100, and below 1e-5 up to 100
+million, where the logarithms of factorials lose digits.
 """
 
 from __future__ import annotations
@@ -36,8 +36,8 @@ def compute_beta_below(a: float, b: float, x: float) -> float:
 
 
 def compute_beta_density(a: float, b: float, x: float) -> float:
-    """Returns the derivative of the incomplete beta function by `x`: the density of the beta
-    distribution."""
+    """Returns the derivative of the regularized incomplete beta function with respect to `x`, which
+    is the density of the beta distribution."""
     factor = lgamma(a + b) - lgamma(a) - lgamma(b)
     return exp(factor + (a - 1) * log(x) + (b - 1) * log1p(-x))
 

@@ -51,9 +51,9 @@ def format_one_in(one_in: float) -> str:
 
 
 def find_share_high(having: int, soups: int) -> float:
-    """Returns the high end of the interval, or 1 if all soups have the object: if each soup had it
-    with this probability, the chance that at most `having` of `soups` soups have it would be
-    2.5 %."""
+    """Returns the high end of the interval for the share of soups that have the object, or 1 if all
+    soups have it. If each soup had the object with this probability, the chance that at most
+    `having` of `soups` soups have it would be 2.5 %."""
     if having == soups:
         return 1.0
     if not having:
@@ -62,8 +62,9 @@ def find_share_high(having: int, soups: int) -> float:
 
 
 def find_share_low(having: int, soups: int) -> float:
-    """Returns the low end of the interval: if each soup had the object with this probability, the
-    chance that at least `having` of `soups` soups have it would be 2.5 %."""
+    """Returns the low end of the interval for the share of soups that have the object. If each soup
+    had the object with this probability, the chance that at least `having` of `soups` soups have it
+    would be 2.5 %."""
     if having == soups:
         return float(TAIL ** (1 / soups))
     return find_beta_quantile(having, soups - having + 1, TAIL, -DEVIATIONS)

@@ -29,8 +29,8 @@ DIGEST = "ec1175e92f017a496bd5884bd95b6e0bb70dcfe76f5d134a51f04095f6542149"
 class Entry:
     """The row of a part in the reference."""
 
-    # The number of these parts in all soups, and the sum of the squares of their number in each
-    # soup.
+    # The number of these parts in all soups together. For `squares`, the number in each soup is
+    # squared before the sum is taken.
     total: int
     squares: int
     # The number of soups that have the part.

@@ -1,1 +1,1 @@
-"""`haul search`: batches of soups, the file that keeps them, and finds."""
+"""`haul search`: its batches of soups, its files, and its finds."""

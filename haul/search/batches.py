@@ -35,7 +35,8 @@ class Plan:
     workers: int
     # The program to call for each find.
     finds: str | None
-    # A part is a find if fewer than one in this many soups of the reference has it.
+    # Under Life, a part is a find only if fewer than one in this many soups of the reference has
+    # it.
     rarer: int
     # The first generation at which a soup is late, or `None` if late soups aren't kept.
     late: int | None = None
@@ -111,8 +112,8 @@ class Batches:
 
     def take_first(self) -> Taken:
         """Removes the first batch, which must have ended, and returns its result. Raises `Ended` if
-        its call failed, or `NoCensus` if the result isn't the haul of the batch, or the report
-        lines aren't those of the batch."""
+        its call failed. Raises `NoCensus` if the result isn't the haul of the batch, or if the
+        report lines aren't those of the batch."""
         batch = self.queue.popleft()
         if batch.workers:
             self.free.append(batch.workers)

@@ -116,7 +116,7 @@ def list_common_parts(rarer: int) -> frozenset[str]:
 
 
 class Finder:
-    """Looks for finds, one object at a time, so that the search can do other things in between.
+    """Looks for finds in short steps, so that the search can do other things in between.
 
     An object that was in the file at the start is separated only if a part of a new object looks
     new, and the object in the file might have this part, too. Most parts are themselves objects of
@@ -124,8 +124,9 @@ class Finder:
     """
 
     def __init__(self, job: Job, haul: Haul, rarer: int, first: int = NUMBER_LIMIT) -> None:
-        """Under Life, a part isn't common if fewer than one in `rarer` soups of the reference has
-        it. The objects of the haul that no soup before `first` left haven't been examined yet."""
+        """Under Life, a part is common if at least one in `rarer` soups of the reference has it. An
+        object of the haul hasn't been examined yet if the lowest soup that left it is `first` or
+        higher."""
         new = [(code, soups[0]) for code, soups in haul.samples.items() if soups[0] >= first]
         self.separator = Separator(read_rule(job.rule))
         self.common = list_common_parts(rarer) if job.rule == LIFE else frozenset()
@@ -185,8 +186,8 @@ class Finder:
 
     def is_new(self, part: str) -> bool:
         """Checks whether a part is neither common nor known, and isn't itself an unread object. An
-        unread object with the part's code is its own only part, since a part can't be separated
-        further."""
+        unread object with the part's code has only itself as a part, since a part can't be
+        separated further."""
         return part not in self.common and part not in self.known and part not in self.unread
 
     def parts_of(self, code: str) -> tuple[str, ...]:

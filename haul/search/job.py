@@ -56,6 +56,6 @@ def list_profile_numbers(asked: argparse.Namespace) -> list[int | None]:
 
 
 def find_next_soup(asked: argparse.Namespace, haul: Haul) -> int:
-    """Returns the number of the next soup: the number after the last range, or if there are no
-    ranges, the first soup in the arguments or 0."""
+    """Returns the number of the next soup, which is the number after the last range. If there are
+    no ranges, returns the first soup in the arguments, or 0."""
     return sum(haul.ranges[-1]) if haul.ranges else asked.first or 0

@@ -67,7 +67,7 @@ def find_other_file(late: Late, job: Job | None, haul: Haul, next_soup: int) -> 
 
 def list_late_finds(job: Job, lines: BatchLines, latest: int) -> list[list[str]]:
     """Returns the fields of the line about each late or unsettled soup of a batch. `latest` is the
-    latest checkpoint of the soups before the batch."""
+    latest checkpoint of the late soups before the batch, or -1 if there are none."""
     now = format_time()
     finds: list[list[str]] = []
     for line in lines.lines:

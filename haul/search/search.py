@@ -277,7 +277,7 @@ class Search:
 
     def report_rest(self) -> None:
         """Reports the remaining finds and waits for the calls of the program for finds. After a
-        signal that ends the search at once, reports what it can in a second and calls nothing."""
+        signal that ends the search at once, reports what it can in one second and calls nothing."""
         began = time.monotonic()
 
         def is_reported() -> bool:

@@ -9,8 +9,8 @@ from haul.plurals import write_count
 from haul.search.find_calls import FindCalls
 from haul.terminal import Terminal
 
-# On a terminal, the line of a find that the reference doesn't have begins with a mark. The last
-# field of such a line begins with `none`.
+# If the reference doesn't have a find, the last field of the find's line begins with `none`. On a
+# terminal, such a line begins with a mark.
 UNKNOWN_MARK, UNKNOWN = "!", "none"
 
 

@@ -41,7 +41,7 @@ class Untold:
     """The fields of the finds that weren't reported, and which objects weren't examined."""
 
     job: Job
-    # Objects that no soup before the soup `since` left haven't been examined.
+    # An object still has to be examined if the lowest soup that left it is `since` or higher.
     since: int = NUMBER_LIMIT
     finds: list[list[str]] = field(default_factory=list)
     # The number of finds that were left out.

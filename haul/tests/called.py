@@ -52,8 +52,8 @@ def taken(count: int) -> bytes:
 
 
 def run(*words: str, text: bytes = b"", cwd: str | None = None) -> tuple[int, str, str]:
-    """Calls `haul` in this process. Returns its status and what it prints on both streams.
-    test_ends.py and test_packed.py start it in its own process instead."""
+    """Calls `haul` in this process. Returns its status and what it prints on both streams. Some
+    tests, such as those in test_packed.py, start `haul` in a process of its own instead."""
     output, errors = (
         io.TextIOWrapper(io.BytesIO(), "utf-8", "surrogateescape", "\n") for _ in range(2)
     )
@@ -113,8 +113,8 @@ def read_terminal(write: Callable[[TextIO], object]) -> bytes:
 
 def as_haul(*words: str) -> Callable[[], None]:
     """Returns a `preexec_fn` that turns a process forked by `subprocess` into `haul` with these
-    arguments. Tests of signals and of open files use this, because starting Python takes longer
-    than most of these tests."""
+    arguments. The tests of `haul search` use this, because starting Python takes longer than most
+    of these tests."""
     # Another thread could hold a lock, which nobody would release in the new process.
     assert threading.active_count() == 1 and not children.running and children.stopping is None
 

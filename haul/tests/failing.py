@@ -62,10 +62,11 @@ class FailingCalls:
 def failing_calls(
     number: int, error: int | None, is_single: bool, failed: Path, begins: Path | None = None
 ) -> Iterator[None]:
-    """In each process that is forked in this context, makes the call with this number fail with
-    this error, and all later calls too unless `is_single` is set. If the error is `None`, the
-    process is killed instead. The calls are counted from the moment when the file `begins` exists,
-    or from the fork if `begins` is `None`. The file `failed` is made when a call fails."""
+    """Makes calls fail in each process that is forked in this context: the call with this number,
+    and all later calls unless `is_single` is set. They fail with this error. If the error is
+    `None`, the process is killed instead. The calls are counted from the moment when the file
+    `begins` exists, or from the fork if `begins` is `None`. The file `failed` is made when a call
+    fails."""
     failing = FailingCalls(number, error, is_single, failed, begins)
     with ExitStack() as stack:
         for name in CALLS:

@@ -26,7 +26,7 @@ def go_on(work: Callable[[], int]) -> NoReturn:
         # other files.
         gc.freeze()
         gc.enable()
-        # `subprocess` waits until one of these files is closed, as when a program has started.
+        # `subprocess` waits until one of these files is closed, as happens when a program starts.
         os.closerange(3, FILES)
         for number in (signal.SIGPIPE, signal.SIGXFSZ):
             signal.signal(number, signal.SIG_IGN)

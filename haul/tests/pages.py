@@ -1,5 +1,5 @@
-"""Pages, and functions that read them: the table for readers without scripts, and the data of the
-script."""
+"""Functions that make pages for tests and read their parts, mainly the table for readers without
+scripts and the data of the script."""
 
 from __future__ import annotations
 

@@ -1,5 +1,5 @@
-"""What the tests of `haul search` share: a folder with a file, searches that run in it, and the
-processes that are left."""
+"""Code that the tests of `haul search` share. It runs searches in a folder, and checks the files
+and the processes that they leave."""
 
 from __future__ import annotations
 

@@ -9,7 +9,7 @@ import unittest
 from pathlib import Path
 from tempfile import TemporaryDirectory
 
-from haul.tests.called import census, run
+from haul.tests.called import TOP, census, run
 
 HEAD = """\
 @VERSION v5.4-ll2.2
@@ -89,7 +89,7 @@ class Apgsearch(unittest.TestCase):
 
     def test_compare(self) -> None:
         """A haul of apgsearch can be compared with a haul of `census`. A star marks a rate that
-        differs, given the dispersion in the reference."""
+        differs significantly, given the dispersion in the reference."""
         own = self.folder / "own"
         own.write_bytes(census("take", "--count", "100"))
         status, printed, told = run("compare", str(own), self.file)
@@ -120,9 +120,9 @@ class Apgsearch(unittest.TestCase):
             "the totals of apgsearch are by parts already, so --whole and --strict are only for hauls "
             "of census"
         )
-        for words in (["table", "--whole"], ["table", "--strict"], ["compare", "--whole", "-"]):
-            if words[0] == "table":
-                self.assertEqual(self.refused(*words, self.file), parts)
+        ours = str(TOP / "examples" / "100000.haul")
+        for words in (["table", "--whole"], ["table", "--strict"], ["compare", "--whole", ours]):
+            self.assertEqual(self.refused(*words, self.file), parts)
         self.assertEqual(
             self.refused("join", self.file),
             "bad haul at line 1 column 10: this looks like a haul of apgsearch",
@@ -178,7 +178,8 @@ class Apgsearch(unittest.TestCase):
         # With `--first 1`, other soups are run, so the totals differ.
         status, printed, _ = run("check", "--totals", "--first", "1", self.write("same", same))
         self.assertEqual(status, 7)
-        # First the last soup has the highest number that is allowed, then a number too high by one.
+        # In the next call, the last soup has the highest number that is allowed. In the call after
+        # that, the number is too high by one.
         status, _, told = run("check", "--totals", "--first", str(2**40 - 100), self.file)
         self.assertEqual((status, told), (7, ""))
         status, printed, told = run("check", "--totals", "--first", str(2**40 - 99), self.file)
@@ -209,7 +210,7 @@ class Apgsearch(unittest.TestCase):
         )
 
     def test_damage(self) -> None:
-        """Each kind of damage gives a single line, and no output."""
+        """For each kind of damage, `haul` prints a single error message, and nothing else."""
         for name, old, new, why in (
             ("twice", "xs4_33 665", "xp2_7 665", "line 11 column 1: this was said before"),
             ("negative", "xs4_33 665", "xs4_33 -5", "line 11 column 8: no number"),
@@ -277,8 +278,8 @@ class Apgsearch(unittest.TestCase):
         )
 
     def test_rules(self) -> None:
-        """A rule may be given by its name or in Golly's notation, and is printed in the form that
-        `census` accepts."""
+        """A rule may be given by its name or in Golly's notation. A message then gives the form
+        that `census` accepts."""
         glider = self.write("glider", ".O\n..O\nOOO\n")
         for given, rule, shown in (
             ("HighLife", "b36s23", "B36/S23"),

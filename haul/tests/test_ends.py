@@ -186,7 +186,7 @@ class Progress(unittest.TestCase):
             )
 
     def test_soups_that_are_run(self) -> None:
-        """One call runs a hundred soups."""
+        """One call of the census program runs at most a hundred soups."""
         codes = [f"xs4_{number}" for number in range(1000, 1150)]
         text = text_of(
             Haul(
@@ -347,7 +347,7 @@ class Starter(unittest.TestCase):
 
 
 class NoThreads(unittest.TestCase):
-    """The system starts no thread, or none after the first one, in which all work is done."""
+    """The system starts no thread, or only the first one, in which all work is done."""
 
     def test_each_is_told(self) -> None:
         for least, words in (
@@ -416,9 +416,9 @@ class LittleMemory(unittest.TestCase):
 class OtherPrograms(unittest.TestCase):
     """The program at the path isn't the census program."""
 
-    # Programs that end successfully, and print nothing, their arguments, bytes that aren't text, a
-    # haul that wasn't asked for, a line of another job, something like a pattern, an empty line, or
-    # something like report lines.
+    # Programs that end successfully. In this order, they print: nothing; their arguments; bytes
+    # that aren't text; a haul that wasn't asked for; a line of another job; something like a
+    # pattern; an empty line; something like report lines.
     ANSWERS = [
         "true",
         'echo "$@"',

@@ -1,5 +1,5 @@
-"""Hauls with a single fault. Its place is known from how the haul was made, and not from the code
-that reads it."""
+"""Hauls with a single fault. The place of the fault is known from how the haul was made, and not
+from the code that reads hauls."""
 
 from __future__ import annotations
 
@@ -133,8 +133,8 @@ def wrong_lines(haul: Haul, at: Fields) -> Iterator[tuple[str, Place]]:
 
 def cut(haul: Haul, at: Fields) -> Iterator[tuple[str, Place]]:
     """Yields inputs that are cut off. If an input ends before a field or after the last field of a
-    line, the fault is at its end. If it ends within a word that isn't a field yet, the fault is
-    where the word begins."""
+    line, the fault is at the end of the input. If the input ends within a word that isn't a field
+    yet, the fault is where the word begins."""
     text = ""
     for line, fields in enumerate(at.lines):
         for field, word in enumerate(fields):

@@ -1,5 +1,5 @@
 """Finds: which parts a search reports, how it reports them, and the calls of the program for finds.
-Also the status line."""
+Also the status line, and when the file is written."""
 
 from __future__ import annotations
 
@@ -84,8 +84,8 @@ class Common(unittest.TestCase):
         self.assertEqual(list_common_parts(1), frozenset())
 
     def test_rarity(self) -> None:
-        """The sixth field is the rarity in the reference under Life with the standard profile,
-        otherwise `-`."""
+        """Under Life with the standard profile, the sixth field is the rarity in the reference.
+        Otherwise it is `-`."""
         self.assertEqual(Find(BIPOLE, 1).fields(LIFE)[5], find_occurrence(BIPOLE).describe())
         self.assertEqual(Find("xs99_0", 1).fields(LIFE)[5], "none in 100000000")
         for job in (OTHER_PROFILE, OTHER_RULE):
@@ -117,8 +117,8 @@ class Finds(unittest.TestCase):
         )
 
     def test_parts_of_objects_that_were_there(self) -> None:
-        """A blinker that was there as a part of a traffic light is known, and so is a blinker that
-        was an object."""
+        """A blinker isn't a find if the file already has a blinker, or has a traffic light, which
+        has blinkers as parts."""
         for there in ("xp2_s01110szw222", BLINKER):
             finder = Finder(OTHER_RULE, haul_of(OTHER_RULE, BLOCK, there), RARER)
             self.assertEqual(
@@ -187,8 +187,8 @@ class Finds(unittest.TestCase):
         ) as separated:
             self.assertEqual(found(finder, [(BIPOLE, 200), (BLOCK, 201)]), [])
             self.assertEqual(separated.call_count, 2)
-            # An oscillator of period 3 is a part of none of the three objects of the file. A still
-            # life of seven cells may be a part of each of them.
+            # An oscillator of period 3 can't be a part of any of the three objects in the file. A
+            # still life of seven cells may be a part of each of them.
             self.assertEqual(found(finder, [("xp3_695qc8zx33", 11)]), [Find("xp3_695qc8zx33", 11)])
             self.assertEqual(separated.call_count, 3)
             finder.add([("xs7_2552", 11)])
@@ -208,7 +208,7 @@ class Finds(unittest.TestCase):
         self.assertEqual(finder.left(), 1)
 
     def test_which_objects_can_have_a_part(self) -> None:
-        """Checks all objects with several parts in 100,000 soups, and some more kinds."""
+        """Checks all objects of 100,000 soups that have several parts, and some more kinds."""
         with open(TOP / "examples" / "100000.haul", "rb") as file:
             haul = read_one_haul(file)
         separator = Separator(read_rule("b3s23"))
@@ -512,7 +512,7 @@ class Calls(Searches):
         self.assert_nothing_runs()
 
     def test_signals_while_it_runs(self) -> None:
-        """Ctrl-C doesn't reach the program. A second Ctrl-C ends the program, and so does a signal
+        """The first Ctrl-C doesn't end the program. A second Ctrl-C ends it, and so does a signal
         that ends `haul`."""
         program = self.stub("touch runs; sleep 1000 & sleep 1000")
         for numbers in ([signal.SIGINT, signal.SIGINT], [signal.SIGTERM], [signal.SIGKILL]):
@@ -539,7 +539,7 @@ class Calls(Searches):
             self.assert_right()
 
 
-class Telling(Searches):
+class StatusLine(Searches):
     """Tests the status line."""
 
     STATUS = Status(1234567, 20000, 30, 4, 1, 10.0, 40000)
@@ -780,8 +780,7 @@ class Pace(Searches):
             for at, may in ((1099.0, False), (1100.0, True)):
                 now.return_value = at
                 self.assertEqual(search.may_keep(), may)
-            # The file must be written ten minutes after it was last written, minus the time that
-            # writing takes.
+            # Writing must begin early enough to end ten minutes after the file was last written.
             search.writing, search.unkept, search.kept_at = 500.0, [(0, [])], 1200.0
             for at, must in ((1798.9, False), (1799.0, True)):
                 now.return_value = at

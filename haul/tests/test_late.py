@@ -1,4 +1,5 @@
-"""`haul search`: FILE.late, which keeps late and unsettled soups, and several batches at once."""
+"""Tests of `haul search` with FILE.late, which keeps late and unsettled soups, and of searches that
+run several batches at once."""
 
 from __future__ import annotations
 
@@ -275,8 +276,8 @@ class Reports(LateSearches):
     """Report lines of a batch."""
 
     def test_wrong_lines(self) -> None:
-        """A line is about a soup of another batch, about another job or about a soup that isn't
-        late, occurs twice, or is malformed; or lines are missing."""
+        """The program prints a line about a soup of another batch, about a soup that isn't late, or
+        about another job; prints a line twice; prints a malformed line; or leaves lines out."""
         line = f"report 2 {JOB} worker=1"
         for said in (
             f"echo '{line} soup=900 unsettled' >&2",

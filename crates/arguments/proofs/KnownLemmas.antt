@@ -69,17 +69,18 @@ rows_with e v rows = with_values e.name (reading_of (parser_for e.kind)) Command
 abbrev pub faults_of : Entry → Text → List Row → Kinds
 faults_of e v rows = or_else (repeat_fault false e.name rows) (values_kinds false (parser_for e.kind) (v ∷ []))
 
--- the effect of a whole use in one text, such as `--first=7` or a flag; p is what was held before, once it is settled
+-- the effect of a use that is one text, such as `--first=7` or a flag; p is the result of settling what was held
+-- before
 abbrev pub reacts : Kinds × Held → Entry → Text → Met
 reacts p e v = ((record { rows = rows_with e v p.1.rows; pending = None; skip = p.1.skip }, next idle), or_else p.0 (faults_of e v p.1.rows))
 
--- the effect of a name such as `--first`, whose value follows in the next text; p is what was held before, once it is
--- settled
+-- the effect of a name such as `--first`, whose value follows in the next text; p is the result of settling what was
+-- held before
 abbrev pub asks : Kinds × Held → Entry → Met
 asks p e = ((record { rows = p.1.rows; pending = Some (e.name, []); skip = p.1.skip }, next (option e.name)), p.0)
 
--- the effect of a positional value; what is held isn't settled first if the value is one more of several values of the
--- argument that is held (`keeps_on`)
+-- the effect of a positional value; what is held is settled first, unless this value is a further value of the held
+-- argument (`keeps_on`)
 abbrev pub goes_alone : Bool → Held → Kinds × Held → Entry → Text → Walk × Kinds
 goes_alone keeps_on h p e v = (at (pushed e.name v (cond keeps_on h p.1)) 2, cond keeps_on [] p.0)
 
@@ -109,8 +110,8 @@ taken kind.Flag row = flag (option_map_or (λ t. bytes_eq t (codes "true")) (opt
 taken (kind.Number least most) row = number (option_and_then (at_least least) (option_and_then (number_named most) (option_and_then row_text row)))
 taken (kind.OptionalNumber least most) row = number (option_and_then (at_least least) (option_and_then (number_named most) (option_and_then row_text row)))
 
--- what a request should take for an argument of this kind: whether it is used if it is a flag, `None` if it is an
--- optional number that isn't used, and otherwise its value
+-- what a request should take for an argument of this kind: for a flag, whether it is used; for an optional number that
+-- isn't used, `None`; otherwise, the argument's value
 abbrev pub given : ValueKind → Text → Bool → Value
 given kind.Text v used = text (Some v)
 given kind.Flag v used = flag used
@@ -169,7 +170,7 @@ pub record CommandFacts : Type 0 where
   pub found : Option Shape
   pub version : Bool
 
--- the facts in two versions: as `clap` computes them (if the first argument is `true`), and as the table says them
+-- the facts in two versions: as `clap` computes them (if the first argument is `true`), and as the table states them
 abbrev pub parameter_facts : Bool → Command → Entry → ParameterFacts
 parameter_facts clap command e =
     let s = leaf command in

@@ -43,7 +43,7 @@ unfolding clap_on_literals
 census_is_free = refl
 
 module _ (app : App) (arguments : List Text) (is : app ≡ census_app) (other : false ≡ asks_version arguments) where
-  -- if a parse succeeds, the request in what it found is what the arguments ask for
+  -- if a parse succeeds, the arguments ask for the request in the values that it found
   pub asked_by-found : (found : Option (Text × List Row)) → (is_simple_and_free app ≡ true → fault_of app arguments ≡ [])
       → (is_simple app ≡ true → found ≡ subcommand_of app arguments) → asked_by arguments ≡ option_and_then request_in found
   asked_by-found found faultless finds =

@@ -56,8 +56,7 @@ word_faulty : (s : Shape) (h : Held) (position : ℕ) (argument : Text) (more : 
 unfolding walked walk_fault
 word_faulty s h position argument more f = faulty_first _ _ (faulty_first (turn_kinds s position (met s idle h position argument)) _ f)
 
--- if the long name of an option is a fault, a letter of a bundle such as `-abc` is a fault if it is the letter of this
--- option or of no option
+-- a letter of a bundle such as `-abc` is a fault if it belongs to no option, or to an option whose long name is a fault
 letter_faulty : (s : Shape) (b : Bool) (o : Option Rule) (flags : Text) (h : Held) (next : Held → Kinds)
     → IsFaulty (long_fault s.rules s.args_override_self o None h)
     → IsFaulty (short_fault s.rules s.args_override_self (cond b o None) flags (record h { skip = 0 }) next)
@@ -107,8 +106,8 @@ module _ (s : Shape) (rows : List Row) (p : Option (Text × List Text)) (single 
     | inr other ↦ simp other (faulty_first _ _ (faulty_first _ _ (word_stuck i argument (long_of argument))))
   ]
 
--- The first arguments have a fault, or what they leave to be settled has one. If the latter leads to a fault in the
--- later arguments or at their end, there is a fault in all arguments or at their end.
+-- The first arguments have a fault (`told`), or what they leave to be settled has a fault (`held`). If a fault in
+-- `held` leads to a fault in the later arguments or at their end, the arguments as a whole have a fault.
 told_or_held : (told held later last : Kinds) → IsFaulty (or_else told held) → (IsFaulty held → IsFaulty (or_else later last))
     → IsFaulty (or_else (or_else told later) last)
 told_or_held told held later last f stuck = grind arith

@@ -47,9 +47,9 @@ pub record IsAt (command : Command) (h : Held) (position : ℕ) (rows : List Row
   pub settles : settling (leaf command) h ≡ ([], holding rows None)
   pub place : position ≡ cond {A = ℕ} (has_row (lone command) rows) 2 1
 
--- The arguments of a use lead from one place to another. `clap` settles the value of a use only when the next use
--- begins. So the faults of the use are those that are found in its arguments, and those that are found when what is
--- held is settled.
+-- The arguments of a use lead from one place to another. If a use is `--name VALUE` or a positional value, `clap`
+-- settles the value only when the next use begins. So the faults of a use are the faults in its arguments (`told`) or,
+-- if there are none, the faults of settling what is held.
 pub record Step (command : Command) (h : Held) (position : ℕ) (rows : List Row) (arguments : List Text) (e : Entry) (v : Text) : Type 0 where
   pub told : Kinds
   pub kept : List Row

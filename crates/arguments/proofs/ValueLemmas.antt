@@ -43,7 +43,7 @@ pub find_none : {X : Type 0} (p : X → Bool) (xs : List X) → list_any p xs �
 find_none p xs none = grind (arith, is_found p xs, none)
 
 -- Once the default of a rule is added, the row that is found for an id is the row that was found before. If there was
--- none, it is the default if the rule has this id and a default, and otherwise `later`.
+-- none, it is the row of the rule's default, or `later` if the rule has another id or no default.
 default_found : (id : Text) (rows : List Row) (a : Rule) (later : Option Row)
     → option_or (lookup id (with_default rows a)) later
     ≡ option_or (lookup id rows) (cond (is_some (slice_get a.defaults 0) && bytes_eq a.id id) (Some (default_row a)) later)
@@ -68,7 +68,7 @@ pub rows_have : (name : Text) (uses : List Use) → has_row name (rows_in uses) 
 rows_have name [] = refl
 rows_have name (u ∷ more) = ap (λ b. bytes_eq (entry_in u).name name || b) (rows_have name more)
 
--- from the row of an argument with a value of its kind, a request takes this value
+-- if an argument's value is of its kind, a request takes this value from the argument's row
 value_taken : (k : ValueKind) (name v : Text) → IsOfKind k v
     → taken k (Some (record { id = name; values = v ∷ []; count = None; source = Some CommandLine; reading = reading_of (parser_for k) })) ≡ given k v true
 value_taken kind.Text name v h = refl

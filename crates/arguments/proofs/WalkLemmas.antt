@@ -18,7 +18,7 @@ at = waits idle
 abbrev pub run : Shape → Walk → List Text → Kinds × Walk
 run s w arguments = (walk_fault s [] w arguments, fold (walked s.rules []) w arguments)
 
--- the same result, but if there are faults `kinds` before it, these are its faults
+-- the result r; if `kinds` has faults, they replace the faults of r
 abbrev pub after : {X : Type 0} → Kinds → Kinds × X → Kinds × X
 after kinds r = (or_else kinds r.0, r.1)
 

@@ -1,4 +1,4 @@
--- How `clap` reads arguments according to the table.
+-- The program as `clap` knows it: its commands and their arguments, made from the table of commands and options.
 use Rattle.std.specs.Prelude.{List, [], ◌∷◌, None, Some, true, map, codes, not, is_some, if◌then◌else◌}
 use Rattle.std.specs.Option.{option_map_or}
 use Rattle.clap.specs.Words.{App, Rule, Shape, new_app, new_rule, with_rule, with_subcommand}

@@ -14,14 +14,14 @@ use Rattle.arguments.specs.Table.{commands}
 use Rattle.arguments.specs.Table as table
 use Rattle.arguments.specs.Uses.{Use, entry_in, is_used, arguments_in, arguments_of}
 
--- each call of the command asks for `asked uses` (for nothing if this is `None`), if its arguments are lawful, each is
--- given at most once, in any order, and no required one is missing
+-- a call of the command asks for `asked uses` (for nothing if this is `None`) if its arguments are lawful, each given
+-- at most once and in any order, and if no required argument is missing
 abbrev pub AsksForWhat : Command → (List Use → Option Request) → Type 0
 AsksForWhat command asked =
     (program : Text) (uses : List Use) → AreUses command uses → lacks_some command uses ≡ false
     → asked_by (program ∷ command.name ∷ arguments_in uses) ≡ asked uses
 
--- a call of the command with lawful arguments, of which no required one is missing, asks for `request uses`
+-- a call of the command asks for `request uses` if its arguments are lawful and no required argument is missing
 abbrev pub AsksFor : Command → (List Use → Request) → Type 0
 AsksFor command request = AsksForWhat command (λ uses. Some (request uses))
 

@@ -140,8 +140,8 @@ def list_changes(node: ast.AST, is_truth: bool) -> Iterator[tuple[str, int | Non
 
 
 def name_nodes(outer: ast.AST, before: str) -> Iterator[tuple[str, ast.AST]]:
-    """Yields the classes and functions in a node with their names, each before those that it
-    contains."""
+    """Yields each class and function in a node, together with its name. A class or function comes
+    before those that it contains."""
     for node in ast.iter_child_nodes(outer):
         name = before
         if isinstance(node, (ast.ClassDef, ast.FunctionDef)):

@@ -27,10 +27,11 @@ TOP = Path(__file__).resolve().parents[3]
 PROGRAM = TOP / "crates" / "census" / "out" / "census"
 # The line that `unittest` writes about a test that fails.
 FAILED = re.compile(r"^(?:FAIL|ERROR): \w+ \(([\w.]+)\)", re.MULTILINE)
-# A changed program may run forever, or ask for all memory.
+# How much longer than usual the tests of a changed program may take, and how much memory they may
+# use, since such a program may run forever or ask for all memory.
 MOST_SECONDS, MOST_BYTES = 15, 2**30
-# An option of the system call `prctl`: this process becomes the parent of those of its descendants
-# whose parent has ended.
+# An option of the system call `prctl`: this process becomes the parent of each descendant whose own
+# parent has ended.
 PR_SET_CHILD_SUBREAPER = 36
 
 
@@ -84,8 +85,8 @@ def find_failing_tests(unchanged: Trial, workers: int) -> list[str]:
 
 
 def find_noticing_test(compiled: str, trial: Trial) -> str | None:
-    """Returns the first test that fails on the changed file, `time` or `start` if the tests take
-    too long or can't start, or `None` if all tests pass."""
+    """Returns the first test that fails on the changed file, or `None` if all tests pass. Returns
+    `time` if the tests take too long, and `start` if they can't start."""
     if not trial.tests:
         return None
     with tempfile.TemporaryDirectory(ignore_cleanup_errors=True) as folder:
