@@ -1,9 +1,9 @@
-"""Makes a release of a checkout, or compares a release with what the checkout makes. `bin/release`
-starts it.
+"""Makes a release of a checkout, or compares files of a release with the same files made anew.
+`bin/release` starts this package.
 
-This folder also has the files that are only in the archive and the package: the script that starts
-the program, `uninstall`, and the files that Debian's tools need. Like a release, `bin/install`
-packs `haul` with `zipped.py`.
+This folder also has the files that only a release needs: the script that starts the program,
+`uninstall`, and the files that Debian's tools need. `zipped.py` packs `haul` for a release, and
+also for `bin/install`.
 """
 
 

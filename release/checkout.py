@@ -1,4 +1,4 @@
-"""The checkout from which a release is made: its commit, and the files that differ from it."""
+"""The checkout from which a release is made: its commit, its version and its files."""
 
 from __future__ import annotations
 
@@ -39,7 +39,7 @@ def clean_checkout(top: Path) -> Checkout:
     above = git(top, "rev-parse", "--show-toplevel").decode().removesuffix("\n")
     if not os.path.samefile(above, top):
         raise Failed(f"{top} isn't the top of a checkout")
-    # Each entry has two letters and a blank before the path, and a NUL after it.
+    # Each entry consists of two characters for the status, a blank, the path, and a NUL.
     said = git(
         top,
         "status",

@@ -1,5 +1,5 @@
-"""Compares a file of a release with the same file made anew: byte for byte and, if they differ,
-file by file.
+"""Compares a file of a release with the same file made anew. If their bytes differ, lists the files
+that differ in an archive or a package, or the lines that differ in a text.
 """
 
 from __future__ import annotations

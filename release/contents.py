@@ -52,8 +52,8 @@ def places_of(checkout: Checkout, zsh: str) -> dict[str, str]:
 def installed(checkout: Checkout, programs: Path, zsh: str) -> Tree:
     """Returns the files below the folder in which a release is installed."""
     places = places_of(checkout, zsh)
-    # Some pages link to folders, and to the page about the examples. A release has one of the
-    # examples.
+    # Some pages link to folders, and to the page about the examples. In a release, a link to that
+    # page leads to the only example.
     linked = {
         **places,
         "cluster": "share/census/cluster",

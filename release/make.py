@@ -24,8 +24,8 @@ def sha256(data: bytes) -> str:
 
 
 def files_of_release(checkout: Checkout, programs: Path) -> dict[str, bytes]:
-    """Returns the files of the release of a checkout, with the programs in a folder. There is no
-    package if dpkg-deb isn't installed.
+    """Returns the files of a release by name. The release is made of a checkout, and of the
+    programs in the folder `programs`. There is no package if dpkg-deb isn't installed.
     """
     said = said_version(programs)
     if said != checkout.version:

@@ -49,7 +49,7 @@ def called(words: list[str], given: bytes | None = None, date: int = 0) -> bytes
 
 
 def version_of(tool: str) -> str:
-    """Returns the line in which a program states its version, or that it isn't installed."""
+    """Returns the line in which a tool states its version, or `no TOOL` if it isn't installed."""
     if not has(tool):
         return f"no {tool}"
     return called([tool, "--version"]).decode("utf-8", "replace").splitlines()[0].rstrip(".")

@@ -8,7 +8,7 @@ import posixpath
 import re
 from collections.abc import Mapping
 
-# Code, which can't contain a link, or a link, possibly to a picture.
+# Either code, in which nothing is a link, or a link. A picture counts as a link, too.
 PIECE = re.compile(
     r"(?P<code>^```.*?^```$|``.*?``|`[^`\n]*`)|(?P<picture>!?)\[(?P<text>(?:[^\[\]`]|`[^`\n]*`)*)\]\((?P<target>[^()\s]+)\)",
     re.MULTILINE | re.DOTALL,

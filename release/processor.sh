@@ -1,9 +1,9 @@
 # shellcheck shell=sh
-# Sets `program` to the census program in the folder `libexec` that fits this processor. If there is none, prints one line and ends
+# Sets `program` to the census program that fits this processor, in the folder `libexec`. If there is none, prints one line and ends
 # with status 70.
 #
-# A processor of the level x86-64-v3 gets a faster program of its own. If the system doesn't say what the processor has, the program
-# for the level below is used, which itself checks what the processor has.
+# A processor of the level x86-64-v3 gets a faster program of its own. If the system doesn't list the processor's features, the
+# program for the level below is used, which checks the features itself.
 
 flags=
 {

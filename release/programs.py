@@ -8,8 +8,8 @@ from pathlib import Path
 
 from release import Failed
 
-# The program for all processors from level v2 on comes first, since it runs wherever a release
-# does.
+# The levels of processors, each of which has a program of its own. The program for v2 comes first,
+# since it runs on each processor that a release supports.
 LEVELS = ("v2", "v3")
 
 

@@ -25,7 +25,7 @@ REFERENCE, READ_ME = "reference/", "reference/README.md"
 ENDINGS = (".py", ".html", ".css", ".js", ".tsv")
 # The earliest date that a file in an archive can have.
 DATE = (1980, 1, 1, 0, 0, 0)
-# The mode of a text, and the number of the system (Unix) whose modes these are.
+# The mode of a text file, and the number that stands for Unix in a zip archive.
 MODE, UNIX = 0o100644, 3
 # The two lines of bin/haul that enclose the shell's part.
 QUOTES = re.compile(r"^'''(?::')?\n", re.MULTILINE)

@@ -78,8 +78,8 @@ def try_part(recipes: Recipes) -> None:
 
 
 def try_two_at_once(recipes: Recipes) -> None:
-    """Starts a second call for a part while the first one runs. `part` refuses it, and both calls of
-    `take-part` make the haul."""
+    """Starts a second call for a part while the first one runs. `part` must refuse the second call.
+    With `take-part`, both calls must make the haul."""
     count, out = recipes.count, recipes.room / "twice"
     begun, goes_on = recipes.room / "begun", recipes.room / "go"
     waits = f'touch "{begun}"\nuntil [ -e "{goes_on}" ]; do sleep 0.02; done\n'
@@ -120,8 +120,8 @@ def try_two_at_once(recipes: Recipes) -> None:
 
 
 def try_hauls(recipes: Recipes) -> None:
-    """Takes hauls in parts. Together they are the haul of `take`. A complete part isn't taken
-    again, but a part that has grown is taken again."""
+    """Takes the hauls of parts, which together must be the haul of `take`. A complete part isn't
+    taken again, but a part that has grown is taken again."""
     count, out = recipes.count, recipes.room / "hauls"
     recipes.well("hauls: one part", recipes.call("take-part", out, "7", "3", "1"))
     haul = census("take", "--first=3", "--count=3")

@@ -42,9 +42,9 @@ SEEDS = [
 
 
 def numbers(most: int, dense: int = 300) -> list[int]:
-    """Returns all numbers up to `dense`. Above that and up to `most`, returns the powers of two,
-    three times these, round numbers, numbers that repeat a digit (such as 777), and the neighbours
-    of all these.
+    """Returns `most` and some of the numbers below it. Up to `dense`, these are all numbers. Above
+    `dense`, they are the powers of two, three times these, round numbers, numbers that repeat a
+    digit (such as 777), and the neighbours of all these.
     """
     special = {2**k for k in range(41)} | {
         digit * 10**k for digit in range(1, 10) for k in range(13)
@@ -76,8 +76,8 @@ def drawn(cells: Cells) -> bytes:
 
 
 def generations() -> Iterator[Call]:
-    """Yields calls of `run` with a blinker, a glider, and both far apart, for 0 to 100,000
-    generations.
+    """Yields calls of `run` with a blinker and with a glider for 0 to 100,000 generations, and with
+    both, far apart, for up to 1,000.
     """
     phases = [later(RULE, GLIDER, k) for k in range(4)]
     for count in numbers(100_000):
@@ -275,9 +275,9 @@ def profiles() -> Iterator[Call]:
 
 
 def confined(seed: int) -> tuple[str, Cells]:
-    """Returns a rule, and a pattern that has been run under it for 300 generations. If a birth
-    needs four neighbours or more, no pattern leaves its bounding box, so each pattern eventually
-    recurs.
+    """Returns a random rule, and a random pattern that has been run under it for 300 generations.
+    Under the rule, a birth needs at least four neighbours, so no pattern leaves its bounding box,
+    and each pattern eventually recurs.
     """
     draw = random.Random(seed)
     births = "".join(str(k) for k in range(4, 9) if draw.random() < 0.5)
@@ -365,8 +365,8 @@ def spaceships() -> Iterator[Call]:
 
 
 def soups_by_number() -> Iterator[Call]:
-    """Yields calls of `soup`, which must print the square given by the digest, cropped to its
-    bounding box.
+    """Yields calls of `soup`, which must print the square that the digest of the seed and the
+    number gives, cropped to its bounding box.
     """
     draw = random.Random("seeds")
     seeds = ["".join(chr(draw.randint(33, 126)) for _ in range(length)) for length in range(65)]

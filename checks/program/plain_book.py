@@ -110,7 +110,7 @@ def fault_in(line: bytes) -> int | None:
 
 @functools.cache
 def finding_of(job: Job, number: int) -> tuple[bytes, ...]:
-    """Returns the findings of a soup: the fields of its line of `work` from the eighth field on."""
+    """Returns the finding of a soup: the fields of its report line from the eighth field on."""
     asked = [CENSUS, "work", "--worker", "1", "--first", str(number), "--count", "1", *job.words()]
     line = subprocess.run(asked, stdin=subprocess.DEVNULL, capture_output=True, check=True).stdout
     return tuple(line.removesuffix(b"\n").split(b" ")[7:])

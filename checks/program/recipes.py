@@ -1,4 +1,4 @@
-"""Calls of the recipes in cluster/, and checks that all of them share, for `cluster`."""
+"""Calls the recipes in cluster/, and makes the checks that `cluster` needs for several recipes."""
 
 from __future__ import annotations
 
@@ -12,8 +12,8 @@ from checks.lib.count import Count
 from checks.lib.program import CENSUS, LAUNCHER, TOP
 
 WORKER = re.compile(rb" worker=[0-9]+ ")
-# The first lines of a script in place of the program. They say at once that the arguments of a call
-# are right, which a recipe asks before it takes a part.
+# The first lines of a script that a recipe calls in place of the program. Before a recipe takes a
+# part, it calls the program with `--count 0` to check the arguments. The script accepts them.
 STUB = '#!/bin/sh\ncase "$*" in *"--count 0"*) exit 0 ;; esac\n'
 
 

@@ -1,8 +1,8 @@
-"""Searches the code for calls that may take memory. Compares the calls in which a number says how
-much memory is requested with the table of allocations.md.
+"""Searches the code for calls that may take memory. If a number says how much memory a call
+requests, the call must be in the table of allocations.md.
 
-The calls that may allocate are read from the toolchain's sources, and each call that the code uses
-must be known to this module.
+The calls that may allocate are read from the toolchain's sources, and each of them that the code
+uses must be known to this module.
 """
 
 from __future__ import annotations
@@ -89,7 +89,7 @@ KNOWN = {
     "join": False,
     "cut": False,
 }
-# The libraries that are available without being listed.
+# The libraries that a crate can use without naming them in crates.txt.
 STANDARD = ("core", "std", "std_alloc", "std_collections", "std_heap", "std_io", "io")
 TAKES = re.compile(
     r"AllocError|AllocFailed|TryReserveError|SpawnError|io::Result|io::Error|\balloc: "
@@ -146,7 +146,7 @@ def defined_in(codes: Iterable[Code]) -> set[str]:
 
 
 def listed() -> Counter[tuple[str, str]]:
-    """Returns the rows of the list. A row has a file, a line of code and a bound."""
+    """Returns the file and the line of code of each row of the list. Each row must have a bound."""
     rows: Counter[tuple[str, str]] = Counter()
     for line in LIST.read_text().splitlines():
         cells = [cell.strip().replace(r"\|", "|") for cell in re.split(r"(?<!\\)\|", line)[1:-1]]
@@ -177,8 +177,8 @@ def look_for_calls(file: File, own: set[str], takers: set[str], asked: Counter[R
 
 
 def compare_list(asked: Counter[Row], known: Counter[Row], count: Count) -> None:
-    """Compares the lines in which a number says how much memory is requested with
-    checks/repository/allocations.md.
+    """Compares checks/repository/allocations.md with the lines of the code in which a number says
+    how much memory is requested.
     """
     for file, line in sorted((asked - known).elements()):
         count.check(
@@ -194,7 +194,8 @@ def compare_list(asked: Counter[Row], known: Counter[Row], count: Count) -> None
 def compare_calls(files: Iterable[File], count: Count) -> None:
     """Compares the calls of all files with allocations.md."""
     takers, asked = memory_takers(), Counter[Row]()
-    # All these calls belong to the libraries. If one isn't found there, others may be missed too.
+    # Each call that is `True` in `KNOWN` belongs to the libraries. If the search misses one, it may
+    # miss others, too.
     count.check(
         "calls that may take memory",
         ", ".join(

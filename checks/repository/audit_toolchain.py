@@ -62,7 +62,7 @@ GLOSSES = {
 }
 
 
-# The folders of the libraries from which the toolchain's crates re-export names, below the
+# The libraries from which the toolchain's crates re-export names, and their folders below the
 # toolchain's folder.
 LIBRARIES = {"lib": "logic/Lib", "mathlib": "antt/port/mathlib/src"}
 
@@ -148,8 +148,8 @@ def names_of_toolchain(text: str, names: Names) -> set[Key]:
 
 
 def is_meant(key: Key) -> bool:
-    """Checks whether the table of the toolchain's definitions has this name. The names of modules
-    of Rust's types begin with a lower-case letter.
+    """Checks whether the table of the toolchain's definitions has this name. Rust's types are left
+    out. Their modules have names that begin with a lower-case letter.
     """
     return (
         key[1] not in NOTATION

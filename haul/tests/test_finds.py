@@ -539,7 +539,7 @@ class Calls(Searches):
             self.assert_right()
 
 
-class StatusLine(Searches):
+class StatusLines(Searches):
     """Tests the status line."""
 
     STATUS = Status(1234567, 20000, 30, 4, 1, 10.0, 40000)

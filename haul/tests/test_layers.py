@@ -1,4 +1,4 @@
-"""The folders of `haul` import only from the folders below them."""
+"""The layers of `haul`: no folder imports from a higher layer."""
 
 from __future__ import annotations
 
@@ -14,7 +14,7 @@ ROW = re.compile(r"^\[(\w+)\]\(\.\./haul/\1\) \| ", re.MULTILINE)
 
 
 def list_layers() -> list[str]:
-    """Returns the folders in the order of docs/ARCHITECTURE.md, the lowest first."""
+    """Returns the folders in the table of docs/ARCHITECTURE.md, the lowest layer first."""
     folders = ROW.findall((TOP / "docs" / "ARCHITECTURE.md").read_text())
     return [folder for folder in reversed(folders) if folder != "tests"]
 

@@ -141,8 +141,8 @@ class Drawings(unittest.TestCase):
 
 class Generations(unittest.TestCase):
     def test_drawn_patterns(self) -> None:
-        """After one, two or three generations, each pattern is the same as that of `census run`,
-        moved to the corner."""
+        """After one, two or three generations, each pattern, moved to the corner, is the pattern
+        that `census run` prints."""
         calls, wanted = [], []
         for place, cells in enumerate(patterns()):
             name, later = RULES[place % len(RULES)], cells
@@ -154,8 +154,8 @@ class Generations(unittest.TestCase):
             self.assertEqual(drawn_cells(printed), move_to_corner(later) if later else frozenset())
 
     def test_a_generation_stays_in_its_place(self) -> None:
-        """A blinker turns around its middle. A single cell stays in the middle of its neighbours
-        under B1/S0, and dies under B/S."""
+        """A blinker turns around its middle. Under B1/S0, a single cell survives and its eight
+        neighbours are born. Under B/S, it dies."""
         self.assertEqual(
             advance(read_rule("b3s23"), frozenset([(-1, 7), (0, 7), (1, 7)])),
             {(0, 6), (0, 7), (0, 8)},
@@ -213,7 +213,7 @@ class Generations(unittest.TestCase):
 
     def test_the_longest_period(self) -> None:
         """The longest period that a census finds is 64. A pulsar has period 3. A pattern that dies
-        or becomes another pattern never recurs."""
+        or turns into another object never recurs."""
         self.assertEqual(MOST_PERIOD, 64)
         pulsar = read_wechsler("co9nas0san9oczgoldlo0oldlogz1047210127401")
         assert pulsar is not None
@@ -312,7 +312,7 @@ class Shapes(unittest.TestCase):
         self.assertIsNone(find_shift(one, frozenset([(2, 5), (3, 7), (6, 7)])))
 
     def test_no_text(self) -> None:
-        """The code of an object without a phase of at most 40 by 40 cells is only a prefix."""
+        """If no phase of an object fits in 40 by 40 cells, its code is only a prefix."""
         large = frozenset((x, 0) for x in range(41))
         recurrence = find_recurrence(read_rule(STILL), large)
         assert recurrence is not None

@@ -160,8 +160,8 @@ class Packed(Searches):
         )
 
     def test_links_and_ways_to_call_it(self) -> None:
-        """The program beside the file is called, and not a program beside a link. Python may also
-        be told to run the file."""
+        """The packed file calls the census program beside itself, even if the file is started
+        through a link in another folder, or by Python."""
         (self.folder / "elsewhere").mkdir()
         (self.folder / "elsewhere" / "link").symlink_to(self.haul_file)
         haul = census("take", "--count", "2")
@@ -173,8 +173,8 @@ class Packed(Searches):
         self.assertEqual(self.call("check", text=haul, PYTHONSAFEPATH="1"), (0, "right\n", ""))
 
     def test_no_module_is_compiled_twice(self) -> None:
-        """All modules are read at the start, so nothing is read from the file after it was
-        replaced."""
+        """All modules are read at the start, so a running `haul` isn't affected if the packed file
+        is replaced."""
         noting = (
             f"import os, runpy, sys; names = []; sys.addaudithook(lambda what, said: names.append(said[1]) if what == 'compile' else None)\n"
             f"os._exit = lambda status: print(*names, sep='\\n', flush=True); sys.argv = ['haul', '--version']\n"
@@ -226,14 +226,14 @@ class Packed(Searches):
             ) as program:
                 time.sleep(moment * 0.01)
                 program.send_signal(signal.SIGINT)
-                # The input stays open until `haul` has ended, since an empty haul is a fault.
+                # The input stays open until `haul` has ended, since it refuses an empty input.
                 program.wait(60)
                 errors = program.communicate()[1]
             self.assertEqual((program.returncode, errors), (-signal.SIGINT, b""))
 
     def test_a_search(self) -> None:
-        """A search continues while the file is replaced by another version, as after an upgrade,
-        and Ctrl-C ends it."""
+        """A search continues while the packed file is replaced, as in an upgrade. Ctrl-C ends the
+        search."""
         program = self.stub('echo "$2" >> told')
         searching = subprocess.Popen(
             [
@@ -269,7 +269,7 @@ class Packed(Searches):
         self.assert_nothing_runs()
 
     def test_a_search_that_is_killed(self) -> None:
-        """The census program and the running call of the program for finds end with the search."""
+        """If the search is killed, the census program and the program for finds end, too."""
         sleeps = self.stub('touch "$2"; sleep 1000', "sleeps")
         with subprocess.Popen(
             [

@@ -94,7 +94,7 @@ and <code>haul check --samples all.haul</code> runs only the sample soups.</p>
         )
 
     def test_the_foot(self) -> None:
-        """The foot says what made the page, and what its commands need, even without scripts."""
+        """Even without scripts, the foot says what made the page and what its commands need."""
         for text, hauls in (
             (page(self.HAUL, 0), "a haul"),
             (compared(self.HAUL, self.HAUL), "2 hauls"),
@@ -155,8 +155,8 @@ and <code>haul check --samples all.haul</code> runs only the sample soups.</p>
         self.assertIn("Soups are missing from the hauls A, C, so only", compared(some, whole, some))
 
     def test_ranges(self) -> None:
-        """If there are more than twelve ranges, only their number is given. A range of one soup has
-        no end."""
+        """At most twelve ranges are listed, followed by the number of the remaining ones. A range
+        of one soup is shown as a single number."""
 
         def numbers(ranges: list[Range]) -> str:
             return "".join(
@@ -386,8 +386,8 @@ class Rows(unittest.TestCase):
 
     def test_pictures(self) -> None:
         """Pictures match those of `census show` cell for cell, with a margin of one cell, also for
-        objects of more than ten rows. A cell is twelve pixels wide if there are fewer than ten
-        cells."""
+        objects of more than ten rows. A cell is twelve pixels wide if the object has fewer than
+        ten cells, otherwise four."""
         for code, scale in (
             (PULSAR, 4),
             ("xs4_1zzzz1zz1", 12),
@@ -405,7 +405,7 @@ class Rows(unittest.TestCase):
             )
 
     def test_addresses_of_soups(self) -> None:
-        """A seed may have any character."""
+        """Characters of a seed that have a meaning in an address are escaped."""
         haul = Haul(
             Job("a/b?#%", "b36s23", STANDARD),
             ranges=[(5, 1)],
@@ -700,8 +700,8 @@ class Comparing(unittest.TestCase):
         )
 
     def test_each_under_its_rule(self) -> None:
-        """A table on table has two parts only under the rule of B, and each list has a value for
-        each haul."""
+        """The object "table on table" has two parts only under the rule of B. Each list has a value
+        for each haul."""
         objects = objects_of(compared(self.LIFE, self.OTHER))
         self.assertEqual(
             without_rates(objects["xs12_raar"]),
@@ -729,7 +729,7 @@ class Comparing(unittest.TestCase):
         self.assertEqual(list(objects), ["xs4_33", "xp2_7", "xs12_raar", "xs6_9f"])
 
     def test_intervals(self) -> None:
-        """The intervals are those of each total on the page, and of 0."""
+        """The data have an interval for each total of a whole object, and for 0."""
         found = data_of(compared(self.LIFE, self.OTHER))["intervals"]
         self.assertEqual(
             {int(total): tuple(ends) for total, ends in found.items()},

@@ -1,5 +1,5 @@
-"""Commands that call the census program: checks, joins, comparisons and pages. The built program is
-called without the launcher."""
+"""`haul check`, `join`, `compare` and `page` with hauls of the census program, and how `haul` finds
+that program. The tests call the built program without the launcher."""
 
 from __future__ import annotations
 
@@ -83,7 +83,7 @@ class Checking(unittest.TestCase):
         self.assertTrue(says_right(kept, text))
         draw = random.Random("bytes")
         for at, byte in enumerate(text):
-            # One of three new bytes is a digit, since most other bytes are wrong anywhere.
+            # One of the three new bytes is a digit, since most other bytes are invalid anywhere.
             digit = draw.choice([b for b in b"0123456789" if b != byte])
             for other in (
                 digit,
@@ -397,8 +397,8 @@ class Pages(unittest.TestCase):
                     self.assertIn(f'<code class="seed">{escape(seed)}</code>', shown)
 
     def test_all_is_there(self) -> None:
-        """The table has each part, by brute force from the definition, and the data also have each
-        object. The reference has 16,203,883 soups with a pond."""
+        """The table has each part that is found by brute force from the definition. The data also
+        have each object. In the reference, 16,203,883 soups have a pond."""
         haul = read_one_haul(io.BytesIO(census("take", "--count", "40")))
         shown, plain = page(haul), plain_parts.rule_of("b3s23")
         rows = table_of(shown).rows

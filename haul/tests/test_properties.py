@@ -151,8 +151,9 @@ class Once(Census):
 
 
 def how_often(soups: int, total: int) -> str:
-    """Returns how often an object occurs: at most in one of this many soups or, if there are more
-    objects than half the number of soups, how many per soup, with three digits."""
+    """Returns how often an object occurs, in the words of the page: a bound `≤ 1 in N soups` if
+    there are at most half as many objects as soups, otherwise the number of objects per soup. That
+    number has three digits below 100, and is a whole number from 100 on."""
     if soups == 0:
         return "none"
     if Fraction(total, soups) <= Fraction(1, 2):
@@ -166,8 +167,8 @@ def how_often(soups: int, total: int) -> str:
 
 class Shown(unittest.TestCase):
     def test_number_for_number(self) -> None:
-        """Each code has its numbers, the most frequent first, in the table and in the data, and all
-        facts come before the table."""
+        """The table and the data have the numbers of each code, with the most frequent code first.
+        The tiles have all facts about the haul."""
         draw = random.Random("pages")
         rows = 0
         for _ in range(200):

@@ -30,7 +30,7 @@ LIFE = read_rule("b3s23")
 
 
 def bits_of(cells: Cells) -> int:
-    """Returns the bits of cells that are given by their columns and rows from the corner on."""
+    """Returns the bitmap of these cells. Their columns and rows count from the corner."""
     return sum(1 << STRIDE * (y + MARGIN) + x + MARGIN for x, y in cells)
 
 
@@ -110,7 +110,8 @@ class Bitmaps(unittest.TestCase):
 
 class Quick(unittest.TestCase):
     def test_all_objects_of_the_example(self) -> None:
-        """The quick way separates all of them, and its separations are right."""
+        """The quick way separates all objects of the example. The definition gives the same parts
+        for all strict objects and for 1,500 random ones."""
         separator, slow = Separator(LIFE), Separator(LIFE)
         codes = list(example().totals)
         found = {code: separator.separate_quickly(code) for code in codes}
@@ -133,8 +134,8 @@ class Quick(unittest.TestCase):
             self.assertGreaterEqual(quick, 300 if rule == STILL else 1)
 
     def test_what_is_not_found(self) -> None:
-        """Codes that don't say what their objects do, objects that are too wide, and eleven islands
-        of which two aren't parts."""
+        """Codes that draw nothing or are wrong about what they draw, an object that is too wide,
+        and an object with eleven islands, two of which aren't parts."""
         for code in (
             "xs48_raar0rr0rr0rr0rrw33",
             "xs5_33",
@@ -217,7 +218,8 @@ class Quick(unittest.TestCase):
             self.assertFalse(is_separation([two], wrong))
 
     def test_moved_islands(self) -> None:
-        """Two gliders in a row are parts. An island that doesn't move like the object isn't one."""
+        """Two gliders in a row are parts. A glider and its mirror image don't recur together, so
+        they aren't separated."""
         glider = read_wechsler("153")
         assert glider is not None
         pair = glider | move(glider, (12, 0))

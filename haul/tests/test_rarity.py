@@ -47,8 +47,8 @@ class Functions(unittest.TestCase):
                 )
 
     def test_beta_of_other_numbers(self) -> None:
-        """With both parameters 1/2 the function is an arcsine, and with one parameter 1 it is a
-        power."""
+        """If both parameters are 1/2, the function is an arcsine. If one of them is 1, the function
+        is a power."""
         for x in (0.01, 0.3, 0.9):
             self.near(compute_beta(0.5, 0.5, x), 2 / math.pi * math.asin(math.sqrt(x)))
             self.near(compute_beta(2.7, 1, x), x**2.7)
@@ -66,8 +66,9 @@ class Functions(unittest.TestCase):
         self.assertEqual(compute_gamma_tail(2, 0), 1)
 
     def test_fractions_with_a_denominator_of_0(self) -> None:
-        """1 + 1/(1 + 1/(1 + ..)) is the golden ratio. The first denominator is 0 in the first
-        fraction, a later one in the others."""
+        """1 + 1/(1 + 1/(1 + ..)) is the golden ratio. The first fraction begins with 0. The second
+        is 0 if it is cut off after its first term, and the third divides by 0 if it is cut off
+        after its second term."""
         golden = (1 + math.sqrt(5)) / 2
         rest = [(1.0, 1.0)] * 100
         self.near(evaluate(iter(rest), 0.0), 1 / golden)
@@ -147,7 +148,7 @@ class TheReference(unittest.TestCase):
                 parse_reference(b"\n".join([heads, b"\t".join(fields), *rows]))
 
     def test_sizes(self) -> None:
-        """Together, the tables have at most 2 MB."""
+        """All files of the reference together are smaller than 2 MB."""
         self.assertLess(sum(file.stat().st_size for file in (TOP / "reference").iterdir()), 2e6)
 
     def test_the_other_tables(self) -> None:

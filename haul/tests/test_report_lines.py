@@ -19,7 +19,7 @@ START = "report 1 rule=b3s23 profile=1,1,1,0 seed= worker=1 soup=0"
 SMALL_JOB = Job("", "b3s23", Profile(1, 1, 1, 0))
 # Soup 101 of the empty seed.
 WHOLE = "report 2 rule=b3s23 profile=64,512,101,30300 seed= worker=3 soup=101 at=202 good=yes xp2_7*1 xs4_33*3 xs5_253*1 xs7_2596*1"
-# The most bytes of a line.
+# The largest number of bytes that a line may have.
 MOST = 16_777_216
 
 
@@ -187,7 +187,8 @@ class Faults(unittest.TestCase):
             self.assertEqual(fault(WHOLE.partition(" good")[0] + left), bad, left)
 
     def test_a_line_that_is_too_long(self) -> None:
-        """The line is bad at the first fault of its first 16,777,216 bytes, or after them."""
+        """A line that is too long is bad at the first fault in its first 16,777,216 bytes. If these
+        bytes have no fault, the line is bad just after them."""
         start = f"{START} at=0"
         field = f" {'a' * 400}*1"
         fields = "".join(

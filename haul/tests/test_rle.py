@@ -49,7 +49,8 @@ def boxed(rows: list[str]) -> list[str]:
 
 
 def drawn_rows(draw: random.Random, most: int) -> list[str]:
-    """Returns random rows with one of three densities, whose bounding box begins at the corner."""
+    """Returns random rows with one of three densities. The bounding box of the live cells is the
+    whole rectangle."""
     width, height, density = (
         draw.randint(1, most),
         draw.randint(1, most),

@@ -65,7 +65,7 @@ class Soups(Searches):
         self.assertEqual(self.file.read_bytes(), census("take", *words, "--count", "30"))
 
     def test_goes_on(self) -> None:
-        """A search may continue in batches of other sizes, and up to exactly as many soups as
+        """A search may continue with batches of another size. It ends with exactly as many soups as
         requested."""
         for until, size in ((10, 100), (50, 7), (51, 1), (200, 40)):
             self.assertEqual(
@@ -128,18 +128,18 @@ class Soups(Searches):
         self.assertEqual(self.file.read_bytes(), census("take", "--seed=a", "--count", "0"))
 
     def test_how_the_program_is_called(self) -> None:
-        """By default there are as many workers as processors."""
+        """By default there are as many workers as processors, but at most 16 in one call."""
         program = self.stub('echo "$@" >> calls; real "$@"')
-        self.search("--seed=a", "--until", "7", "--part", "4", *QUICK, program=program)
+        with patch("os.sched_getaffinity", return_value=range(5)):
+            self.search("--seed=a", "--until", "7", "--part", "4", *QUICK, program=program)
         with patch("os.sched_getaffinity", return_value=range(100)) as asked:
             self.assertEqual(count_processors(), 100)
         asked.assert_called_once_with(0)
-        usual = min(16, len(os.sched_getaffinity(0)))
         job = "--seed=a --rule=b3s23 --period=1 --horizon=1 --stride=1 --limit=0"
         self.assertEqual(
             (self.folder / "calls").read_text().splitlines(),
             [
-                f"take {job} --first={first} --count={count} --workers={usual} --progress"
+                f"take {job} --first={first} --count={count} --workers=5 --progress"
                 " --report-from=12000"
                 for first, count in ((0, 4), (4, 3))
             ],
@@ -284,8 +284,8 @@ class Refusals(Searches):
         self.assertFalse(self.file.exists())
 
     def test_a_program_that_cant_be_started(self) -> None:
-        """A text that doesn't name an interpreter isn't a program. If starting fails for any other
-        reason, there may be a program."""
+        """A text file that doesn't name an interpreter counts as no program. A loop of links is
+        reported with the system's message."""
         text, loop = self.folder / "text", self.folder / "loop"
         text.write_text("x\n")
         text.chmod(0o755)
@@ -304,8 +304,8 @@ class Faults(Searches):
     """The file is always a right haul, whatever fails."""
 
     def test_a_program_that_fails(self) -> None:
-        """The program's status and message are passed on, and the earlier batches are in the
-        file."""
+        """The search passes on the program's message, or says how the program ended. The earlier
+        batches are in the file."""
         for how, status, line in (
             ("echo census: because >&2; exit 4", 4, "because"),
             ("exit 70", 5, "census ended with status 70"),
@@ -479,8 +479,7 @@ class Programs(Searches):
     """A program that runs in its own session."""
 
     def test_streams_that_are_closed_early(self) -> None:
-        """If the program closes its streams before it ends, each check waits for its end only for a
-        moment."""
+        """If the program closes its streams before it ends, `is_ended` waits only for a moment."""
         running = BackgroundProgram(
             StreamWaiter(), LAUNCH_CENSUS, [self.stub("exec 1>&-; exec sleep 1000")], None
         )

@@ -68,7 +68,7 @@ def program(script: str) -> Iterator[str]:
 
 class Together(unittest.TestCase):
     def test_for_a_reader(self) -> None:
-        """Of five settled soups, the second, the third and the fourth are the quartiles."""
+        """The quartiles of five checkpoints are the second, third and fourth in ascending order."""
         self.assertEqual(
             run("soups", text=text_of(LINES)),
             (
@@ -260,7 +260,8 @@ class Lines(unittest.TestCase):
         )
 
     def test_lines_of_work(self) -> None:
-        """Everything that a haul says about the soups is also printed for the lines."""
+        """For report lines, the numbers of soups, of unsettled soups and of soups settled for good
+        are those of the haul."""
         haul = census("take", "--count=300", "--seed=b").decode().splitlines()
         told = json.loads(
             run("soups", "--json", text=census("work", "--count=300", "--seed=b", "--worker=2"))[1]
@@ -350,7 +351,7 @@ class TheLongest(unittest.TestCase):
         self.assertEqual(rows("--longest=2", lines=lines), [["9", "1", "0"], ["4", "0", "0"]])
 
     def test_equal_checkpoints(self) -> None:
-        """The soup with the lower number comes first, in whichever order they are read."""
+        """The soup with the lower number comes first, in whichever order the lines are read."""
         lines = [
             f"report 2 {JOB} worker=1 soup={soup} at={at} good=yes"
             for soup, at in ((4, 7), (9, 5), (2, 5), (6, 5), (1, 3), (8, 5))
@@ -371,8 +372,8 @@ class TheLongest(unittest.TestCase):
         self.assertEqual(longest.kept, {498: [(996, 0), (997, 0)], 499: [(998, 0)]})
 
     def test_exact(self) -> None:
-        """The generations are those of a census with a checkpoint in every generation. They decide
-        between equal checkpoints."""
+        """The generations are those of a census with a checkpoint in every generation. They also
+        decide the order of soups with equal checkpoints."""
         lines = census("work", "--count=60", "--worker=1", "--seed=c")
         each = {
             line.split()[6][5:]: int(line.split()[7][3:])
@@ -432,8 +433,8 @@ def population(seed: str, soup: int, rule: str, generations: int) -> int:
 
 class UnsettledSoups(unittest.TestCase):
     def test_populations(self) -> None:
-        """The columns are the last checkpoint, the population there, and how much larger it is than
-        the population of the soup."""
+        """After the number of the soup, the columns are the last checkpoint, the population there,
+        and the growth of the population since generation 0."""
         for rule in ("b3s23", "b36s23"):
             lines = census("work", "--count=12", "--worker=1", f"--rule={rule}", *SHORT)
             soups = [
@@ -457,8 +458,8 @@ class UnsettledSoups(unittest.TestCase):
             )
 
     def test_a_thousand_generations(self) -> None:
-        """The program is called with the last checkpoint, and with a thousand generations before.
-        The growth may be negative."""
+        """The program is called for the last checkpoint and for the generation a thousand before
+        it. The growth may be negative."""
         line = "report 2 rule=b36s23 profile=1,1,7,1010 seed=a worker=1 soup=0 unsettled"
         script = 'case "$*" in "run --rule=b36s23 8") echo OOO.O ;; "run --rule=b36s23 1008") echo "O..O" ;; *) exit 5 ;; esac; cat > "$0.read"'
         with program(script) as path:

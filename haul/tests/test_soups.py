@@ -23,8 +23,8 @@ def said_of(*names: str) -> str:
 
 class Soups(unittest.TestCase):
     def test_a_sample(self) -> None:
-        """With its symmetry or without, a sample is the soup of the seed and the number, wherever
-        the number begins."""
+        """The name of a sample is a seed followed by a number. It makes no difference where the
+        number begins, and the symmetry before the seed may be missing."""
         for seed, number in (
             ("k_abcdef", "12345"),
             ("k_abcdef1", "2345"),

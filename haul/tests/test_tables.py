@@ -100,8 +100,8 @@ class Tables(unittest.TestCase):
 
 
 def exact_ends(total: int) -> tuple[float, float]:
-    """Returns the ends of the interval of 95 %, found by bisection of sums of the terms of the
-    Poisson distribution."""
+    """Returns the ends of the interval of 95 %, found by bisection with sums of Poisson
+    probabilities."""
 
     def mean_at(count: int, chance: float) -> float:
         low, high = 0.0, 2.0 * count + 20
@@ -124,8 +124,8 @@ class Intervals(unittest.TestCase):
                 )
 
     def test_both_tails_are_as_long(self) -> None:
-        """The tails are sums of the terms of the Poisson distribution up to a count, according to
-        its definition."""
+        """Each tail has a probability of 2.5 %. The test computes the tails as sums of Poisson
+        probabilities."""
 
         def up_to(count: int, mean: float) -> float:
             return fsum(exp(k * log(mean) - mean - lgamma(k + 1)) for k in range(count + 1))
@@ -136,16 +136,16 @@ class Intervals(unittest.TestCase):
             self.assertAlmostEqual(up_to(total, high), 0.025, places=6)
 
     def test_large_totals(self) -> None:
-        """For large totals, the Poisson distribution is normal, and 2.5 % are beyond 1.95996
-        standard deviations."""
+        """For large totals, the Poisson distribution is nearly normal: on each side, 2.5 % are
+        beyond 1.95996 standard deviations."""
         for total in (2**40, 2**53, 2**64 - 1):
             low, high = find_interval(total)
             self.assertAlmostEqual((total - low) / total**0.5, 1.95996, places=3)
             self.assertAlmostEqual((high - total) / total**0.5, 1.95996, places=3)
 
     def test_by_an_expansion(self) -> None:
-        """The ends are quantiles of the gamma distribution. They agree to the last digits with the
-        expansion by Cornish and Fisher."""
+        """The ends are quantiles of the gamma distribution. They differ from the expansion by
+        Cornish and Fisher only by the error of this expansion."""
         deviations = 1.959963984540054
 
         def quantile(shape: int, z: float) -> float:
@@ -178,8 +178,8 @@ class Intervals(unittest.TestCase):
             self.assertAlmostEqual(high, quantile(total + 1, deviations), delta=near)
 
     def test_by_sums(self) -> None:
-        """Up to a count of 30, the probabilities are exact. Above that, an expansion gives the ends
-        with four digits after the point."""
+        """For totals below 30, both ends are exact. From 30 on, an expansion gives the ends with
+        four digits after the point."""
         for total in (*range(0, 12), 29, 30, 31, 32, 40, 60):
             for found, known in zip(find_interval(total), exact_ends(total), strict=True):
                 self.assertAlmostEqual(found, known, delta=1e-9 if total < 30 else 2e-5)
@@ -198,8 +198,9 @@ class Intervals(unittest.TestCase):
             self.assertEqual(format_figure(number), shown)
 
     def test_dispersed(self) -> None:
-        """The ends are Garwood's ends for the count divided by the dispersion, multiplied by the
-        dispersion. Between whole counts, they are between the ends of these counts."""
+        """The count is divided by the dispersion, and Garwood's ends for the quotient are
+        multiplied by the dispersion. If the quotient isn't a whole number, its ends are between
+        those of the two nearest whole numbers."""
         for total in (0, 1, 7, 30, 31, 5000):
             self.assertEqual(find_dispersed_interval(total, 1), find_interval(total))
             low, high = find_dispersed_interval(4 * total, 4)
@@ -454,7 +455,7 @@ in A alone: xq4_153 xs8_rr; in B alone: xp15_4r4z4r4
         )
 
     def test_intervals(self) -> None:
-        """The intervals are Garwood's for 20, 2 and 3, per million soups."""
+        """The intervals are Garwood's for 20, 2, 3 and 0, per million soups."""
         rows = {
             row[0]: row
             for row in map(
@@ -506,8 +507,8 @@ in A alone: xq4_153 xs8_rr; in B alone: xp15_4r4z4r4
         self.assertEqual([code for code, row in rows.items() if row[6].endswith("*")], [])
 
     def test_stars(self) -> None:
-        """By parts, under Life with the standard profile, a star marks a rate that differs, given
-        the dispersion in the reference."""
+        """If parts are counted under Life with the standard profile, a star marks a rate that
+        differs from the rate in A. The dispersion in the reference is taken into account."""
         Path(self.folder.name, "l").write_text(haul("b3s23", 1000, {"xs4_33": 700, "xp2_7": 20}))
         Path(self.folder.name, "m").write_text(haul("b3s23", 500, {"xs4_33": 700, "xp2_7": 12}))
         lines = self.printed("compare", "--parts", "--intervals", "l", "m").splitlines()
@@ -569,7 +570,7 @@ in A alone: xq4_153 xs8_rr; in B alone: xp15_4r4z4r4
 
     def test_all_that_is_printed(self) -> None:
         """Three hauls in each order, with several options: facts, rates, intervals and ratios, and
-        which haul alone has a code."""
+        the codes that only one haul has."""
         names = {
             "xs4_33": "block",
             "xp2_7": "blinker",
@@ -837,8 +838,8 @@ class Terminals(Tables):
                 self.assertIn(self.CODE, self.printed(words[0], *words[1:]))
 
     def test_where_they_are_cut(self) -> None:
-        """Nothing is cut if everything fits. A code loses a character for each column that the
-        terminal lacks, but eight characters always remain."""
+        """Nothing is cut if everything fits. Otherwise a code gets one column narrower for each
+        column that the terminal lacks, down to eight columns with the `…`."""
         code = "xs40_" + "g" * 20
         Path(self.folder.name, "a").write_text(haul("b3s23", 10, {"xs4_33": 5, code: 7}))
         for words in (["table", "a"], ["compare", "a", "a"]):

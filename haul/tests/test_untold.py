@@ -1,4 +1,4 @@
-"""`haul search`: FILE.finds, which keeps the finds that weren't reported for the next search."""
+"""`haul search`: unreported finds are kept in FILE.finds for the next search."""
 
 from __future__ import annotations
 

@@ -145,8 +145,8 @@ class Checks(unittest.TestCase):
             )
 
     def test_each_sample(self) -> None:
-        """Only one of the forty soups leaves a beacon. It is the first, the middle or the last
-        sample."""
+        """Only one of the forty soups leaves a beacon. This soup is the last, the middle or the
+        first sample."""
         haul = read_one_haul(io.BytesIO(self.TEXT.encode()))
         code = "xp2_318c"
         self.assertEqual(haul.samples[code], [37])
@@ -283,7 +283,7 @@ class Compares(unittest.TestCase):
         rows = 0
         for _ in range(200):
             one, other = any_haul(draw), any_haul(draw)
-            # Both hauls have some of the codes.
+            # Some of the codes are in both hauls.
             other.totals |= {
                 code: total + 1 for code, total in one.totals.items() if draw.random() < 0.5
             }

@@ -194,8 +194,8 @@ class WiderRest(unittest.TestCase):
             self.assertIsNone(look_for_rest(rule, cells_of("o!"), STANDARD))
 
     def test_meetings(self) -> None:
-        """A glider comes near a block in the generation that a plain run finds, unless that is
-        after generation 512."""
+        """The generation in which a glider comes near a block is the same as in a plain run. If it
+        is above 512, it isn't found."""
         for away in (60, 100, 150):
             glider = {cell + pack((-away, -away)) for cell in cells_of("bo$2bo$3o!")}
             block = cells_of("2o$2o!")

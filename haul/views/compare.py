@@ -86,14 +86,14 @@ class Cell:
     rate: float
     # The ends of the rate's interval, or `None` if the haul has no soups.
     ends: tuple[float, float] | None
-    # The variance of the number of objects in a soup divided by the mean, or `None` if it isn't
-    # known.
+    # The variance of the number of objects in a soup, divided by the mean of that number. It is
+    # `None` if it isn't known.
     dispersion: float | None
     # The rate divided by the rate in the first haul. It is `None` in the first haul itself, and if
     # the first haul has no such object.
     ratio: float | None = None
-    # The probability, if both rates are equal, that a haul differs from the first haul at least as
-    # much as this one. It is `None` in the first haul itself, and if it can't be computed.
+    # The probability that two hauls with equal rates differ at least as much as this haul and the
+    # first one do. It is `None` in the first haul itself, and if it can't be computed.
     p_value: float | None = None
 
     @property

@@ -2,8 +2,8 @@
 
 A count has a Poisson distribution if events occur one by one. Objects don't: a soup often leaves
 several of the same kind. For Life with the standard profile, the reference has the dispersion,
-which is the variance of the number of objects in a soup divided by its mean. The interval takes the
-dispersion into account.
+which is the variance of the number of objects in a soup, divided by the mean of that number. The
+interval takes the dispersion into account.
 
 The low end is the mean for which a count at least this high has a probability of 2.5 %. The high
 end is the mean for which a count at most this high has a probability of 2.5 %. Both are found by
@@ -51,8 +51,8 @@ def find_mean(count: float, chance: float) -> float:
     if count <= MOST_TERMS:
         # mutant: equal because the same value is found between other ends
         return bisect(lambda mean: find_chance(count, mean), chance, 0.0, 2.0 * MOST_TERMS)
-    # Bisects the relative distance from the count rather than the mean itself, because a double has
-    # more digits for the small distance.
+    # Bisects the relative distance between the mean and the count. This distance is small, so a
+    # double has more digits for it than for the mean.
     most = DEVIATIONS / sqrt(count)
     return count * (1 + bisect(lambda apart: expand(count, apart), chance, -most, most))
 

@@ -8,7 +8,7 @@ import json
 from collections.abc import Iterable, Iterator
 
 GAP = "  "
-# The fewest characters to which a code is cut.
+# The fewest characters to which a code is cut, including the ellipsis.
 LEAST_OF_A_CODE = 8
 # Larger integers lose digits in programs that read numbers as doubles, such as JavaScript.
 EXACT = 2**53
@@ -18,8 +18,8 @@ def align_columns(
     rows: list[list[str]], texts: set[int], code: int, width: int | None
 ) -> Iterator[str]:
     """Yields lines with aligned columns: texts to the left, numbers to the right. If `width` is
-    given, codes in column `code` are cut so that no line is wider. At least `LEAST_OF_A_CODE`
-    characters of a code stay, even if a line is then wider."""
+    given, codes in column `code` are cut so that no line is wider. But no code is cut to fewer than
+    `LEAST_OF_A_CODE` characters, even if a line is then wider."""
     widths = [max(len(row[column]) for row in rows) for column in range(len(rows[0]))]
     over = sum(widths) + len(GAP) * (len(widths) - 1) - width if width is not None else 0
     # mutant: equal because a code is whole if it is cut to the width that it has
@@ -38,8 +38,8 @@ def cut_text(text: str, most: int) -> str:
 
 
 def format_figure(number: float) -> str:
-    """Returns a number with two decimal places, or with three significant digits if it is below
-    1."""
+    """Returns a number with two decimal places, or with three significant digits if it is between 0
+    and 1."""
     return f"{number:.2f}" if number >= 1 or number == 0 else f"{number:.3g}"
 
 

@@ -80,7 +80,7 @@ def separate_thousands(one_in: float) -> str:
 
 
 def round_down(number: float) -> int:
-    """Returns a number of 100 or more, rounded down to three significant digits."""
+    """Rounds a number down to three significant digits. The number must be at least 100."""
     unit = int(10 ** (len(str(int(number))) - ROUNDED))
     return int(number) // unit * unit
 

@@ -1,5 +1,5 @@
-"""The lists of `haul soups`. Each list keeps what it needs from the reports, and makes a table of
-that."""
+"""The lists of `haul soups`. Each list keeps some facts from the reports, and makes a table of
+them."""
 
 from __future__ import annotations
 

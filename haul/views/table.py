@@ -32,7 +32,7 @@ from haul.views.rates import bound_rarity, compute_rate
 BEFORE_RARITY = ["rank", "code", "total", "per_million"]
 AT_MOST = ["one_in_at_most"]
 AFTER_RARITY = ["samples", "label"]
-# The columns that only CSV has.
+# The columns of CSV that the text output doesn't have.
 MORE_HEADS = ["parts", "strict", "separated", "by_parts"]
 CODE = 1
 
@@ -126,7 +126,7 @@ class RowChoice:
     kind: str | None = None
     # The smallest and the largest period. The latter is `None` if there is no upper limit.
     period: tuple[int, int | None] | None = None
-    # Whether only strict objects, and objects that aren't separated, are shown.
+    # Whether pseudo-objects are left out. Objects that couldn't be separated are shown.
     strict: bool = False
     rare: bool = False
     top: int | None = None

@@ -1,4 +1,4 @@
-"""The output of `haul why`: a line for each soup."""
+"""The output of `haul why`: the fate of each soup, or of a pattern."""
 
 from __future__ import annotations
 
