@@ -84,8 +84,8 @@ def take_libraries(build: Build, own: Build) -> None:
 
 def take_from_ci(own: Build, log: Path, again: bool) -> None:
     """Fills the temporary folder with what `rt ci` has proved: the libraries, the verdicts and,
-    unless it is to be built again, the program. Fails if a library has a stamp: then `rt ci` has
-    ended, and `rt` has put back the library of an earlier run, which it marks with the stamp.
+    unless `again` is set, the program. Fails if a library has a stamp: then `rt ci` has ended, and
+    `rt` has put back the library of an earlier run, which it marks with the stamp.
     """
     verdicts = verdicts_in(text_of(log) or "")
     for crate in own.crates.order:

@@ -56,9 +56,9 @@ class Progress:
         return f"crate {self.places[crate]} of {self.crates}, {crate}"
 
     def _functions(self, crate: str) -> str:
-        """Returns a text that says how many functions of a crate have been started. For each
-        function, the prover first writes a file with its code, and later a file with what the logic
-        sees of it.
+        """Returns a text that says for how many functions of a crate the proof has begun. For each
+        function, the prover first writes a file with its code, and later, in the proof, a file with
+        the steps of this code.
         """
         seen, coded = (
             len(list(self.room.glob(f"{crate}/*/Rattle-{crate}-proofs.*.{kind}.oantt")))

@@ -2,10 +2,10 @@
 are proved side by side if neither is above the other.
 
 The crate with the longest path to the program starts first. It gets a copy of the prover for each
-processor or, if another crate can be proved beside it, for three quarters of the processors. That
-crate gets a copy for each processor that is left, but at least one, and a higher niceness. No third
-crate starts beside these two: more copies than processors take more processor time, and hardly make
-the build faster. For the same reason, a small crate gets fewer copies.
+processor or, if another crate can be proved beside it, for three quarters of the processors. The
+other crate gets a copy for each processor that is left, but at least one, and a higher niceness. No
+third crate starts beside these two: more copies than processors take more processor time, and
+hardly make the build faster. For the same reason, a small crate gets fewer copies.
 """
 
 from __future__ import annotations

@@ -12,7 +12,7 @@ from checks.build.trial import Trial
 from checks.lib.commands import read_files, run
 
 # The number of checks, apart from those of `Installed`.
-CHECKS_OF_PACKAGE = 7
+CHECKS_OF_PACKAGE = 6
 GLIBC = re.compile(rb"GLIBC_([0-9.]+[0-9])")
 DEPENDS = re.compile(r"libc6 \(>= ([0-9.]*)\)")
 
@@ -46,8 +46,8 @@ def md5_of(file: Path) -> str:
 
 
 def fault_of_library(trial: Trial, package: Path) -> str:
-    """Returns what is wrong if the programs call a function of the C library whose version is above
-    the version that the package depends on."""
+    """Returns what is wrong if the programs call a function that needs a later version of the C
+    library than the version that the package depends on."""
     found = DEPENDS.search(run(["dpkg-deb", "-f", package, "Depends"]).lines()[0])
     called = {
         version

@@ -34,8 +34,8 @@ class Copies:
         self.damaged: list[Damaged] = []
 
     def add(self, name: str, pattern: str) -> Path:
-        """Makes a copy, whose file `name` is to be damaged, and returns its folder. `pattern` is
-        for what must be said about that file."""
+        """Makes a copy, whose file `name` is to be damaged, and returns its folder. What is said
+        about that file must match `pattern`."""
         folder = self.trial.room / "copies" / str(len(self.damaged))
         shutil.copytree(self.trial.dist, folder)
         self.damaged.append(Damaged(folder / name, pattern))

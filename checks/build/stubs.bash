@@ -30,7 +30,8 @@ done
 # `python3` may be a script that looks for Python on the PATH, so the link leads to the interpreter itself.
 ln -s -- "$(python3 -c 'import sys; print(sys.executable)')" "$tools/python3"
 
-# Root can write into read-only folders, so cases that need such a folder make their calls as nobody if root runs them.
+# Root can write into read-only folders. So if root runs a case that needs such a folder, the user `nobody` makes its
+# calls.
 as_user=()
 [[ $(id -u) != 0 ]] || as_user=(setpriv --reuid=65534 --regid=65534 --clear-groups)
 

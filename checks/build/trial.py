@@ -1,5 +1,5 @@
-"""A release that checks/build/releases makes and tests: the checkout that it is made of, and calls
-where there is no toolchain."""
+"""The class of a release that checks/build/releases makes and tests. Its functions clone the
+checkout, make the release, and call commands where there is no toolchain."""
 
 from __future__ import annotations
 

@@ -61,9 +61,9 @@ const fault = (rule, one) => faults.push(`${rule}: ${(one.ariaLabel || one.textC
 const isSeen = one => one.checkVisibility() && one.getClientRects().length > 0 && !one.closest('.hidden, .skip');
 """
 
-# Finds the visible texts that have too little contrast with their background, each with its
-# contrast, according to WCAG's formula. If a dialog is open, only its texts count. Disabled
-# controls don't count.
+# Finds the visible texts, search fields and live cells that have too little contrast with their
+# background, each with its contrast, according to WCAG's formula. If a dialog is open, only its
+# elements count. Disabled controls don't count.
 CONTRASTS = (
     SHARED
     + """

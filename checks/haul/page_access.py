@@ -1,6 +1,6 @@
 """Checks pages by rules like those of the tool axe: names and roles of controls, the order of the
-focus, contrasts, and the sizes of targets, at three widths and at 200 %. Also does every task of a
-mouse with the keyboard.
+focus, contrasts, and the sizes of targets, at three widths and at 200 %. Also does everything with
+the keyboard that a mouse can do.
 """
 
 from __future__ import annotations
@@ -163,7 +163,7 @@ def list_unfit(driver: Driver) -> list[str]:
 
 
 def try_walk(driver: Driver, path: Path) -> None:
-    """Does every task of a mouse with the keyboard, from the start of the page."""
+    """Does everything with the keyboard that a mouse can do, from the start of the page."""
     opened(driver, path)
     press(driver, TAB, ENTER)
     count.equal("a first link skips to the objects", focused(driver), "Objects")

@@ -150,8 +150,8 @@ def places_of_buttons(driver: Driver) -> list[float]:
 
 
 def try_refused_copies(driver: Driver, path: Path) -> None:
-    """Checks that the text is selected beside the button if the browser doesn't copy, until
-    something else is pressed.
+    """Checks that the text is shown and selected beside the button if the browser doesn't copy it,
+    and that the text disappears when another button has the focus.
     """
     opened(driver, path, "#xs4_33&soup=A1")
     wait_for(lambda: text(driver, "#player h3") == "Soup 1")

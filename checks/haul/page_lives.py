@@ -33,7 +33,9 @@ SOUPS, LIMIT, LATE = 40, 3030, 1000
 
 
 def make_lives_page(folder: Path) -> tuple[Path, list[str]]:
-    """Makes a page with long lives. Returns its path, and the report lines of its late soups."""
+    """Makes a page with long lives. Returns its path, and the report lines of its late and
+    unsettled soups.
+    """
     job = (f"--limit={LIMIT}", f"--count={SOUPS}", "--first=600")
     haul, late, page = folder / "lives.haul", folder / "lives.late", folder / "lives.html"
     haul.write_bytes(census("take", *job))

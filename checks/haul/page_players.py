@@ -55,7 +55,7 @@ def try_players(driver: Driver, path: Path, haul: bytes) -> None:
     margins = margins_of(driver)
     count.holds(
         "all that is alive is in sight",
-        min(margins) > 0 and margins[0] + margins[1] < 0.3 or margins[2] + margins[3] < 0.3,
+        min(margins) > 0 and (margins[0] + margins[1] < 0.3 or margins[2] + margins[3] < 0.3),
         margins,
     )
     click(driver, "[data-act=ring]")

@@ -8,7 +8,8 @@ from typing import NamedTuple
 from checks.lib import program
 
 MOST_SECONDS = 120
-# A text below `SHOWN_WHOLE` bytes is shown whole. Of a longer text, `SHOWN` bytes are shown.
+# A text of fewer than `SHOWN_WHOLE` bytes is shown whole. Otherwise, its first `SHOWN` bytes are
+# shown.
 SHOWN_WHOLE, SHOWN = 100, 60
 
 

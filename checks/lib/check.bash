@@ -19,7 +19,8 @@ skip() {
     skipped=$((skipped + $3))
 }
 
-# Counts a check that the command that follows the name $1 ends with status 0.
+# Counts a check, which passes if a command ends with status 0. $1 is the name of the check, and the other arguments are
+# the command.
 check() {
     local name=$1
     shift

@@ -1,4 +1,4 @@
-"""The only way in which checks in Python count and print."""
+"""The counter with which all checks in Python count and print."""
 
 from __future__ import annotations
 
@@ -57,7 +57,9 @@ class Count:
         self.skipped += checks
 
     def lack(self, what: str, package: str, checks: int = 1) -> None:
-        """Counts checks whose package isn't installed. They are skipped, but in CI they fail."""
+        """Counts checks whose package isn't installed. They are skipped. In CI, they count as one
+        check that failed.
+        """
         if IN_CI:
             self.check(what, f"{package} isn't installed")
         else:

@@ -1,5 +1,5 @@
-"""Checks links in the pages below a folder. Each must lead to a file that exists, and to a heading,
-an element or a line in it.
+"""Checks links in the pages below a folder. Each must lead to a file that exists. If the link names
+a heading, an element or a line, the file must have it.
 
 usage: python3 -m checks.lib.links FOLDER        prints the links that lead nowhere, and fails if
 there is one
@@ -17,7 +17,7 @@ FENCE = re.compile(r"^```.*?^```$", re.MULTILINE | re.DOTALL)
 CODE = re.compile(r"`[^`\n]+`")
 LINK = re.compile(r"\[[^\[\]]*\]\(([^()\s]+)\)")
 HEADING = re.compile(r"^#+ (.*)$", re.MULTILINE)
-# The scripts of an HTML page build the addresses of their links.
+# The scripts of an HTML page aren't searched, since they build the addresses of their links.
 SCRIPT = re.compile(r"<script.*?</script>", re.DOTALL)
 ADDRESS = re.compile(r'(?:href|src)="([^"]*)"')
 ELEMENT = re.compile(r' id="([^"]*)"')

@@ -90,8 +90,8 @@ def clusters_of(cells: Cells) -> list[Cells]:
 
 
 def phases_of(rule: Rule, cells: Cells, period: int) -> tuple[list[Cells], Cells] | None:
-    """Returns all phases, and the pattern when it recurs, possibly displaced, or `None` if it
-    doesn't recur within `period` generations.
+    """Returns all phases, and the first generation after them, which is the pattern again, possibly
+    displaced. Returns `None` if the pattern doesn't recur within `period` generations.
     """
     phases, shape = [cells], to_corner(cells)
     for _ in range(period):

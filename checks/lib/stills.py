@@ -1,5 +1,5 @@
-"""Soups under a rule under which nothing dies, so that each cluster is an object, and the haul of
-such soups.
+"""Soups under the rule `STILL`, and the haul of such soups. Under this rule, nothing changes, so
+each cluster is an object.
 """
 
 from __future__ import annotations

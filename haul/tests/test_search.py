@@ -128,7 +128,7 @@ class Soups(Searches):
         self.assertEqual(self.file.read_bytes(), census("take", "--seed=a", "--count", "0"))
 
     def test_how_the_program_is_called(self) -> None:
-        """By default there are as many workers as processors, but at most 16 in one call."""
+        """By default, there are as many workers as processors."""
         program = self.stub('echo "$@" >> calls; real "$@"')
         with patch("os.sched_getaffinity", return_value=range(5)):
             self.search("--seed=a", "--until", "7", "--part", "4", *QUICK, program=program)

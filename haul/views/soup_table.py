@@ -69,8 +69,8 @@ class SoupTable:
         )
 
     def bars(self) -> list[str]:
-        """Returns a bar for each row. The longest has `LONGEST_BAR` characters. A bar is empty only if
-        the row's number is 0."""
+        """Returns a bar for each row. The longest has `LONGEST_BAR` characters. A bar is empty only
+        if the row's number is 0."""
         numbers = [int(row[-1] or 0) for row in self.rows]
         most = max(numbers)
         return ["#" * -(-number * LONGEST_BAR // most) if number else "" for number in numbers]
