@@ -7,7 +7,7 @@ import shutil
 import signal
 import subprocess
 import threading
-from collections.abc import Sequence
+from collections.abc import Mapping, Sequence
 from dataclasses import dataclass, field
 from pathlib import Path
 from typing import BinaryIO
@@ -19,6 +19,21 @@ from builder.places import LEAST, PROGRAM, Places
 TARGET = "x86_64-unknown-linux-gnu"
 # The beginning of the prover's last line if everything is proved.
 VERDICT = b"logic=proved "
+
+
+def words_for(crate: str, uses: Mapping[str, list[str]], kit: Path, made: Path) -> list[str]:
+    """Returns the arguments with which the prover is called in a crate's folder, apart from the
+    command: the crate's root file, the libraries that it names, and where to find the libraries
+    that these use. `made` is the folder of the libraries that were built from this repository.
+    """
+    words = ["--crate-name", crate, "src/main.rt" if crate == PROGRAM else "src/lib.rt"]
+    words += ["--extern", f"std={kit}/rlibs/std.rlib"]
+    for name in uses[crate]:
+        folder = made if name in uses else kit / "rlibs"
+        words += ["--extern", f"{name}={folder}/{name}.rlib"]
+    words += ["-L", f"dependency={made}", "-L", f"dependency={kit}/rlibs", "--links", f"{crate}="]
+    words += ["--antt-project", f"{kit}/rattle/logic/antt-project.json"]
+    return [*words, "--logic-built", f"{kit}/logic_built"]
 
 
 class Ended(Exception):
@@ -139,35 +154,13 @@ class Prover:
         return b"".join(line for line in lines if line.startswith(VERDICT)).decode().rstrip("\n")
 
     def _words(self, crate: str, copies: int) -> list[str]:
-        """Returns the prover's arguments for a crate: its root file, the libraries that it names,
-        and where to find the libraries that these use.
-        """
-        kit, made = self.kit, self.kept.made
-        words = [
-            "build",
-            "--crate-name",
-            crate,
-            "src/main.rt" if crate == PROGRAM else "src/lib.rt",
-            "--extern",
-            f"std={kit}/rlibs/std.rlib",
-        ]
-        for name in self.crates.uses[crate]:
-            folder = made if name in self.crates.uses else kit / "rlibs"
-            words += ["--extern", f"{name}={folder}/{name}.rlib"]
-        words += [
-            "-L",
-            f"dependency={made}",
-            "-L",
-            f"dependency={kit}/rlibs",
-            "--links",
-            f"{crate}=",
-        ]
-        words += ["--antt-project", f"{kit}/rattle/logic/antt-project.json"]
+        """Returns the prover's arguments for a crate."""
+        words = ["build", *words_for(crate, self.crates.uses, self.kit, self.kept.made)]
         if crate == PROGRAM and self.cpu != LEAST:
             words.append(f"--cpu={self.cpu}")
-        words += ["--logic-built", f"{kit}/logic_built", "--jobs", str(copies)]
+        words += ["--jobs", str(copies)]
         return (
-            [*words, "--toolchain", f"{kit}/toolchain"]
+            [*words, "--toolchain", f"{self.kit}/toolchain"]
             if crate == PROGRAM
             else [*words, "--statements"]
         )

@@ -1,6 +1,6 @@
-"""A quick way to separate small objects, with patterns as bits of numbers. It follows the
-definition as `Blocks` does, and finds the same parts. It gives up on large objects, and on objects
-that don't recur as their codes say."""
+"""A quick way to separate small objects, with each pattern as the bits of a number. It finds the
+same parts as the class `Blocks` of haul/life/blocks.py, but gives up on large objects, and on
+objects that don't recur as their codes say."""
 
 from __future__ import annotations
 

@@ -201,8 +201,9 @@ class Parts(unittest.TestCase):
         self.assertTrue(strict("xs4_33").is_strict() and not parts("xs8_rr").is_strict())
 
     def test_many_islands(self) -> None:
-        """Where all cells stay, cells two steps apart are parts, however many there are. For more
-        than `MOST_ISLANDS` islands, only the separation into single islands is tried."""
+        """Under a rule in which no cell is born or dies, each cell of a row with gaps of one cell is
+        a part of its own, however many cells there are. For more than `MOST_ISLANDS` islands, only
+        the separation into single islands is tried."""
         for count in (MOST_ISLANDS, MOST_ISLANDS + 1, 30):
             row = "0".join("1" * count)
             self.assertEqual(parts(f"xs{count}_{row}", STILL), Separation(("xs1_1",) * count))

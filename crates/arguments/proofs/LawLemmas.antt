@@ -68,7 +68,7 @@ top_fine : or_else (defaults_fault [] census_built.top.rules) (check_fault censu
 unfolding clap_on_literals
 top_fine = refl
 
--- what the arguments of a command ask for, given the faults and the end of the walk over them
+-- what the arguments of a command ask for, given the faults that the walk over the arguments finds, and where it ends
 abbrev pub asked_of : Shape → Kinds × Walk → Option Request
 asked_of s r = unless_faulty (or_else (faults_by s r) []) (request_in (s.name, finished s.rules r.1.held))
 

@@ -1,4 +1,4 @@
--- The rows of a census are those of the surveys, and the sum of their totals stays small.
+-- Rows that are made from the scores of surveys are the rows of the census, and the sum of their totals is below 2^128.
 use Rattle.std.proofs.Common.{◌≡◌, ◌∙◌, ◌+◌, ◌-◌, ◌*◌, ◌^◌, ◌<◌, ◌≤◌, ℕ, Bool, true, false, cond, nat_lt, List, [], ◌∷◌, Option}
 use Rattle.std.proofs.Common.{None, Some, IsSome, ap, sym, subst, refl, arith, inl, inr, ◌⊎◌, length, sum, sum_by, unwrap_or, zero-add}
 use Rattle.std.specs.Cmp.{eq_by_cmp_equiv}
