@@ -1,4 +1,5 @@
-"""Finds the census program that is installed with this program, or built in this checkout."""
+"""Finds the census program: the one installed beside `haul`, or the one in the checkout that `haul`
+runs from."""
 
 from __future__ import annotations
 
@@ -10,25 +11,27 @@ from pathlib import Path
 from haul.census.children import NoCensus, start_child
 from haul.census.starters import LAUNCH_CENSUS
 
-# A release has a program for each level of processors. This shell script says which one is right
-# for this processor.
+# A release has several census programs, each for a level of x86-64 processors. This shell script
+# prints the path of the program that fits this processor.
 SHELL = ["/bin/sh", "-c"]
 CHOOSES = 'libexec=$1; . "$libexec/processor.sh"; printf %s "$program"'
 
 
 def find_beside() -> str | None:
-    """Returns the path of the census program: the one installed beside this program, or the one of
-    this checkout, which bin/census builds if need be. Returns `None` if there is neither."""
+    """Returns the path of the census program that is installed beside `haul`, or of the one in the
+    same checkout, which bin/census builds if necessary. Returns `None` if there is neither."""
     starter = Path(sys.argv[0]).resolve().parent / "census"
     if not os.access(starter, os.X_OK):
         return None
     top = starter.parent.parent
-    # The program itself is called rather than its starter, since there may be thousands of calls.
+    # If possible, the result is the program itself and not the script `census` that starts it,
+    # since there may be thousands of calls.
     if (top / "libexec" / "gokzerd" / "processor.sh").is_file():
         return choose_for_processor(starter, top / "libexec" / "gokzerd")
     if not (starter.parent / "built.bash").is_file():
         return str(starter)
-    # bin/census may build the program. If this process ends, the launcher ends the build.
+    # bin/census builds the program if necessary. If this process ends, `launcher.py` ends the
+    # build.
     words = [str(starter), "--version"]
     with start_child(words, subprocess.DEVNULL, None, apart=LAUNCH_CENSUS) as launcher:
         launcher.wait()
@@ -38,7 +41,7 @@ def find_beside() -> str | None:
 
 
 def choose_for_processor(starter: Path, libexec: Path) -> str:
-    """Returns a release's program for this processor."""
+    """Returns the path of the program that a release has for this processor."""
     with start_child([*SHELL, CHOOSES, "sh", str(libexec)], subprocess.PIPE, None) as shell:
         chosen = shell.communicate()[0]
     if shell.returncode != 0:

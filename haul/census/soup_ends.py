@@ -45,8 +45,9 @@ def find_ends(census: Census, job: Job, numbers: list[int]) -> dict[int, End]:
 
 
 def read_end(rule: Rule, fields: list[str]) -> End | None:
-    """Reads the fields of a report line after the soup's number: either `unsettled`, or `at=`,
-    `good=` and the objects with their counts. Returns `None` for a soup without a known end."""
+    """Reads the fields that follow the soup's number in a report line: either `unsettled`, or
+    `at=`, `good=` and the objects with their counts. Returns `None` if the soup is unsettled, or if
+    it leaves an object whose number of cells isn't known."""
     settled, *found = fields
     if not settled.startswith("at="):
         return None

@@ -1,4 +1,5 @@
-"""Asks `census` in which exact generation soups settle, and how the population of a soup grows."""
+"""Asks `census` for the exact generation in which a soup settles, and for the growth of its
+population."""
 
 from __future__ import annotations
 
@@ -27,8 +28,8 @@ def draw_soup(job: Job, soup: int) -> bytes:
 
 
 def find_exact_generations(census: Census, job: Job, soups: list[int]) -> Iterator[int | None]:
-    """Yields the first generation at which each soup is at rest, or `None` if there is none up to
-    the limit."""
+    """Yields, for each soup, the first generation in which it is at rest, or `None` if it isn't at
+    rest in any generation up to the limit."""
     return census.ask_in_parts(
         partial(find_exact_generation, census, job), soups, SOUPS_IN_A_CALL, "soups run"
     )
@@ -45,9 +46,9 @@ def find_exact_generation(census: Census, job: Job, soups: list[int]) -> int | N
 
 
 def measure_growths(census: Census, job: Job, soups: list[int]) -> Iterator[tuple[int, int, int]]:
-    """Yields three numbers for each soup: the last checkpoint, the population there, and the growth
-    in the `GENERATIONS_OF_GROWTH` generations before it, or since generation 0 if there are
-    fewer."""
+    """Yields three numbers for each soup: the last checkpoint, the population at that checkpoint,
+    and the growth in the `GENERATIONS_OF_GROWTH` generations before that checkpoint. If there are
+    fewer generations, the growth is measured from generation 0."""
     return census.ask_in_parts(
         partial(measure_growth, census, job), soups, SOUPS_IN_A_CALL, "soups run"
     )

@@ -20,7 +20,8 @@ def read_launcher() -> str:
 
 
 def list_starter_words(how: str) -> list[str]:
-    """Returns the command line of `launcher.py`, up to the words of the program to start."""
+    """Returns the words with which the command line of `launcher.py` begins. The words of the
+    program to start must follow."""
     # Without a PATH, `sys.executable` may be empty.
     python = sys.executable or os.readlink("/proc/self/exe")
     return [python, "-I", "-S", "-c", read_launcher(), how, str(os.getpid())]

@@ -26,8 +26,8 @@ class Argument:
     is_flag: bool = False
     # The number of values: `?`, `*` or `+` as in a regular expression, or empty for exactly one.
     repeats: str = ""
-    # The most hauls that a call may have, or `None` if the argument isn't a list of hauls.
-    # `other_hauls` is the number of hauls that other arguments give.
+    # The most hauls that a call may have, or `None` if their number isn't limited. `other_hauls` is
+    # the number of hauls that other arguments give.
     most_hauls: int | None = None
     other_hauls: int = 0
 

@@ -37,8 +37,8 @@ def run_check(asked: argparse.Namespace, streams: Streams) -> int:
 
 
 def check_one_file(asked: argparse.Namespace, streams: Streams, name: str) -> int:
-    """Checks one of several files, and returns its status. Each line of output begins with the name
-    of the file."""
+    """Checks one of several files, and returns the exit status for this file. Each line of output
+    begins with the name of the file."""
     try:
         lines = check_haul(asked, streams, name)
     except Refused as why:
@@ -51,7 +51,8 @@ def check_one_file(asked: argparse.Namespace, streams: Streams, name: str) -> in
 
 
 def find_worst_status(statuses: list[int]) -> int:
-    """Returns the status for several files. A wrong haul takes precedence over a refused text."""
+    """Returns the exit status for several files, given the status for each file. A wrong haul takes
+    precedence over a refused text."""
     return max(statuses, default=DONE)
 
 
@@ -78,8 +79,8 @@ def check_haul(asked: argparse.Namespace, streams: Streams, name: str | None) ->
 def check_apgsearch_haul(
     asked: argparse.Namespace, streams: Streams, haul: Haul, name: str | None
 ) -> list[str]:
-    """Returns the lines that `haul check` prints about a haul of apgsearch, from checking either
-    its samples or its totals."""
+    """Checks either the samples or the totals of a haul of apgsearch, and returns the lines that
+    `haul check` prints about the haul."""
     if not asked.samples and not asked.totals:
         raise Refused(
             f"{format_place(name)}a haul of apgsearch doesn't name its soups: --samples runs its "
@@ -112,7 +113,8 @@ def run_index(asked: argparse.Namespace, streams: Streams) -> int:
 
 
 def run_index_check(asked: argparse.Namespace, streams: Streams) -> int:
-    """Checks an index: either its parts, or the hauls that are given after it."""
+    """Checks the parts of an index. If hauls are given after the index, checks their digests
+    instead."""
     name, *hauls = asked.files
     with streams.open_input(name) as stream:
         try:
@@ -159,8 +161,8 @@ def compare_hauls(streams: Streams, index: Index, names: list[str]) -> Iterator[
 def retake_parts(
     asked: argparse.Namespace, streams: Streams, index: Index, parts: list[Range]
 ) -> Iterator[tuple[Range, bool]]:
-    """Takes the census of each part again, and yields whether the new haul has the digest in the
-    index."""
+    """Takes the census of each part again. Yields the part, and whether the digest of the new haul
+    is the one in the index."""
     census = Census(asked.census, streams.terminal)
     for part in parts:
         right = retake(census, Haul(index.job, ranges=[part]), asked.workers)

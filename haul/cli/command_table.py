@@ -1,5 +1,6 @@
-"""The table of commands and their arguments. The parser, the help, the manual and the completions
-are made from it, the last two by `checks/repository/options --write`."""
+"""The table of commands and their arguments, from which the parser and the help are made.
+`checks/repository/options --write` also makes the completions and the options of the manual from
+it."""
 
 from __future__ import annotations
 

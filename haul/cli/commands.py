@@ -56,7 +56,7 @@ def run_join(asked: argparse.Namespace, streams: Streams) -> int:
                 for haul in read_hauls(stream):
                     joining.add(haul, format_place(name))
             except BadHaul as fault:
-                # Only the first fault is reported. The files after it aren't read.
+                # Only the first fault is reported. The remaining files aren't read.
                 bad = f"{format_place(name)}{fault}"
                 break
         streams.terminal.show_progress(f"{done} of {len(asked.files or [None])} files")
@@ -141,8 +141,8 @@ def run_page(asked: argparse.Namespace, streams: Streams) -> int:
 
 
 def read_lives(name: str, streams: Streams, census: Census, haul: Haul) -> Lives:
-    """Returns the part of a page about the late soups in a file. Only late soups of the haul are
-    included."""
+    """Reads a file of late soups, and returns what a page shows about them. Soups that aren't in
+    the haul are left out."""
     try:
         with streams.open_input(name) as stream:
             late, job = read_late(stream)

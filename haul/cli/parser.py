@@ -110,7 +110,8 @@ def list_settings(argument: Argument) -> dict[str, Any]:
 
 
 class HaulList(argparse.Action):
-    """Accepts the names of hauls if there aren't too many."""
+    """The action for an argument that is a list of hauls. It stores the names of the hauls, or
+    fails if there are too many."""
 
     def __init__(self, *names: Any, most: int, others: int, **settings: Any) -> None:
         super().__init__(*names, **settings)

@@ -46,8 +46,8 @@ def list_lines(sample: Sample, is_rle: bool) -> list[str]:
 
 
 def write_files(samples: list[Sample], folder: Path, is_rle: bool) -> None:
-    """Writes each soup to its own file in a folder, which is created if it doesn't exist. Raises
-    `Refused` at a file that already exists, which isn't changed."""
+    """Writes each soup to its own file in a folder, which is created if it doesn't exist. If a file
+    exists already, raises `Refused` and leaves that file unchanged."""
     folder.mkdir(exist_ok=True)
     for sample in samples:
         path = folder / f"{sample.text}.{'rle' if is_rle else 'cells'}"

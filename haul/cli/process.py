@@ -1,5 +1,5 @@
-"""The process of `haul`: its streams, its signals and its end. Only this module and bin/haul deal
-with them."""
+"""Runs `haul` as a process: opens its standard streams, handles the signals that end it, and ends
+with an exit status."""
 
 from __future__ import annotations
 
@@ -19,10 +19,11 @@ from haul.terminal import Terminal
 
 # The signals that end this program, except for those that were ignored when it was started.
 ENDING = (signal.SIGINT, signal.SIGTERM, signal.SIGHUP)
-# The number that takes the place of a signal when the work is done. No signal has this number.
+# Each signal writes its number to a pipe. The work writes this number to the pipe when it is done.
+# No signal has this number.
 IS_DONE = 0
-# The number that takes the place of a signal when the work begins, and how many seconds may pass
-# until then. If there is enough memory, the work begins in time.
+# The number that the work writes to the same pipe when it begins, and how many seconds it has for
+# that. If there is enough memory, the work begins in time.
 HAS_BEGUN, SECONDS_TO_BEGIN = 128, 10.0
 
 
@@ -33,8 +34,8 @@ def run_heeding_signals(work: Callable[[], int]) -> int:
     the work then ends because of the signal, the same signal ends this process.
 
     Python checks for signals between two steps of its main thread. If a signal came just before the
-    main thread started to wait, it would be noticed only after the wait. Therefore the main thread
-    waits only for a byte, which each signal writes at once.
+    main thread started to wait, Python would notice the signal only after the wait. Therefore the
+    main thread waits for a byte from a pipe, to which each signal writes at once.
     """
     reading, writing = os.pipe()
     os.set_blocking(writing, False)
@@ -68,9 +69,9 @@ def run_heeding_signals(work: Callable[[], int]) -> int:
 
 
 def begin_thread(do: Callable[[], None], reading: int) -> None:
-    """Starts a thread whose first action is to write a byte to a pipe. Raises `MemoryError` if no
-    byte comes in time. A thread that has no memory to begin ends silently, and `threading` would
-    wait for its start forever."""
+    """Starts a thread that first writes a byte to a pipe. Raises `MemoryError` if no byte comes in
+    time, since a thread that has no memory to begin ends silently. `threading` would wait for its
+    start forever."""
     try:
         _thread.start_new_thread(do, ())
     except RuntimeError as error:
@@ -90,8 +91,8 @@ def open_streams() -> None:
     fail, and no file that is opened later takes its place."""
     for number, stream in enumerate((sys.stdin, sys.stdout, sys.stderr)):
         if stream is None:
-            # `os.open` takes the lowest free number, which is this one. A file opened for reading
-            # can't be written, and vice versa.
+            # `os.open` uses the lowest free descriptor, which is `number`. Standard input is opened
+            # for writing and the others for reading, so each use of them fails.
             os.open(os.devnull, os.O_WRONLY if number == 0 else os.O_RDONLY)
     if sys.stdin is None:
         sys.stdin = open(0, encoding="utf-8", closefd=False)
@@ -118,6 +119,6 @@ def main() -> NoReturn:
 
 
 def fail(line: str, status: int) -> int:
-    """Writes a line about the failure, and returns the status."""
+    """Writes a line about the failure, and returns `status`."""
     Terminal(sys.stderr).complain(line)
     return status

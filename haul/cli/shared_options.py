@@ -21,8 +21,8 @@ FORMS = Exclusive(
 
 
 def list_profile_options(before: str) -> tuple[Argument, ...]:
-    """Returns the options for the four numbers of a profile. The description of each is `before`,
-    followed by the number's name."""
+    """Returns the options for the four numbers of a profile. The help of each option begins with
+    `before` and the name of the number."""
     ranges = (PERIOD, (0, MOST_HORIZON), STRIDE, LIMIT)
     return tuple(
         option(

@@ -1,6 +1,7 @@
-"""The exit statuses of `haul`: those of `census`, and one more."""
+"""The exit statuses of `haul`, most of which mean the same as for `census`."""
 
 from __future__ import annotations
 
-# The statuses of `census`, followed by one that only `haul` has.
+# All except the last one mean the same as for `census`. The last one means that a check has found a
+# fault.
 DONE, USAGE, REFUSED, NO_MEMORY, FAILED, NOT_RIGHT = 0, 2, 3, 4, 5, 7

@@ -81,7 +81,8 @@ def read_count(text: str) -> int:
 
 
 def read_periods(text: str) -> tuple[int, int | None]:
-    """Reads a value such as `3`, `3+` or `3-8` as the smallest and the largest period."""
+    """Reads a value such as `3`, `3+` or `3-8`. Returns the smallest and the largest period. The
+    largest is `None` for a value such as `3+`."""
     least, between, most = text.partition("-")
     if text.endswith("+"):
         return read_count(text[:-1]), None
@@ -92,7 +93,7 @@ def read_periods(text: str) -> tuple[int, int | None]:
 
 
 def read_kinds(text: str) -> str:
-    """Reads letters of kinds, each of which may occur at most once."""
+    """Reads the letters of kinds: at least one of `s`, `p` and `q`, and none of them twice."""
     if not text or not set(text) <= set("spq") or len(set(text)) < len(text):
         raise argparse.ArgumentTypeError(f"{text!r} isn't made of the letters s, p and q")
     return text

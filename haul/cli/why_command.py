@@ -1,4 +1,4 @@
-"""The command `why`: its entry in the table, and its function."""
+"""The command `why`: its entry in the table of commands, and the functions that run it."""
 
 from __future__ import annotations
 
@@ -23,7 +23,7 @@ from haul.patterns.rle import BadRle, read_rle
 from haul.patterns.rules import LIFE, parse_rule
 from haul.views.why import FateTable
 
-# How many soups of a file are explained by default.
+# The most soups of a file that are explained, unless `--most` is given.
 USUAL_MOST = 20
 
 
@@ -80,7 +80,8 @@ def explain_pattern(asked: argparse.Namespace, streams: Streams, census: Census)
 
 
 def read_any_pattern(name: str, streams: Streams) -> tuple[Rows, str | None]:
-    """Reads a pattern in any format, and the rule in it, or `None` if it has no rule."""
+    """Reads a pattern in plaintext, RLE or coordinates. Returns its rows and its rule. The rule is
+    `None` if the text has no rule."""
     try:
         with streams.open_pattern(name) as (text, lines):
             if is_coordinates(text):

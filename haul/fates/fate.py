@@ -11,7 +11,7 @@ from haul.fates.rest import Rest
 from haul.names.objects import find_name
 from haul.plurals import write_count
 
-# The most generations that `census run` advances a pattern.
+# The most generations by which `census run` advances a pattern.
 MOST_GENERATIONS = 100_000
 USUAL_LIMIT = 30_300
 

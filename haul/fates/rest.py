@@ -20,7 +20,8 @@ from haul.life.field import (
 from haul.life.generations import Recurrence, Rule
 from haul.life.groups import Group, Watched, find_period, run_alone, split_clusters
 
-# The longest period of an object that recurs soon, and the longest period that is searched for.
+# The longest period that is recognised while the whole pattern runs, and the longest period of a
+# group that is run by itself.
 PERIOD, LONG_PERIOD = 64, 1152
 # Groups must stay apart for this number of generations, or for the profile's horizon if that is
 # larger.
@@ -35,8 +36,8 @@ class Rest:
     apart: list[str] = field(default_factory=list)
     # The periods of other objects that a census doesn't recognise.
     periods: list[int] = field(default_factory=list)
-    # The generation in which two groups meet, counted from the generation of the pattern, or `None`
-    # if no groups meet.
+    # The first generation in which two groups meet, where the given pattern is generation 0, or
+    # `None` if no groups meet.
     meeting: int | None = None
 
 
@@ -149,8 +150,8 @@ def is_recognised(rule: Rule, one: Recurring, most: int) -> bool:
 def are_independent(
     rule: Rule, clusters: list[set[int]], wanted: list[set[int]], most: int
 ) -> bool:
-    """Checks whether each cluster recurs soon enough when it is run alone, and whether the clusters
-    share no cell and together make up the phases `wanted`."""
+    """Checks whether each cluster recurs within `most` generations when it is run alone, and
+    whether the clusters share no cell and together make up the phases `wanted`."""
     together: list[set[int]] = [set() for _ in wanted]
     for cluster in clusters:
         runs = list(run_alone(rule, cluster, max(len(wanted), most)))

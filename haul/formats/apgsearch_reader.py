@@ -4,6 +4,7 @@ from __future__ import annotations
 
 import re
 from collections.abc import Iterator
+from dataclasses import replace
 from typing import IO
 
 from haul.formats.field_reader import BadHaul
@@ -11,13 +12,14 @@ from haul.formats.haul import NUMBER_LIMIT, TOTAL_LIMIT, Haul, Job
 from haul.formats.profile import STANDARD
 from haul.patterns.rules import parse_rule
 
-# The first bytes of a haul of apgsearch. A haul of `census` has a number in this place.
+# The first bytes of a haul of apgsearch. In a haul of `census`, a digit takes the place of the `v`.
 BEGINNING = b"@VERSION v"
 # A line with more bytes than this, counting its line feed, is refused.
 LINE_LIMIT = 2**20
-# The most bytes that a code, a seed or a name may have.
+# A word that is needed, such as a code or a seed, is refused if it has more bytes than this.
 WORD_LIMIT = 1000
-# The lines that a haul must have before its tables, and the lines that begin the two tables.
+# The first words of the lines that a haul must have before its tables, and of the lines that begin
+# the two tables.
 NEEDED = ("@VERSION", "@ROOT", "@RULE", "@SYMMETRY", "@NUM_SOUPS", "@NUM_OBJECTS")
 TABLE, SAMPLES = "@CENSUS", "@SAMPLE_SOUPIDS"
 
@@ -40,7 +42,8 @@ def is_apgsearch_haul(first: bytes) -> bool:
 
 
 class Line:
-    """A line, given by its number and its words. Each word has the column in which it begins."""
+    """A line, given by its number and its words. Each word is stored with the column in which it
+    begins."""
 
     def __init__(self, number: int, text: bytes) -> None:
         self.number = number
@@ -89,8 +92,8 @@ def split_lines(first: bytes, number: int, stream: IO[bytes]) -> Iterator[Line]:
 
 
 def read_apgsearch_haul(first: bytes, number: int, stream: IO[bytes]) -> Haul:
-    """Reads a haul of apgsearch whose first line, `first`, has already been read. Raises `BadHaul`
-    at the first fault."""
+    """Reads a haul of apgsearch whose first line, `first`, has already been read. `number` is the
+    number of that line. Raises `BadHaul` if the haul has a fault."""
     lines = split_lines(first, number, stream)
     said: dict[str, Line] = {}
     for line in lines:
@@ -108,23 +111,26 @@ def read_apgsearch_haul(first: bytes, number: int, stream: IO[bytes]) -> Haul:
     for name in NEEDED:
         if name not in said:
             raise BadHaul(number, 1, f"no line {name} before the table")
+    head = read_head(said)
     totals, samples = read_tables(lines)
-    return build_haul(said, totals, samples)
+    return replace(
+        head,
+        totals=dict(sorted(totals.items())),
+        samples={code: samples.get(code, []) for code in sorted(totals)},
+    )
 
 
-def build_haul(
-    said: dict[str, Line], totals: dict[str, int], samples: dict[str, list[int]]
-) -> Haul:
+def read_head(said: dict[str, Line]) -> Haul:
+    """Returns a haul without objects, from the lines before the tables. They are checked in the
+    order in which apgsearch writes them."""
+    version, seed = said["@VERSION"].word(1), said["@ROOT"].word(1)
     rule = parse_rule(said["@RULE"].word(1))
     if rule is None:
         raise said["@RULE"].bad_word(1, OTHER_RULE)
-    job = Job(said["@ROOT"].word(1), rule, STANDARD, said["@SYMMETRY"].word(1))
     return Haul(
-        job,
+        Job(seed, rule, STANDARD, said["@SYMMETRY"].word(1)),
         soups=said["@NUM_SOUPS"].number_below(1, NUMBER_LIMIT),
-        totals=dict(sorted(totals.items())),
-        samples={code: samples.get(code, []) for code in sorted(totals)},
-        apgsearch=said["@VERSION"].word(1),
+        apgsearch=version,
         said_objects=said["@NUM_OBJECTS"].number_below(1, TOTAL_LIMIT),
     )
 

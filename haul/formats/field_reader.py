@@ -14,9 +14,9 @@ LINE_LIMIT = 1000
 
 
 class BadHaul(Exception):
-    """Raised if a text isn't a haul (or whatever `what` says it should be). Gives the line and the
-    column of the first wrong field. Both count from 1, and columns count bytes. If the field itself
-    is well formed, `why` says why it is wrong."""
+    """Raised if a text isn't of the kind that `what` names. Gives the line and the column of the
+    wrong field. Both count from 1, and columns count bytes. `why` is the reason, which may be
+    empty."""
 
     def __init__(self, line: int, column: int, why: str = "", what: str = "haul") -> None:
         reason = f": {why}" if why else ""
@@ -68,8 +68,9 @@ class FieldReader:
         )
 
     def is_missing(self, back: int) -> int:
-        """Returns 1 if the field `back` fields before the next one is missing, otherwise 0. A
-        missing field would begin after a space that isn't there."""
+        """Returns 1 if the line has fields, but not the field `back` fields before the next one,
+        otherwise 0. `bad_field` subtracts this from the column, since there is no space before a
+        missing field."""
         return 1 if self.read - back >= len(self.fields) and self.fields else 0
 
     def field(self) -> bytes:

@@ -7,7 +7,7 @@ from dataclasses import KW_ONLY, dataclass, field
 
 from haul.formats.profile import Profile
 
-# The symmetry of asymmetric soups. `census` runs no other soups.
+# Catagolue's name for soups without symmetry. `census` runs no other soups.
 SYMMETRY = "C1"
 # Every soup has a number below this.
 NUMBER_LIMIT = 2**40
@@ -44,7 +44,8 @@ class Haul:
     for_good: int = 0
     # The number of objects of each code, in the order of the codes.
     totals: dict[str, int] = field(default_factory=dict)
-    # For each code of `totals`, the lowest numbers of soups that left an object with the code.
+    # For each code of `totals`, the numbers of sample soups that left an object with the code. A
+    # haul of `census` has the lowest numbers.
     samples: dict[str, list[int]] = field(default_factory=dict)
     # The version of apgsearch, or `None` for a haul of `census`. A haul of apgsearch doesn't say
     # which soups it has, how many of them are unsettled, or how many settled for good.
@@ -59,7 +60,7 @@ class Haul:
         return sum(self.totals.values())
 
     def size(self) -> int:
-        """Returns how many soup numbers the set has."""
+        """Returns how many soup numbers the ranges have."""
         return count_numbers(self.ranges)
 
     def first_total_line(self) -> int:

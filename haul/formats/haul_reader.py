@@ -1,7 +1,7 @@
 """Reads haul texts, byte for byte as described in docs/FORMATS.md.
 
-Only the exact form that `census take` and `census gather` print is accepted, so writing a haul that
-has been read gives the same text again.
+A haul of `census` is accepted only in the exact form in which `census take` and `census gather`
+print it, so writing a haul that has been read gives the same text again.
 """
 
 from __future__ import annotations
@@ -47,7 +47,8 @@ MORE_HAULS = "more than one haul"
 
 
 def read_hauls(stream: IO[bytes]) -> Iterator[Haul]:
-    """Yields the hauls of an input, which has at least one. Raises `BadHaul` at the first fault."""
+    """Yields the hauls of an input, which must have at least one. Raises `BadHaul` at the first
+    fault."""
     lines = FieldReader(stream)
     yield read_first_haul(lines)
     while lines.peek():
@@ -56,7 +57,7 @@ def read_hauls(stream: IO[bytes]) -> Iterator[Haul]:
 
 def read_any_haul(stream: IO[bytes]) -> Haul:
     """Reads an input that consists of a single haul, which may be a haul of apgsearch. Raises
-    `BadHaul` at the first fault."""
+    `BadHaul` for any other input."""
     lines = FieldReader(stream)
     while lines.peek().strip() == b"" != lines.peek():
         lines.skip()
@@ -80,8 +81,8 @@ def read_only_haul(lines: FieldReader) -> Haul:
 
 
 def read_first_haul(lines: FieldReader) -> Haul:
-    """Reads the first haul of an input. If the first line is wrong, the fault says what the text
-    looks like instead."""
+    """Reads the first haul of an input. If the first line is wrong and the text looks like
+    something else, such as an index, the fault says so."""
     first = lines.peek()
     try:
         return read_haul(lines)

@@ -18,7 +18,7 @@ def format_job(job: Job) -> list[str]:
 
 
 def format_header(haul: Haul) -> list[str]:
-    """Returns the lines before the table of totals."""
+    """Returns the lines before the first row of the census table."""
     return [
         "@VERSION 2",
         *format_job(haul.job),

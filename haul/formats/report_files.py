@@ -1,5 +1,5 @@
 """Reads the report lines in files: those of one job, and only the first report of each soup.
-Doesn't check whether the reports are right."""
+Doesn't check whether the soups really left what the reports say."""
 
 from __future__ import annotations
 
@@ -25,15 +25,15 @@ INPUT_LIMIT = 2**32
 
 
 class BadLines(Exception):
-    """Raised if a text has something else instead of report lines."""
+    """Raised if an input is a haul instead of report lines."""
 
 
 class Reports:
-    """The reports that have been read so far, from one or more inputs."""
+    """The reports that have been read from one or more inputs."""
 
     def __init__(self, terminal: Terminal) -> None:
         self.terminal = terminal
-        # The job of the first good line.
+        # The job of the first report.
         self.job: Job | None = None
         self.soups: set[int] = set()
         self.lines = 0
@@ -41,9 +41,10 @@ class Reports:
         self.skipped = 0
 
     def read(self, stream: IO[bytes], place: str) -> Iterator[Report]:
-        """Yields each report whose job is that of the first report, unless its soup has been read
-        before. Comments are skipped silently. A bad line, or a report of another job, is reported
-        on standard error, with `place` before the line's number."""
+        """Yields each report that has the job of the first report, unless a report of the same soup
+        has been read before. Comments are skipped silently. A bad line, or a report of another job,
+        is skipped with a message on standard error that begins with `place`. Raises `BadLines` for
+        a haul."""
         for number, line in enumerate(split_lines(stream), 1):
             if number == 1 and HAUL.match(line):
                 raise BadLines(

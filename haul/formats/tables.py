@@ -6,15 +6,15 @@ from collections.abc import Iterator
 
 
 class BadTable(Exception):
-    """Raised if a table is damaged. Gives the first damaged line."""
+    """Raised if a table is damaged. Gives the number of a damaged line."""
 
     def __init__(self, name: str, line: int, why: str) -> None:
         super().__init__(f"{name}: bad table at line {line}: {why}")
 
 
 def read_table(name: str, text: bytes, heads: list[str]) -> Iterator[list[str]]:
-    """Yields the fields of each line after the heads. Raises `BadTable` at a line that isn't ASCII
-    or has the wrong number of fields."""
+    """Yields the fields of each line after the first line, which must have the heads of the
+    columns. Raises `BadTable` if the table is damaged."""
     lines = text.split(b"\n")
     if lines.pop():
         raise BadTable(name, len(lines) + 1, "no line feed at the end")

@@ -1,1 +1,1 @@
-"""Operations on whole hauls: joining, checking, and counting by parts."""
+"""Operations on whole hauls: joining, checking, indexing, and counting by parts."""

@@ -43,7 +43,8 @@ class ApgsearchCheck:
         self.rule = read_rule(haul.job.rule)
 
     def find_wrong_samples(self) -> Iterator[str]:
-        """Yields a message for each sample whose soup leaves no part with the sample's code."""
+        """Yields a message for each sample whose soup leaves no part with the sample's code. Skips
+        the codes that `list_unchecked` returns."""
         samples = {
             code: numbers for code, numbers in self.haul.samples.items() if self.is_known(code)
         }

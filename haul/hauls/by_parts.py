@@ -1,5 +1,4 @@
-"""The separations of a haul's objects, and the haul's totals with each object replaced by its
-parts."""
+"""Separates the objects of a haul into their parts, and counts the parts instead of the objects."""
 
 from __future__ import annotations
 

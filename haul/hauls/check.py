@@ -20,8 +20,8 @@ SAMPLES_IN_A_CALL = 500
 
 
 def retake(census: Census, haul: Haul, workers: int) -> Haul:
-    """Takes the census of the same job and the same set of soups on this machine, and returns its
-    haul."""
+    """Takes the census of a haul again on this machine, with the same job and the same set of
+    soups, and returns the new haul."""
     joining = Joining()
     for ranges in split_ranges(haul.ranges):
         joining.add(take_set(census, haul.job, ranges, workers))

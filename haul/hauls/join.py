@@ -1,7 +1,9 @@
-"""Joins hauls of one job whose sets of soups are disjoint. The result is the haul of the union.
+"""Joins hauls that have the same job and disjoint sets of soups. The result is the haul of the
+union.
 
-If each haul is right, so is the joined one. Its totals are the sums of the totals of disjoint sets,
-and each of the three lowest samples of a code in the union is one of the three lowest in its set.
+If each haul is correct, the joined haul is correct, too. The sets are disjoint, so each total is
+the sum of the hauls' totals. Each of the three lowest samples of a code in the union is also one of
+the three lowest in the haul that it comes from.
 """
 
 from __future__ import annotations
@@ -16,7 +18,7 @@ class CantJoin(Exception):
 
 
 class Joining:
-    """The hauls that have been joined so far.
+    """The hauls that have been added, joined into one.
 
     If a haul can't be joined, `add` only notes a message, since a later text may not be a haul at
     all, and then that fault is reported instead.
@@ -24,7 +26,7 @@ class Joining:
 
     def __init__(self) -> None:
         self.job: Job | None = None
-        # The soups so far: ranges in ascending order that don't touch.
+        # The set of soups: ranges in ascending order that don't touch.
         self.ranges: list[Range] = []
         self.soups = 0
         self.unsettled = 0
@@ -38,8 +40,7 @@ class Joining:
         self.overlap: str | None = None
 
     def add(self, haul: Haul, place: str = "") -> None:
-        """Joins a haul to those so far. Messages about the haul begin with `place`, which names its
-        file."""
+        """Adds a haul. Messages about the haul begin with `place`, which names its file."""
         if self.job is None:
             self.job = haul.job
         elif haul.job != self.job:
@@ -80,8 +81,8 @@ class Joining:
         return True
 
     def result(self) -> Haul:
-        """Returns the haul of all sets. At least one haul must have been added. Raises `CantJoin`
-        if the hauls can't be joined."""
+        """Returns the joined haul. At least one haul must have been added. Raises `CantJoin` if the
+        hauls can't be joined."""
         assert self.job is not None
         for fault in (self.other_job, self.missing, self.overlap):
             if fault is not None:

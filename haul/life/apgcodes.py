@@ -13,8 +13,8 @@ from haul.life.generations import Recurrence
 # The most columns and rows of a pattern that a code draws.
 SIDE_OF_TEXT = 40
 
-# The characters of the extended Wechsler format. Each of the first 32 is a column of a strip, which
-# is five rows high. `ROWS_OF_COLUMN` has the live rows of each column.
+# The characters of the extended Wechsler format. Each of the first 32 stands for a column of a
+# strip, which is five rows high. `ROWS_OF_COLUMN` has the live rows of each column.
 CHARACTERS = "0123456789abcdefghijklmnopqrstuvwxyz"
 STRIP = 5
 ROWS_OF_COLUMN = {
@@ -54,8 +54,8 @@ def read_wechsler(text: str) -> Cells | None:
 
 
 def write_wechsler(cells: Cells) -> str | None:
-    """Returns a pattern, moved to the corner, in extended Wechsler format, or `None` if its
-    bounding box is larger than `SIDE_OF_TEXT`."""
+    """Returns a pattern in extended Wechsler format, or `None` if it has more than `SIDE_OF_TEXT`
+    columns or rows. The text begins at the corner of the pattern's bounding box."""
     if not fits_in(cells, SIDE_OF_TEXT):
         return None
     strips: dict[int, dict[int, int]] = {}

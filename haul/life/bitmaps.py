@@ -28,7 +28,7 @@ CORNER = MARGIN * STRIDE + MARGIN
 ROW = (1 << STRIDE) - 1
 # Shifts by these numbers of rows, one after another, join 64 rows into one.
 HALVES = (32, 16, 8, 4, 2, 1)
-# The live cells of each column in a code, as bits.
+# The live cells of the column that a character stands for, as bits.
 # mutant: equal because a pattern that is read is moved to the corner
 COLUMNS = {
     character: sum(1 << STRIDE * row for row in rows) for character, rows in ROWS_OF_COLUMN.items()
@@ -36,9 +36,9 @@ COLUMNS = {
 
 
 def read_bitmap(text: str) -> int | None:
-    """Reads a text in extended Wechsler format. Returns `None` if it isn't in this format, has no
-    live cells, has a live cell after the first `MOST_SIDE` columns, or draws more than `MOST_SIDE`
-    rows."""
+    """Reads a pattern in extended Wechsler format. Returns `None` if the text isn't in this format,
+    or if the pattern has no live cells, has a live cell after the first `MOST_SIDE` columns, or is
+    more than `MOST_SIDE` rows high."""
     bits = x = top = 0
     characters = iter(text)
     for character in characters:
@@ -63,8 +63,8 @@ def read_bitmap(text: str) -> int | None:
 
 
 def list_cells(bits: int) -> Cells:
-    """Returns the cells of a pattern at the corner, moved so that their bounding box begins at
-    (0, 0)."""
+    """Returns the cells of a pattern, moved so that the bounding box begins at (0, 0) instead of
+    (`MARGIN`, `MARGIN`)."""
     # mutant: equal because the prefix `0b` has no 1
     return frozenset(
         [
@@ -114,7 +114,7 @@ def find_move(one: int, other: int) -> int | None:
 
 
 def find_room(bits: int) -> int:
-    """Returns the room of a pattern at the corner."""
+    """Returns the room of a pattern whose bounding box begins at (`MARGIN`, `MARGIN`)."""
     columns = join_rows(bits).bit_length() - MARGIN
     return make_room(columns, -(-bits.bit_length() // STRIDE) - MARGIN)
 
@@ -127,8 +127,8 @@ def make_room(columns: int, rows: int) -> int:
 
 
 def advance(rule: Rule, bits: int) -> int:
-    """Returns the next generation of a pattern in its room. The next generation may have cells one
-    step outside of the room.
+    """Returns the next generation of a pattern whose cells are all in a room. The next generation
+    may have cells in the columns and rows next to the room.
 
     Each bit of the numbers below is about the neighbours of one cell. The bits at the cell's place
     in `ones`, `twos`, `fours` and `eights` are the binary digits of its number of live neighbours.
@@ -168,8 +168,8 @@ def grow(bits: int) -> int:
 
 
 def find_islands(phases: list[int]) -> list[int]:
-    """Returns the islands of an object, each given by its cells in phase 0, as
-    `clusters.find_islands` does."""
+    """Returns the islands of an object, as `find_islands` in haul/life/clusters.py defines them.
+    Each island is given by its cells in phase 0."""
     left, islands = phases[0], []
     while left:
         # mutant: equal because the cell (0, 0), which is bit 0, is dead in each pattern
@@ -184,7 +184,7 @@ def find_islands(phases: list[int]) -> list[int]:
 
 
 def is_cluster(bits: int) -> bool:
-    """Checks whether steps of at most two cells in any direction connect all live cells."""
+    """Checks whether all live cells are connected by steps of at most two columns and two rows."""
     # mutant: equal because the cell (0, 0), which is bit 0, is dead in each pattern
     reached, before = bits & -bits, 0
     while reached != before:

@@ -40,7 +40,7 @@ class Run:
 
 
 class Blocks:
-    """The blocks of an object's islands, and how each block runs by itself."""
+    """The blocks of an object, and the generations of each block when it is run by itself."""
 
     def __init__(self, rule: Rule, runs: dict[Cells, Run], recurrence: Recurrence) -> None:
         self.rule = rule
@@ -63,7 +63,7 @@ class Blocks:
         return self.islands if self.is_separation(runs) else None
 
     def list_separations(self) -> Iterator[list[Cells]]:
-        """Yields the blocks of each separation that has several blocks."""
+        """Yields each separation of the object into several blocks, as a list of these blocks."""
         return self.completed([], frozenset(range(len(self.islands))))
 
     def completed(self, runs: list[list[Cells]], left: Block) -> Iterator[list[Cells]]:
@@ -92,8 +92,8 @@ class Blocks:
         )
 
     def run(self, block: Block) -> list[Cells] | None:
-        """Returns a block that is run by itself, in each generation from 0 to the object's period,
-        or `None` if it can't be a block of a separation."""
+        """Runs a block by itself. Returns the block in each generation from 0 to the object's
+        period, or `None` if no separation can have this block."""
         if block not in self.known:
             islands = [self.islands[place] for place in block]
             self.known[block] = (

@@ -30,8 +30,8 @@ def find_islands(phases: list[Cells]) -> list[Cells]:
 
 
 def is_cluster(cells: Cells) -> bool:
-    """Checks whether steps of at most two cells in any direction connect all live cells. Returns
-    `False` if there are no live cells."""
+    """Checks whether all live cells are connected by steps of at most two columns and two rows.
+    Returns `False` if there are no live cells."""
     left, edge = set(cells), list(cells)[:1]
     left.difference_update(edge)
     while edge and left:

@@ -12,8 +12,8 @@ from typing import NamedTuple
 from haul.life.cells import Cell, Cells
 from haul.life.generations import Rule
 
-# The numbers of all columns are between -ROW / 2 and ROW / 2, since no pattern runs for that many
-# generations.
+# The column of each cell is between -ROW / 2 and ROW / 2, since no pattern runs for long enough to
+# get farther.
 ROW = 2**20
 # The offsets from a cell to its eight neighbours, and to all cells that are at most two columns and
 # two rows away.
@@ -26,7 +26,7 @@ MOST_CELLS = 100_000
 
 
 class TooManyCells(Exception):
-    """Raised if a pattern has grown too large to run."""
+    """Raised if a pattern has more than `MOST_CELLS` cells."""
 
 
 class Change(NamedTuple):

@@ -31,7 +31,7 @@ class Recurrence:
 
     period: int
     shift: Cell
-    # The pattern in generations 0 to `period - 1`, each in its true place.
+    # The pattern in generations 0 to `period - 1`. The phases of a spaceship aren't moved back.
     phases: list[Cells]
 
     def kind(self) -> str:
@@ -73,7 +73,7 @@ def advance(rule: Rule, cells: Cells) -> Cells:
 
 def find_recurrence(rule: Rule, cells: Cells, most: int = MOST_PERIOD) -> Recurrence | None:
     """Returns how a pattern recurs within `most` generations. Returns `None` if it doesn't, or if
-    it outgrows `SIDE` on the way."""
+    it has more than `SIDE` columns or rows before it recurs."""
     phases = [cells]
     while len(phases) <= most and phases[-1] and fits_in(phases[-1], SIDE):
         later = advance(rule, phases[-1])

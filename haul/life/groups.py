@@ -1,9 +1,10 @@
 """Groups: cells of a pattern that belong together over many generations, as defined in
 docs/HAUL-DETAILS.md.
 
-Two cells are in the same group if they are near one another in the same generation or in successive
-generations, or if a chain of such cells links them. A stay is an unbroken range of generations in
-which a cell is alive. A whole stay belongs to one group.
+Two live cells are linked if they are at most two columns and two rows apart, in the same generation
+or in successive generations. Cells that are linked, directly or through others, form a group. A
+stay is an unbroken range of generations in which a cell is alive. A whole stay belongs to one
+group.
 """
 
 from __future__ import annotations
@@ -17,7 +18,7 @@ from haul.life.generations import Rule
 
 # The first and the last generation of a stay.
 Stay = tuple[int, int]
-# Half of the offsets to cells nearby, so that each pair of cells is compared only once.
+# One of each two opposite offsets in `NEAR`, so that each pair of cells is compared only once.
 HALF_OF_NEAR = tuple(step for step in NEAR if step > 0)
 
 

@@ -2,7 +2,7 @@
 
 docs/PROFILE.md has the definition. A bi-block, for example, is two blocks:
 
-    OO.OO    the census counts it as one object, since the blocks are two columns apart;
+    OO.OO    the census counts it as one object, since only one column separates the blocks;
     OO.OO    run by itself, each block does the same as it does beside the other
 """
 
@@ -26,8 +26,8 @@ class Separation:
 
     # The codes of the parts, in ASCII order.
     parts: tuple[str, ...]
-    # `False` if the object couldn't be separated. Then `parts` has the object itself, though it may
-    # have several parts.
+    # `False` if the object couldn't be separated. Then `parts` has only the object itself, even if
+    # the object has several parts.
     is_separated: bool = True
 
     def is_strict(self) -> bool:
@@ -86,8 +86,8 @@ class Separator:
 
     def most_parts(self, blocks: Blocks) -> list[Cells] | None:
         """Returns the parts of the separation with the most blocks, or `None` if there are too many
-        islands to try all separations. If several separations have the most blocks, the one with
-        the lowest codes is chosen."""
+        islands to try all separations. If several separations have the most blocks, the one whose
+        sorted codes come first in ASCII order is chosen."""
         if len(blocks.islands) > MOST_ISLANDS:
             return None
         found = [*blocks.list_separations(), [blocks.object]]

@@ -63,7 +63,8 @@ class QuickSeparator:
         return [list(map(shift_to_corner, parts)) for parts in found if len(parts) == most]
 
     def run(self, bits: int, last: int) -> Generations | None:
-        """Returns generations 0 to `last` of a pattern, or `None` if it dies or leaves its room."""
+        """Returns generations 0 to `last` of a pattern, or `None` if it dies or leaves its room.
+        The room is defined in haul/life/bitmaps.py."""
         outside, generations = ~find_room(bits), [bits]
         for _ in range(last):
             bits = advance(self.rule, bits)
@@ -88,9 +89,9 @@ class QuickSeparator:
         return shapes if is_separation(generations, runs) else None
 
     def run_part(self, shape: int, period: int) -> tuple[Generations, int] | None:
-        """Returns an island at the corner in generations 0 to `period`, and its move. Returns
-        `None` if it leaves its room, doesn't recur in generation `period`, or is a cluster in no
-        phase."""
+        """Runs an island that has been moved to the corner. Returns its generations 0 to `period`,
+        and its move. Returns `None` if it leaves its room, doesn't recur in generation `period`, or
+        is a cluster in no phase."""
         if (shape, period) not in self.known:
             run = self.run(shape, period)
             # mutant: equal because the last generation is the first one again
@@ -102,7 +103,8 @@ class QuickSeparator:
 
 @dataclass
 class QuickBlocks:
-    """The blocks of an object's islands, all in the room of the object."""
+    """The blocks of an object: sets of its islands, each of which may be a part of the object. All
+    blocks are in the room of the object."""
 
     rule: Rule
     generations: Generations
@@ -110,7 +112,7 @@ class QuickBlocks:
     known: dict[Block, Generations | None] = field(default_factory=dict)
 
     def list_separations(self) -> Iterator[list[int]]:
-        """Yields the blocks of each separation that has several blocks."""
+        """Yields each separation of the object into several blocks, as a list of these blocks."""
         return self.completed([], frozenset(range(len(self.islands))))
 
     def completed(self, runs: list[Generations], left: Block) -> Iterator[list[int]]:

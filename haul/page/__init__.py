@@ -1,1 +1,1 @@
-"""The page of `haul page`: a single HTML 5 file that loads nothing."""
+"""The page of `haul page`: a single HTML 5 file that loads no other file."""

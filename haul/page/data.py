@@ -112,8 +112,8 @@ def describe_object(sides: Sides, code: str) -> dict[str, object]:
 
 def describe_rates(sides: Sides, code: str) -> dict[str, object]:
     """Returns the data about the rates of a part. If the reference has the rarity of the parts, the
-    data includes the part's rarity. If hauls are compared, it includes the interval of each haul's
-    rate, and whether the rate differs significantly from the rate in the first haul."""
+    data includes the part's rarity. If hauls are compared, the data includes the interval of each
+    haul's rate, and whether the rate differs significantly from the rate in the first haul."""
     rates: dict[str, object] = {}
     if sides.has_rarity:
         rates["rarity"] = list_part_words(code)
@@ -163,8 +163,8 @@ def count_cells(code: str) -> int | None:
 def list_soups(side: Side, codes: list[str]) -> dict[int, list[object]]:
     """Returns a haul's sample soups for these codes, indexed by number. Each entry has the soup's
     256 cells. If `census` was asked about the soup, the entry also has the checkpoint at which the
-    soup settled, and the fewest and the most live cells there. If these aren't known, the entry has
-    a single zero instead."""
+    soup settled, and the fewest and the most live cells at that checkpoint. If the checkpoint or
+    the cells aren't known, a single zero takes the place of these three numbers."""
     return {
         number: [encode_soup(f"{side.haul.job.seed}{number}"), *describe_end(side, number)]
         for number in side.soups(codes)

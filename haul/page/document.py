@@ -1,4 +1,4 @@
-"""A page about one or several hauls: a single HTML 5 file that loads nothing.
+"""A page about one or several hauls: a single HTML 5 file that loads no other file.
 
 Its script makes the page from the data in the file. For readers without JavaScript, there is a
 table in a `noscript` element.

@@ -104,8 +104,8 @@ def read_life(line: LateLine) -> LongLife:
 
 
 def find_exact_ends(fates: Fates, lives: list[LongLife]) -> Iterator[str]:
-    """Sets the exact generations in which the soups settled, and yields messages about soups whose
-    line in FILE.late is wrong."""
+    """Sets the exact generation in which each soup settled, and its number of live cells then.
+    Yields a message for each soup whose line in FILE.late is wrong."""
     census, job = fates.census, fates.job
 
     def find_end(soups: list[int]) -> tuple[int, int] | None:

@@ -27,7 +27,8 @@ IN_REFERENCE = "In the reference"
 def write_table(sides: Sides) -> Iterator[str]:
     """Yields the table, row by row. It has the first `MOST_ROWS` parts that are on the page. If the
     reference has the rarity of the parts, the page of a single haul shows the rarity instead of how
-    often the haul has a part. The page of several hauls shows it in a column of its own."""
+    often the haul has a part. The page of several hauls shows the rarity in an additional
+    column."""
     is_single = len(sides.all) == 1
     style = "all" if is_single else "all compared"
     heads = ["Picture", "Name and code", "What it is", "Cells"]

@@ -25,7 +25,7 @@ class Side:
     objects: Objects
     # The same haul with each object replaced by its parts.
     by_parts: Haul
-    # The ends of the sample soups about which `census` was asked, or `None` for an unknown end.
+    # The end of each sample soup about which `census` was asked, or `None` if the end isn't known.
     ends: dict[int, End | None] = field(default_factory=dict)
 
     @property
@@ -53,20 +53,20 @@ class Side:
 
 @dataclass
 class Sides:
-    """All hauls of a page, and the codes on it."""
+    """The hauls of a page, and the codes that are on the page."""
 
     all: list[Side]
     # A code is on the page if some haul has at least this many objects or parts with the code.
     least: int
     # The number of parts and objects about whose sample soups `census` is asked.
     play: int
-    # The objects on the page, and the parts on it, the most frequent first.
+    # The codes of the objects and of the parts on the page, the most frequent first.
     codes: list[str]
     parts: list[str]
 
     @cached_property
     def known(self) -> list[str]:
-        """The objects and the parts on the page."""
+        """The codes of the objects and of the parts on the page, each only once."""
         return list(dict.fromkeys([*self.codes, *self.parts]))
 
     def ask(self, census: Census) -> None:
@@ -94,7 +94,7 @@ class Sides:
         return self.comparison.has_rarity()
 
     def kinds(self) -> set[str]:
-        """Returns the codes of all objects, on the page or not."""
+        """Returns the codes of all objects, whether they are on the page or not."""
         return set().union(*(side.haul.totals for side in self.all))
 
     def kinds_of_parts(self) -> set[str]:

@@ -119,7 +119,7 @@ def write_comparison(sides: Sides) -> str:
 
 
 def describe_counting(sides: Sides) -> str:
-    """Returns the end of a sentence, which says what counted the objects of each haul."""
+    """Returns the end of a sentence. It says which program counted the objects of each haul."""
     others = [side for side in sides.all if side.haul.apgsearch]
     words = [] if len(others) == len(sides.all) else [COUNTED]
     words += [f"{describe_apgsearch(side.haul)} ({side.letter})" for side in others]
@@ -127,7 +127,7 @@ def describe_counting(sides: Sides) -> str:
 
 
 def explain(name: str) -> str:
-    """Returns an explanation of a fact, or nothing if the fact needs none."""
+    """Returns an explanation of a fact, or an empty text if the fact needs none."""
     return f"<small>{MEANINGS[name]}</small>" if name in MEANINGS else ""
 
 
@@ -151,7 +151,8 @@ def write_sentence(haul: Haul) -> str:
 
 
 def describe_apgsearch(haul: Haul) -> str:
-    """Returns the end of a sentence, which says what counted the objects of a haul of apgsearch."""
+    """Returns the end of a sentence. It says which version of apgsearch counted the objects of a
+    haul."""
     symmetry = (
         "" if haul.job.symmetry == SYMMETRY else f" with the symmetry {escape(haul.job.symmetry)}"
     )
@@ -182,8 +183,8 @@ def write_tiles(side: Side) -> str:
 
 
 def list_tiles(side: Side) -> list[tuple[str, str, str]]:
-    """Returns the facts about a haul, each with its name, its value and an explanation or an empty
-    text. They are about all objects of the haul, on the page or not."""
+    """Returns the facts about a haul. Each fact has a name, a value, and an explanation that may be
+    empty. All objects of the haul count, whether they are on the page or not."""
     haul = side.haul
     strict = sum(side.separate(code).is_strict() for code in haul.totals)
     return [
@@ -203,7 +204,8 @@ def list_tiles(side: Side) -> list[tuple[str, str, str]]:
 
 
 def list_end_tiles(haul: Haul) -> list[tuple[str, str, str]]:
-    """Returns the facts about how the soups ended. A haul of apgsearch doesn't have these facts."""
+    """Returns the facts about how the soups ended. A haul of apgsearch doesn't have these facts, so
+    their values are dashes."""
     profile, others = haul.job.profile, haul.soups - haul.unsettled - haul.for_good
     if haul.apgsearch:
         return [
@@ -222,7 +224,8 @@ def list_end_tiles(haul: Haul) -> list[tuple[str, str, str]]:
 
 
 def has_missing_soups(haul: Haul) -> bool:
-    """Checks whether a haul lacks soups of its set. A haul of apgsearch doesn't name its set."""
+    """Checks whether a haul lacks soups of its set. Returns `False` for a haul of apgsearch, which
+    doesn't name its set."""
     return not haul.apgsearch and haul.soups < haul.size()
 
 

@@ -8,7 +8,7 @@ from collections.abc import Iterable, Iterator
 from haul.patterns.rle import LINE_LENGTH, format_run
 from haul.patterns.rules import format_rule
 
-# The columns of the live cells, indexed by their row.
+# The columns of the live cells, indexed by row.
 Columns = dict[int, set[int]]
 # A number has at most 15 digits.
 NUMBER = rb"(0|-?[1-9][0-9]{0,14})"

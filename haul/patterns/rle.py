@@ -13,8 +13,8 @@ from haul.patterns.rules import format_rule, parse_rule
 
 # The longest line to write.
 LINE_LENGTH = 70
-# A longer count is cut to this many digits. It is still too large for live cells, and dead cells
-# are only skipped.
+# A longer count is cut to this many digits. The cut count is still larger than the side of any
+# pattern.
 # mutant: equal because a longer count is too large, however many of its digits are read
 COUNT_DIGITS = 20
 

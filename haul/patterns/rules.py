@@ -11,8 +11,8 @@ SURVIVALS_FIRST = re.compile(r"(?P<survivals>[0-8]*)/(?P<births>[0-8]*)")
 
 
 def parse_rule(rule: str) -> str | None:
-    """Reads a rule in any of this module's notations, as in the header of RLE. Returns it as a
-    value of `--rule`, or `None` if it isn't a known rule."""
+    """Reads a rule in any notation of this module. Returns the rule as a value of `--rule`, or
+    `None` if the text isn't a known rule."""
     found = BIRTHS_FIRST.fullmatch(rule) or SURVIVALS_FIRST.fullmatch(rule)
     if found is None:
         return find_named_rule(rule)

@@ -1,4 +1,5 @@
-"""Finds out whether `census` counts objects of a code, so that the reference can have them."""
+"""Finds out whether `census` counts the objects of a code. Only then can the reference have
+them."""
 
 from __future__ import annotations
 

@@ -12,8 +12,8 @@ STARRED_BELOW = 0.001
 def compute_p_value(one: float, soups: int, other: float, other_soups: int) -> float | None:
     """Returns the p-value of the counts `one` in `soups` soups and `other` in `other_soups` soups,
     or `None` if either number of soups is 0. The counts needn't be whole numbers. If the rates are
-    equal, the first count has a binomial distribution, given the sum of both. The probability of
-    the count itself is halved (mid-P)."""
+    equal, the first count has a binomial distribution, given the sum of both counts. The
+    probability of exactly the first count is halved (mid-P)."""
     if not soups or not other_soups:
         return None
     if not one + other:

@@ -82,8 +82,8 @@ def list_gamma_terms(a: float, x: float) -> Iterator[tuple[float, float]]:
 
 
 def evaluate(terms: Iterator[tuple[float, float]], first: float = 1.0) -> float:
-    """Returns the value of a continued fraction with Lentz's algorithm. `first` is the number in
-    front of the first fraction."""
+    """Returns the value of a continued fraction, computed with Lentz's algorithm. `first` is the
+    number in front of the first fraction."""
     value = above = first or TINY
     below = 0.0
     for numerator, denominator in terms:

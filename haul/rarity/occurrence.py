@@ -10,7 +10,8 @@ from math import expm1, log, sqrt
 from haul.rarity.incomplete import compute_beta, compute_beta_density
 
 TAIL = 0.025
-# The quantile of the normal distribution for `TAIL`, from which the search starts.
+# The quantile of the normal distribution for `TAIL`. With it, `find_beta_quantile` chooses where to
+# start its search.
 # mutant: equal because the search finds the same value from any start
 DEVIATIONS = 1.96
 # The search ends at a step that is smaller than this, relative to the value.
@@ -36,7 +37,7 @@ class Occurrence:
         return 1 / find_share_high(self.having, self.soups)
 
     def one_in_high(self) -> float | None:
-        """Returns the high end of the interval of N, or `None` if there is no high end."""
+        """Returns the high end of the interval of N, or `None` if no soup has the object."""
         return 1 / find_share_low(self.having, self.soups) if self.having else None
 
     def describe(self) -> str:
@@ -72,7 +73,7 @@ def find_share_low(having: int, soups: int) -> float:
 
 @cache
 def find_beta_quantile(a: int, b: int, chance: float, deviations: float) -> float:
-    """Returns the argument at which the incomplete beta function has the value `chance`, with
+    """Returns the argument at which the incomplete beta function has the value `chance`, found with
     Newton's method in a shrinking interval. The search starts `deviations` standard deviations
     above the mean."""
     low, high, mean = 0.0, 1.0, a / (a + b)

@@ -29,7 +29,7 @@ DIGEST = "ec1175e92f017a496bd5884bd95b6e0bb70dcfe76f5d134a51f04095f6542149"
 class Entry:
     """The row of a part in the reference."""
 
-    # The number of these parts in all soups together. For `squares`, the number in each soup is
+    # The number of such parts in each soup, summed over all soups. For `squares`, each number is
     # squared before the sum is taken.
     total: int
     squares: int

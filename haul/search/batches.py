@@ -1,4 +1,5 @@
-"""The running batches of a search. With more than sixteen workers, several batches run at once."""
+"""The batches of a search that have been started. With more than sixteen workers, several batches
+run at once."""
 
 from __future__ import annotations
 
@@ -28,12 +29,12 @@ class Plan:
 
     # The number of the next soup.
     next: int
-    # The number of soups at which the search ends, or `None` if it has no end.
+    # The number of soups at which the search ends, or `None` if there is no limit.
     until: int | None
     # The number of soups in a batch.
     batch_size: int
     workers: int
-    # The program to call for each find.
+    # The program to call for each find, or `None` if none is called.
     finds: str | None
     # Under Life, a part is a find only if fewer than one in this many soups of the reference has
     # it.
@@ -135,7 +136,7 @@ class Batches:
             self.queue.popleft().call.end()
 
     def soups(self) -> int:
-        """Returns the number of soups that the batches have run so far."""
+        """Returns the number of soups that the batches in the queue have run."""
         return sum(batch.call.soups() if batch.workers else batch.count for batch in self.queue)
 
     def soups_left(self) -> int:

@@ -22,7 +22,7 @@ Read = TypeVar("Read")
 
 
 class Companion:
-    """A file beside FILE. Its name is the name of FILE followed by a suffix."""
+    """A file beside FILE. Its name is the name of FILE, followed by a dot and a suffix."""
 
     def __init__(
         self,

@@ -36,7 +36,7 @@ def format_time() -> str:
 
 @dataclass(frozen=True)
 class Find:
-    """A find: the code of a part, and the lowest soup of its batch that left it."""
+    """A find: the code of a part, and the number of the first soup that left the part."""
 
     code: str
     soup: int
@@ -130,8 +130,8 @@ class Finder:
         new = [(code, soups[0]) for code, soups in haul.samples.items() if soups[0] >= first]
         self.separator = Separator(read_rule(job.rule))
         self.common = list_common_parts(rarer) if job.rule == LIFE else frozenset()
-        # Under another rule or profile, the finds of the first batch aren't reported, since almost
-        # every part in that batch would be a find.
+        # Except under Life with the standard profile, the finds of the first batch aren't reported,
+        # since almost every part in that batch would be a find.
         self.is_silent = (job.rule != LIFE or job.profile != STANDARD) and haul.soups == 0
         # Objects that aren't new, and whose parts aren't known yet.
         self.unread = Unread(haul.totals.keys() - {code for code, _ in new})
@@ -185,9 +185,9 @@ class Finder:
         )
 
     def is_new(self, part: str) -> bool:
-        """Checks whether a part is neither common nor known, and isn't itself an unread object. An
-        unread object with the part's code has only itself as a part, since a part can't be
-        separated further."""
+        """Checks whether a part is neither common, nor known, nor itself an unread object. An
+        unread object with the part's code has this part, since a part can't be separated further.
+        In that case, the part isn't new."""
         return part not in self.common and part not in self.known and part not in self.unread
 
     def parts_of(self, code: str) -> tuple[str, ...]:

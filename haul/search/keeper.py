@@ -83,7 +83,7 @@ class Keeper:
 
     def read(self) -> Haul | None:
         """Returns the haul in the file, or `None` if there is no file. Raises `CantKeep` if the
-        file isn't a single haul without missing soups."""
+        file isn't a single haul, or if soups are missing from the haul."""
         try:
             with open(self.path, "rb") as file:
                 self.known = make_stamp(os.fstat(file.fileno()))
@@ -98,10 +98,10 @@ class Keeper:
         return haul
 
     def write(self, haul: Haul, beside: Sequence[Beside] = ()) -> None:
-        """Replaces the files in `beside` whose lines have changed, and then the haul's file. This
-        file keeps its old text until the new text is safely on disk, even if this call fails with
-        `OSError`. Raises `Displaced` if another program has changed the file since it was last read
-        or written here."""
+        """Replaces the files in `beside` whose lines have changed, and then the haul's file. The
+        haul's file keeps its old text until the new text is safely on disk, even if this call fails
+        with `OSError`. Raises `Displaced` if another program has changed the haul's file since it
+        was last read or written here."""
         self.refuse_changes(haul, beside)
         with write_new_text(self.path, write_lines(haul), self.path) as stamp:
             for one in beside:
@@ -112,8 +112,8 @@ class Keeper:
         self.known = stamp
 
     def refuse_changes(self, haul: Haul, beside: Sequence[Beside]) -> None:
-        """If another program has changed the file, writes the haul beside it and raises
-        `Displaced`."""
+        """Checks whether another program has changed the file. If so, writes the haul beside the
+        file and raises `Displaced`."""
         if find_stamp(self.path) != self.known:
             name = self.write_mine(haul, beside)
             reason = f"changed by another program, so the haul of this search is in {name}"
@@ -121,8 +121,9 @@ class Keeper:
 
     def write_mine(self, haul: Haul, beside: Sequence[Beside]) -> str:
         """Writes a haul to FILE.mine, or to FILE.mine.2 and so on if FILE.mine or a file beside it
-        exists. From now on, the files in `beside` are kept beside the new file. They are written
-        there if they have changed or are always there. Returns the path of the haul."""
+        exists. From now on, the files in `beside` are kept beside the new file. Those that have
+        changed, and those that are always there, are written at once. Returns the path of the
+        haul."""
         for number in itertools.count(1):
             end = ".mine" + (f".{number}" if number > 1 else "")
             name = self.path + end

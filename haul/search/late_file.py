@@ -51,9 +51,9 @@ class Late:
         return line.settled is None or line.settled >= self.generation
 
     def add(self, lines: Iterable[LateLine], left_out: int = 0) -> bool:
-        """Adds lines in ascending order. Their soups must have higher numbers than the soups of the
-        earlier lines. `left_out` is the number of lines that their batch has left out. Returns
-        whether there were any lines, left out or not."""
+        """Adds the lines of a batch. The numbers of their soups must ascend, and be higher than
+        those of the earlier lines. `left_out` is the number of further lines that the batch has
+        left out. Returns whether the batch had any lines, left out or not."""
         before = len(self.lines) + self.left_out
         self.left_out += left_out
         for line in lines:

@@ -1,4 +1,5 @@
-"""Finds the late and unsettled soups of a search, which FILE.late keeps."""
+"""The late and unsettled soups of a search: opens FILE.late, which keeps them, and reads the report
+lines of each batch. A soup is late if it settles in a given generation or later."""
 
 from __future__ import annotations
 
@@ -16,7 +17,7 @@ from haul.search.finds import format_time
 from haul.search.keeper import CantKeep
 from haul.search.untold import is_in
 
-# Stands for `--late never`: no late soups are kept.
+# Stands for `--late never`: neither late nor unsettled soups are kept.
 NEVER = -1
 # The default of `--late` under Life: the first generation that is late.
 USUAL_LATE = 12_000
@@ -26,9 +27,9 @@ UNSETTLED, SETTLED = "unsettled", "settled"
 def open_late(
     asked: argparse.Namespace, haul: Haul, next_soup: int, kept: Companion
 ) -> Late | None:
-    """Returns the late soups with which a search continues, or `None` if it keeps none. Raises
-    `CantKeep` if the generation in the arguments is lower than that of the file, and the file
-    covers soups of the haul."""
+    """Returns the late and unsettled soups with which a search continues. For `--late never`,
+    removes FILE.late and returns `None`. Raises `CantKeep` if `--late` gives a lower generation
+    than FILE.late, and FILE.late covers soups of the haul."""
     if asked.late == NEVER:
         kept.remove()
         return None
@@ -55,8 +56,8 @@ def open_late(
 
 
 def find_other_file(late: Late, job: Job | None, haul: Haul, next_soup: int) -> str | None:
-    """Returns why the lines can't be about soups of a haul, or `None` if they can be. There may be
-    lines of soups after the haul, since a search that was killed may have written them."""
+    """Returns why FILE.late can't belong to a haul, or `None` if there is no reason. FILE.late may
+    have lines about soups after the haul, since a search that was killed may have written them."""
     if job not in (None, haul.job):
         return "other job"
     for line in late.lines:
@@ -66,7 +67,7 @@ def find_other_file(late: Late, job: Job | None, haul: Haul, next_soup: int) -> 
 
 
 def list_late_finds(job: Job, lines: BatchLines, latest: int) -> list[list[str]]:
-    """Returns the fields of the line about each late or unsettled soup of a batch. `latest` is the
+    """Returns the fields of a line for each late or unsettled soup of a batch. `latest` is the
     latest checkpoint of the late soups before the batch, or -1 if there are none."""
     now = format_time()
     finds: list[list[str]] = []
@@ -84,8 +85,8 @@ class BatchLines:
     """The report lines of a batch that has ended."""
 
     def __init__(self, call: BackgroundTake, haul: Haul, generation: int, path: str) -> None:
-        """Reads the lines. Raises `NoCensus`, with the path of the program, if they aren't the
-        lines of the late and the unsettled soups of the haul."""
+        """Reads the lines of a call whose haul is `haul`. Raises `NoCensus`, with the path of the
+        program, if they aren't the lines of the haul's late and unsettled soups."""
         lines = sorted(call.reports)[:MOST_LINES]
         read = [read_line(text, haul.job, generation) for _, text in lines]
         self.lines = [line for line in read if line is not None]

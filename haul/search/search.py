@@ -7,8 +7,8 @@ The census program takes one batch of soups after another, each in one call of `
     ..
 
 With more than sixteen workers, several batches run at once. They are added in the order of their
-soups. One thread does everything except for running soups. While batches run, it looks for finds,
-one object at a time, and waits for streams.
+soups. One thread does everything except for running soups. While batches run, this thread looks for
+finds in short steps, and waits for output of the programs and for signals.
 """
 
 from __future__ import annotations
@@ -37,8 +37,8 @@ from haul.search.stopping import Stopping
 from haul.search.telling import Telling
 from haul.search.untold import Untold
 
-# At most a fiftieth of the running time is spent on writing the file, unless batches have waited
-# for ten minutes.
+# At most a fiftieth of the running time is spent on writing the file. But if finished batches wait
+# to be written, the file is written at least every ten minutes.
 SHARE_OF_WRITING, MOST_SECONDS_UNKEPT = 50, 600.0
 # The longest time to wait for streams, and the longest time to look for finds before checking the
 # streams again.
@@ -63,7 +63,7 @@ class Kept:
 
     keeper: Keeper
     haul: Haul
-    # FILE.late and its soups, which are `None` if they aren't kept.
+    # FILE.late, and its soups (`None` if the search keeps no late soups).
     late_file: Companion
     late: Late | None
     # FILE.finds, and what the previous search hadn't reported.
@@ -90,8 +90,8 @@ class Search:
         self.objects = haul.objects()
         # The number of soups in the batches that this search has finished.
         self.run_soups = 0
-        # The new codes of the batches that aren't in the file yet, and the fields of the lines
-        # about the late soups of these batches.
+        # For the batches that aren't in the file yet: their new codes, and the fields of the lines
+        # about their late and unsettled soups.
         self.unkept: list[NewOfBatch] = []
         self.unkept_late: list[list[str]] = []
         self.waiter = StreamWaiter()
@@ -108,7 +108,7 @@ class Search:
         self.writing = self.latest_writing = 0.0
 
     def run(self) -> None:
-        """Takes soups until the haul has as many as it should, or until the search is stopped.
+        """Takes soups until the haul has as many soups as planned, or until the search is stopped.
         Raises `Dropped` if a signal ends the search at once."""
         try:
             try:
@@ -214,8 +214,8 @@ class Search:
         self.late_is_changed = False
 
     def list_untold(self, batches: list[NewOfBatch], late: list[list[str]]) -> Untold:
-        """Returns what would be lost if the search ended after these batches and these late soups
-        have been written to the files."""
+        """Returns what the search hasn't reported yet, including these late soups and the possible
+        finds of these batches."""
         since = [new.first for new in self.finder.queue]
         told = batches[1:] if self.finder.is_silent else batches
         since += [first for first, codes in told if codes]
@@ -261,12 +261,12 @@ class Search:
                 self.waiter.wait(0)
 
     def has_told(self) -> bool:
-        """Checks whether all finds have been found and printed, or can't be printed. Calls of the
-        program for finds may remain."""
+        """Checks whether all finds have been found and printed, or printing has failed. Calls of
+        the `--finds` program may remain."""
         return self.telling.is_done() and (self.finder.is_done() or self.telling.has_failed)
 
     def find_for(self, seconds: float) -> None:
-        """Looks for finds and reports them, for at most `seconds` seconds."""
+        """Looks for finds and reports them, for about `seconds` seconds."""
         end = time.monotonic() + seconds
         while not self.has_told() and time.monotonic() < end:
             if not self.telling.is_done():
@@ -276,8 +276,9 @@ class Search:
                     self.telling.add(find.fields(self.job))
 
     def report_rest(self) -> None:
-        """Reports the remaining finds and waits for the calls of the program for finds. After a
-        signal that ends the search at once, reports what it can in one second and calls nothing."""
+        """Reports the remaining finds and waits for the calls of the `--finds` program. After a
+        signal that ends the search at once, reports what it can in one second and makes no
+        calls."""
         began = time.monotonic()
 
         def is_reported() -> bool:

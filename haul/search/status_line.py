@@ -9,7 +9,7 @@ from dataclasses import dataclass
 from haul.plurals import pluralize, write_count
 from haul.terminal import Terminal
 
-# How often the status is shown.
+# The time from one status to the next.
 SECONDS_ON_A_TERMINAL, SECONDS_ELSEWHERE = 1.0, 60.0
 
 
@@ -45,7 +45,7 @@ class Status:
         return ", ".join([*words, *self.time_left()])
 
     def short_text(self) -> str:
-        """Returns the same facts as `text`, with three digits of each number, for a narrow
+        """Returns the same facts as `text`, with numbers rounded to three digits, for a narrow
         terminal."""
         numbers = (
             (self.soups, "soup"),
@@ -79,8 +79,8 @@ def format_duration(seconds: float) -> str:
 
 
 def format_short(number: int) -> str:
-    """Returns a number with three digits, such as `12.3M`, or unchanged if it is below a
-    thousand."""
+    """Returns a number rounded to three digits, such as `12.3M`. A number below a thousand is
+    returned unchanged."""
     if number < 1000:
         return str(number)
     # Rounded to three digits, 999,500 is a million.
@@ -89,7 +89,7 @@ def format_short(number: int) -> str:
 
 
 class StatusLine:
-    """Shows the status from time to time."""
+    """Shows the status at regular intervals."""
 
     def __init__(self, terminal: Terminal) -> None:
         self.terminal = terminal

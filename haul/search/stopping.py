@@ -7,15 +7,15 @@ import signal
 import time
 from contextlib import suppress
 
-# After a signal to end at once, the work has this many seconds. A further signal after that ends
-# the program.
+# After a signal to end at once, the work has this many seconds to end. A signal that comes later
+# ends the program.
 SECONDS_TO_END = 10.0
 
 
 class Stopping:
-    """The signals so far. The first Ctrl-C asks the work to finish what is running. Any other
-    signal asks the work to drop what is running. When the work has ended, that signal ends the
-    program."""
+    """The signals that have come. The first Ctrl-C asks the work to finish what is running. Any
+    other signal asks the work to drop what is running, and also ends the program when the work has
+    ended."""
 
     def __init__(self) -> None:
         self.finishes = False

@@ -1,4 +1,4 @@
-"""Reports finds: prints each one, and queues a call of the program for finds."""
+"""Reports finds: prints each find, and queues a call of the `--finds` program for it."""
 
 from __future__ import annotations
 
@@ -9,8 +9,8 @@ from haul.plurals import write_count
 from haul.search.find_calls import FindCalls
 from haul.terminal import Terminal
 
-# If the reference doesn't have a find, the last field of the find's line begins with `none`. On a
-# terminal, such a line begins with a mark.
+# The last field of a line about a find begins with `none` if the reference census doesn't have the
+# find. On a terminal, a mark is printed before such a line.
 UNKNOWN_MARK, UNKNOWN = "!", "none"
 
 

@@ -13,7 +13,7 @@ from haul.formats.syntax import RULE, SEED
 from haul.plurals import pluralize, write_count
 from haul.search.companion import Companion
 
-# The most lines that are kept.
+# The most finds that the file keeps.
 MOST_LINES = 100_000
 SOUP = rb"(0|[1-9][0-9]{0,12})"
 HEADER = re.compile(
@@ -28,7 +28,7 @@ HEADER = re.compile(
     + rb")\n"
 )
 FIND = re.compile(rb"(?:[ -~]+\t){3}" + SOUP + rb"(?:\t[ -~]+){2}\n")
-# The place of the soup in the fields of a find.
+# The index of the soup's number among the fields of a find.
 SOUP_FIELD = 3
 
 
@@ -51,7 +51,7 @@ class Untold:
         return self.since == NUMBER_LIMIT and not self.finds
 
     def write(self) -> Iterator[bytes]:
-        """Yields the lines of the text."""
+        """Yields the lines of FILE.finds."""
         left_out = self.left_out + max(0, len(self.finds) - MOST_LINES)
         job = f"rule={self.job.rule} profile={self.job.profile.format()} seed={self.job.seed}"
         yield f"# finds since {self.since} left-out {left_out} {job}\n".encode("ascii")

@@ -30,9 +30,10 @@ def make_stamp(found: os.stat_result) -> Stamp:
 
 @contextmanager
 def write_new_text(path: str, lines: Iterable[bytes], rights_of: str) -> Iterator[Stamp | None]:
-    """Writes a new text for a file, with the permissions of the file `rights_of`, and yields what
-    will identify the new version. Afterwards the text replaces the file. The file keeps its old
-    text until the new text is safely on disk, even if an exception is raised."""
+    """Writes a new text beside a file, with the permissions of the file `rights_of`, and yields
+    what will identify the new version. When the context is left, the new text replaces the file.
+    The file keeps its old text until the new text is safely on disk, even if an exception is
+    raised."""
     new = f"{path}.new"
     # A search that was killed may have left a new text behind.
     with suppress(FileNotFoundError):
@@ -103,8 +104,8 @@ def move_aside(path: str) -> str:
 
 
 def sync_folder(path: str) -> None:
-    """Makes sure that a new name in a folder is on disk, except on file systems that can't do that
-    for a folder."""
+    """Makes sure that changes to the names in a folder are on disk, except on file systems that
+    can't do that for a folder."""
     folder = os.open(path, os.O_RDONLY | os.O_DIRECTORY | os.O_CLOEXEC)
     try:
         os.fsync(folder)

@@ -1,2 +1,2 @@
-"""The tests of `haul`, which `python3 -m unittest discover` also finds. Most tests need the built
-program."""
+"""The tests of `haul`. `python3 -m haul.tests` runs them, and `python3 -m unittest discover` finds
+them, too. Most tests need the built census program."""

@@ -1,4 +1,4 @@
-"""Calls the built program and the companion as a user would."""
+"""Functions that call the built census program, and `haul`, as a user would."""
 
 from __future__ import annotations
 
@@ -26,8 +26,8 @@ from haul.tests.forked import go_on
 TOP = Path(__file__).resolve().parents[2]
 CENSUS = str(TOP / "crates" / "census" / "out" / "census")
 HAUL = str(TOP / "bin" / "haul")
-# The path that the companion would have if it were installed beside the built program. When it is
-# called by this path, no launcher checks whether the program must be built.
+# The path that `haul` would have if it were installed beside the built program. If `haul` is called
+# by this path, no launcher checks whether the program must be built.
 INSTALLED_HAUL = str(Path(CENSUS).with_name("haul"))
 # A terminal that discards its output.
 QUIET = Terminal(io.StringIO())
@@ -52,8 +52,9 @@ def taken(count: int) -> bytes:
 
 
 def run(*words: str, text: bytes = b"", cwd: str | None = None) -> tuple[int, str, str]:
-    """Calls `haul` in this process. Returns its status and what it prints on both streams. Some
-    tests, such as those in test_packed.py, start `haul` in a process of its own instead."""
+    """Calls `haul` in this process. Returns its status and what it prints to standard output and
+    standard error. Some tests, such as those in test_packed.py, start `haul` in a process of its
+    own instead."""
     output, errors = (
         io.TextIOWrapper(io.BytesIO(), "utf-8", "surrogateescape", "\n") for _ in range(2)
     )

@@ -1,5 +1,5 @@
-"""Random hauls, the same in each run of the tests. Their form is valid, but the totals and samples
-aren't those of their soups."""
+"""Random hauls, the same in each run of the tests. They are in the format of a haul, but a census
+of their soups would give other totals and samples."""
 
 from __future__ import annotations
 

@@ -62,11 +62,11 @@ class FailingCalls:
 def failing_calls(
     number: int, error: int | None, is_single: bool, failed: Path, begins: Path | None = None
 ) -> Iterator[None]:
-    """Makes calls fail in each process that is forked in this context: the call with this number,
-    and all later calls unless `is_single` is set. They fail with this error. If the error is
-    `None`, the process is killed instead. The calls are counted from the moment when the file
-    `begins` exists, or from the fork if `begins` is `None`. The file `failed` is made when a call
-    fails."""
+    """Makes calls of the functions in `CALLS` fail in each process that is forked in this context:
+    the call with the number `number`, and all later calls unless `is_single` is set. They fail with
+    `error`. If `error` is `None`, the process is killed instead. Each process counts its calls,
+    beginning with 1, from the moment when the file `begins` exists, or from the fork if `begins` is
+    `None`. The file `failed` is made when a call fails."""
     failing = FailingCalls(number, error, is_single, failed, begins)
     with ExitStack() as stack:
         for name in CALLS:

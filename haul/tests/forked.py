@@ -11,19 +11,20 @@ import traceback
 from collections.abc import Callable
 from typing import NoReturn
 
-# Files with numbers from 3 to `FILES - 1` are closed.
+# A forked process closes its files with the numbers 3 to `FILES - 1`.
 FILES = 100
 
 
 def go_on(work: Callable[[], int]) -> NoReturn:
-    """Does the work as if Python had just been started for it, and ends with the returned status.
-    Call this from the `preexec_fn` of a call of `subprocess`. `subprocess` then takes this process
-    for the program that it has started. Its streams, folder and session are those of the call, and
-    its output and its end are treated like those of any program."""
+    """Does the work as if Python had just been started for it, and ends the process with the status
+    that the work returns. Call this from the `preexec_fn` of a call of `subprocess`. `subprocess`
+    then takes this process for the program that it has started. The streams, the folder and the
+    session of this process are those of the call, and its output and its end are treated like those
+    of any program."""
     status = 1
     try:
-        # Objects that are garbage now would close their files later, when the numbers belong to
-        # other files.
+        # Objects that are garbage now would close their files later, when other files have the
+        # numbers of these files.
         gc.freeze()
         gc.enable()
         # `subprocess` waits until one of these files is closed, as happens when a program starts.

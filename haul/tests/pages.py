@@ -1,5 +1,5 @@
-"""Functions that make pages for tests and read their parts, mainly the table for readers without
-scripts and the data of the script."""
+"""Functions that make pages of hauls for tests, and read parts of these pages: mainly the table for
+browsers without scripts, and the data of the page's script."""
 
 from __future__ import annotations
 
@@ -24,7 +24,7 @@ def compared(*hauls: Haul, least: int = 1, play: int = 0) -> str:
 
 
 def data_of(text: str) -> dict[str, Any]:
-    """Returns the data of a page."""
+    """Returns the data that the script of a page reads."""
     found: dict[str, Any] = json.loads(
         re.findall('<script type="application/json" id="data">(.*?)</script>', text, re.DOTALL)[0]
     )
@@ -40,12 +40,12 @@ RATES = ("rarity", "ends", "stars")
 
 
 def without_rates(one: dict[str, Any]) -> dict[str, Any]:
-    """Returns an object of a page without the data about the rates of parts."""
+    """Returns an object of a page without its rarity, its intervals and its stars."""
     return {name: value for name, value in one.items() if name not in RATES}
 
 
 def before_table(text: str) -> str:
-    """Returns the text of a page before its table."""
+    """Returns the text of a page's body before its table."""
     return text.partition("<noscript>")[0].partition("<body>")[2]
 
 

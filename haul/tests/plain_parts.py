@@ -1,5 +1,5 @@
-"""Separation by brute force, written only from the definition in docs/PROFILE.md. It shares no code
-with the program."""
+"""Separation of objects into parts by brute force, written only from the definition in
+docs/PROFILE.md. It shares no code with the program."""
 
 from __future__ import annotations
 
@@ -160,7 +160,8 @@ def partitions(things: list[int]) -> Iterator[list[list[int]]]:
 
 
 def parts_of(rule: Rule, code: str) -> tuple[list[str], bool, bool]:
-    """Returns the parts of an object, whether it is strict, and whether it is separated."""
+    """Returns the parts of an object, whether the object is strict (has only one part), and whether
+    it has been separated."""
     itself = [code], False, False
     match = re.fullmatch("x([spq])([0-9]+)_([0-9a-z]+)", code)
     found = recurring(rule, drawing_of(match[3])) if match else None

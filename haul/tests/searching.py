@@ -53,7 +53,7 @@ def make_search(
 
 
 class Searches(unittest.TestCase):
-    """Runs searches in a folder of its own. Each search must leave nothing running."""
+    """The base of tests that run searches in a folder of their own."""
 
     def setUp(self) -> None:
         folder = tempfile.TemporaryDirectory(ignore_cleanup_errors=True)
@@ -108,7 +108,8 @@ class Searches(unittest.TestCase):
         file: str = "mine.haul",
         most_bytes: int | None = None,
     ) -> tuple[int, str, str]:
-        """Runs a search. Returns its status and what it prints on both streams."""
+        """Runs a search. Returns its status and what it prints to standard output and standard
+        error."""
         with self.start(
             *words, program=program, file=file, most_bytes=most_bytes, is_forked=most_bytes is None
         ) as running:

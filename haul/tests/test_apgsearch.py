@@ -56,7 +56,8 @@ class Apgsearch(unittest.TestCase):
         return told.removeprefix(f"haul: {words[-1]}: ").removesuffix("\n")
 
     def test_table(self) -> None:
-        """The totals are already by parts. Objects that `census` doesn't count have no rarity."""
+        """`haul table` prints the totals unchanged, since apgsearch counts parts. Objects that
+        `census` doesn't count have no rarity."""
         status, printed, told = run("table", "--csv", self.file)
         self.assertEqual((status, told), (0, ""))
         rows = {row["code"]: row for row in csv.DictReader(printed.splitlines())}
@@ -75,7 +76,8 @@ class Apgsearch(unittest.TestCase):
         )
 
     def test_variations(self) -> None:
-        """Carriage returns, blank lines and unknown lines change nothing."""
+        """`haul table` prints the same if the file has carriage returns, blank lines, unknown
+        lines, the rule in another notation, or no line feed at its end."""
         printed = run("table", self.file)
         for name, text in (
             ("returns", TEXT.replace("\n", "\r\n")),
@@ -89,7 +91,7 @@ class Apgsearch(unittest.TestCase):
 
     def test_compare(self) -> None:
         """A haul of apgsearch can be compared with a haul of `census`. A star marks a rate that
-        differs significantly, given the dispersion in the reference."""
+        differs significantly from the rate in the first haul."""
         own = self.folder / "own"
         own.write_bytes(census("take", "--count", "100"))
         status, printed, told = run("compare", str(own), self.file)
@@ -144,7 +146,8 @@ class Apgsearch(unittest.TestCase):
             )
 
     def test_samples(self) -> None:
-        """Each sample soup is run. The codes that `census` doesn't count are listed."""
+        """`haul check --samples` runs each sample soup, and lists the codes that `census` doesn't
+        count."""
         status, printed, told = run("check", "--samples", self.file)
         self.assertEqual((status, printed), (0, "right\n"))
         self.assertEqual(
@@ -178,8 +181,8 @@ class Apgsearch(unittest.TestCase):
         # With `--first 1`, other soups are run, so the totals differ.
         status, printed, _ = run("check", "--totals", "--first", "1", self.write("same", same))
         self.assertEqual(status, 7)
-        # In the next call, the last soup has the highest number that is allowed. In the call after
-        # that, the number is too high by one.
+        # In the next call, the number of the last soup is the highest that is allowed. In the call
+        # after that, it is too high by one.
         status, _, told = run("check", "--totals", "--first", str(2**40 - 100), self.file)
         self.assertEqual((status, told), (7, ""))
         status, printed, told = run("check", "--totals", "--first", str(2**40 - 99), self.file)
@@ -234,6 +237,9 @@ class Apgsearch(unittest.TestCase):
                 self.assertIn(old, TEXT)
                 told = self.refused("table", self.write(name, TEXT.replace(old, new, 1)))
                 self.assertTrue(told.startswith(f"bad haul at {why}"), told)
+        twice = TEXT.replace("@NUM_SOUPS 100", "@NUM_SOUPS many").replace("xs4_33 665", "xs4_33 0")
+        told = self.refused("table", self.write("two faults", twice))
+        self.assertTrue(told.startswith("bad haul at line 6 column 12: no number"), told)
         short = self.refused("table", self.write("short", HEAD))
         self.assertEqual(short, "bad haul at line 8 column 1: no line @CENSUS")
         for text in (TEXT + "x" * 2**21, HEAD + "@MORES" + " x" * (2**19 - 3) + "\n" + TABLE):
@@ -241,7 +247,8 @@ class Apgsearch(unittest.TestCase):
             self.assertIn(" column 1048576: the line is too long", long)
 
     def test_limits(self) -> None:
-        """The longest words and lines, and the largest numbers."""
+        """`haul table` accepts words and lines of the greatest allowed length, and the largest
+        allowed numbers."""
         for text in (
             TEXT.replace("PATHOLOGICAL", "z" * 1000),
             TEXT.replace("xs4_33 1 2", f"xs4_33 1 {2**40 - 1}"),
@@ -251,9 +258,8 @@ class Apgsearch(unittest.TestCase):
             self.assertEqual(run("table", self.write("limit", text))[0], 0)
 
     def test_what_texts_look_like(self) -> None:
-        """If a text isn't a haul, the message says what the text looks like, if that is known.
-        `soups` expects report lines, and says so if it is given a haul.
-        """
+        """If a text isn't a haul, but looks like a text in another known format, the message names
+        this format. `haul soups` expects report lines, and says so if it is given a haul."""
         own = census("take", "--count", "1").decode()
         for name, text, form in (
             ("lines", census("work", "--worker=1", "--count=1").decode(), "report lines"),

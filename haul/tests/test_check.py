@@ -1,4 +1,4 @@
-"""`haul check` of several files, and of randomly chosen ones."""
+"""`haul check` of several files, and of files that are chosen at random."""
 
 from __future__ import annotations
 
@@ -23,7 +23,8 @@ MISSING = "haul with missing soups, which can't be taken again; --samples runs i
 
 
 class Several(unittest.TestCase):
-    """Four right hauls, a wrong one, a text that isn't a haul, and a haul with missing soups."""
+    """Checks several files: four correct hauls, an incorrect one, a text that isn't a haul, and a
+    haul with missing soups."""
 
     def setUp(self) -> None:
         folder = tempfile.TemporaryDirectory()
@@ -135,7 +136,8 @@ class Choices(unittest.TestCase):
         self.assertEqual(chosen, sorted(chosen, key=self.NAMES.index))
         self.assertEqual(set(FileChoice(self.NAMES[::-1], 20, "x").choose()), set(chosen))
         self.assertNotEqual(FileChoice(self.NAMES, 20, "y").choose(), chosen)
-        # The digests are those of sha256sum: for n in a b c; do printf 'x %s' $n | sha256sum; done
+        # The file with the lowest digest is chosen. This command prints the digests:
+        # for n in a b c; do printf 'x %s' $n | sha256sum; done
         self.assertEqual(FileChoice(["a", "b", "c"], 1, "x").choose(), ["b"])
 
     def test_each_file_is_as_likely(self) -> None:
@@ -153,8 +155,8 @@ class Choices(unittest.TestCase):
         self.assertEqual(FileChoice(["a", "a"], 2, "x").choose(), ["a", "a"])
 
     def test_the_chance_to_miss(self) -> None:
-        """All choices are equally likely, so the chance is the share of the choices that have no
-        wrong file."""
+        """All choices are equally likely, so the chance to miss all wrong files is the share of the
+        choices that have no wrong file."""
         self.assertEqual(
             [count_wrong_files(files) for files in (1, 99, 100, 101, 1000)], [1, 1, 1, 2, 10]
         )

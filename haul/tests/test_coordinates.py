@@ -1,4 +1,5 @@
-"""Coordinates: patterns as lines `X Y`, of any size, which `haul rle` turns into RLE."""
+"""Coordinates: a pattern given by a line `X Y` for each live cell, which `haul rle` turns into
+RLE."""
 
 from __future__ import annotations
 
@@ -33,7 +34,8 @@ class Written(unittest.TestCase):
         )
 
     def test_as_plaintext(self) -> None:
-        """The lines after the first are the same as for the pattern in plaintext."""
+        """After its first line, the RLE of a pattern in coordinates is the same as the RLE of the
+        pattern in plaintext."""
         draw = random.Random("coordinates")
         for _ in range(50):
             width, height = draw.randint(1, 90), draw.randint(1, 40)
@@ -54,7 +56,8 @@ class Written(unittest.TestCase):
             self.assertEqual(lines, format_rle(rows, "b3s23"))
 
     def test_without_a_limit(self) -> None:
-        """There is no limit to the size of the pattern, or to the length of the text."""
+        """Coordinates may have up to 15 digits. The text may be longer than `PATTERN_LIMIT`, but
+        not longer than `INPUT_LIMIT`."""
         status, output, _ = rle("0 0\n999999999999999 -999999999999999\n")
         self.assertEqual(
             (status, output.splitlines()[1]),
@@ -96,7 +99,8 @@ class Refused(unittest.TestCase):
             self.assertEqual(rle(text), (3, "", line_of_error), text[:20])
 
     def test_rle_without_a_header_is_none(self) -> None:
-        """RLE without a header isn't coordinates, although it may begin with a digit, too."""
+        """RLE without a header isn't taken for coordinates, although it may begin with a digit,
+        too."""
         self.assertFalse(is_coordinates(b"3o$2bo!"))
         self.assertFalse(is_coordinates(b""))
         self.assertTrue(is_coordinates(b"\n\n-3 5"))
@@ -105,7 +109,7 @@ class Refused(unittest.TestCase):
 
 class Lines(unittest.TestCase):
     def test_a_line_that_is_cut(self) -> None:
-        """The text is read in pieces, and a piece may end within a line."""
+        """No byte of the text is lost, even if the first piece that is read ends within a line."""
         text = b"10 20\n11 20\n12 20\n"
         for limit in range(1, len(text)):
             with patch.object(streams, "PATTERN_LIMIT", limit):

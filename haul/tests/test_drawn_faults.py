@@ -1,5 +1,5 @@
-"""`haul search` with random faults. Whatever fails, FILE is a right haul, no find is lost, a file
-of another program isn't overwritten, and nothing is left running."""
+"""`haul search` with random faults. Whatever fails, FILE is a correct haul, no find is lost, a file
+of another program isn't overwritten, and no process is left running."""
 
 from __future__ import annotations
 
@@ -22,10 +22,10 @@ from haul.tests.searching import CLOCK, Searches
 # The 700 soups from 23000 on leave these three finds.
 WORDS = ["--seed=", "--first=23000", "--rarer=10000", "--part=350"]
 FINDS = {"xs12_330f96", CLOCK, "xs20_3lkkl3z32w23"}
-# The error with which a call fails. `None` means that the process is killed instead.
+# The errors with which calls fail. `None` means that the process is killed instead.
 ERRORS = (errno.EIO, errno.ENOSPC, errno.EMFILE, errno.ENOMEM, None, None, None)
-# A search of two batches makes about this many calls that can fail. At least this share of the
-# trials must get as far as the call that was drawn.
+# A search of two batches makes about `MOST_CALLS` calls that can fail. The share of the trials that
+# reach the drawn call must be at least `SHARE_MADE`.
 MOST_CALLS, SHARE_MADE = 220, 0.5
 
 
@@ -33,7 +33,7 @@ class DrawnFaults(Searches):
     def setUp(self) -> None:
         super().setUp()
         self.failed = self.folder / "failed"
-        # Writes the code of each find.
+        # A program for `--finds` that writes the code of each find to the file `said`.
         self.finder = self.stub('echo "$2" >> said', "finder")
         self.made = self.trials = 0
 
@@ -61,8 +61,8 @@ class DrawnFaults(Searches):
         return {line.split("\t")[1] for line in output.splitlines()}
 
     def assert_ended(self, status: int | None, errors: str) -> None:
-        """Checks that a search was killed, has succeeded, or has ended with a status for faults and
-        with lines about them."""
+        """Checks that a search has succeeded, was killed, or has failed with status 4 or 5 and a
+        line about the fault. Also checks that no process is left running."""
         self.assertIn(status, (0, 4, 5, -signal.SIGKILL), errors)
         self.assertNotIn("Traceback", errors)
         for line in errors.splitlines():
@@ -71,8 +71,8 @@ class DrawnFaults(Searches):
         self.assert_nothing_runs()
 
     def assert_complete(self, words: Sequence[str], output: str, errors: str) -> None:
-        """Runs the search again. Then checks that each find has been printed, and given to the
-        program for finds unless a line says why not."""
+        """Runs the search again. Then checks that each find has been printed. For each find, the
+        program for finds must have been called, or a line must say why it wasn't."""
         if self.file.exists():
             self.assert_right()
         status, again, complaints = self.search(*words)
@@ -87,8 +87,8 @@ class DrawnFaults(Searches):
 
 
 class Calls(DrawnFaults):
-    """A call of the operating system fails, or that call and all later ones fail, or `haul` is
-    killed when it makes the call."""
+    """Searches in which a call of the operating system fails, or this call and all later ones fail,
+    or `haul` is killed when it makes the call."""
 
     def words(self) -> list[str]:
         return [*WORDS, "--until=700", "--finds", self.finder]
@@ -109,14 +109,14 @@ class Calls(DrawnFaults):
         for _ in range(6):
             self.clear()
             self.try_call(draw, MOST_CALLS, draw.choice(ERRORS))
-        # `haul` is killed when FILE has just been made, and its finds aren't printed yet.
+        # `haul` is killed when FILE has just been made, and the finds aren't printed yet.
         for _ in range(4):
             self.clear()
             self.try_call(draw, 20, None, self.file)
         self.assert_most_are_made()
 
     def test_of_a_search_with_finds_that_were_not_told(self) -> None:
-        """FILE.finds is read, written and removed."""
+        """Calls fail in a search that reads, writes and removes FILE.finds."""
         draw = random.Random("calls with FILE.finds")
         with open("/dev/full", "wb") as full:
             words = [sys.executable, HAUL, "search", "--census", CENSUS, *WORDS, "--until=700"]
@@ -138,7 +138,7 @@ class Calls(DrawnFaults):
         self.assert_most_are_made()
 
     def test_beside_a_file_of_another_program(self) -> None:
-        """FILE.mine is a right haul if it exists, even if `haul` is killed while writing."""
+        """If FILE.mine exists, it is a correct haul, even if `haul` is killed while writing."""
         draw = random.Random("calls with FILE.mine")
         other, begins = census("take", "--seed=other", "--count=3"), self.folder / "begins"
         for _ in range(6):
@@ -160,14 +160,14 @@ class Calls(DrawnFaults):
         self.assert_most_are_made()
 
     def assert_mine_is_right(self) -> None:
-        """Checks that each FILE.mine is a right haul."""
+        """Checks that each FILE.mine is a correct haul."""
         for path in self.folder.glob("mine.haul.mine*"):
             if not path.name.endswith((".late", ".finds", ".new")):
                 self.assertEqual(run("check", text=path.read_bytes())[1], "right\n")
 
     def test_files_that_cant_grow(self) -> None:
-        """A limit on the size of files stands in for a full disk. Another program also changes
-        FILE."""
+        """A limit on the size of files stands in for a full disk. Another program changes FILE
+        during the search."""
         draw = random.Random("files")
         other = census("take", "--seed=other", "--count=3")
         for _ in range(3):

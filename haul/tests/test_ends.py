@@ -32,7 +32,7 @@ LONG = (
     .replace("@PROFILE 1 1 1 0", "@PROFILE 64 512 101 30300")
 )
 
-# A haul with so many sample soups that several calls run them. It isn't right.
+# An incorrect haul with so many sample soups that several calls of the census program run them.
 CODES = [f"xs4_{number}" for number in range(1000, 1600)]
 MANY = text_of(
     Haul(
@@ -57,8 +57,9 @@ def fill(folder: str, script: str) -> None:
 
 
 def in_shell(command: str, script: str = "", few: str = "") -> tuple[int, str, str]:
-    """Runs a shell command in a folder that `fill` has filled. `haul` is the companion, and `$few`
-    is a program in Python. Returns the status and both outputs."""
+    """Runs a shell command in a folder that `fill` has filled. In the command, `haul` calls
+    bin/haul, and `$few` is the text `few`, a program in Python. Returns the status and what is
+    written to standard output and standard error."""
     with tempfile.TemporaryDirectory() as folder:
         fill(folder, script)
         shell = f'haul() {{ "{sys.executable}" "{HAUL}" "$@"; }}; {command}'
@@ -156,13 +157,14 @@ class Progress(unittest.TestCase):
     """On a terminal, a progress line is shown and erased at the end."""
 
     def told(self, *words: str, text: bytes) -> list[str]:
-        """Returns the lines that are written to a terminal."""
+        """Returns the progress lines that `haul` writes to a terminal. The last line must be
+        erased."""
         said = self.written(*words, text=text)
         self.assertTrue(said.endswith(b"\r\x1b[K"))
         return [line for line in said.decode().split("\r\x1b[K") if line]
 
     def written(self, *words: str, text: bytes) -> bytes:
-        """Returns what is written to a terminal as standard error."""
+        """Returns what `haul` writes to standard error if that is a terminal."""
         return read_terminal(lambda stderr: call(words, io.BytesIO(text), io.StringIO(), stderr))
 
     def test_objects_that_are_separated(self) -> None:
@@ -186,7 +188,8 @@ class Progress(unittest.TestCase):
             )
 
     def test_soups_that_are_run(self) -> None:
-        """One call of the census program runs at most a hundred soups."""
+        """Progress is shown after each call of the census program, which runs at most a hundred
+        soups."""
         codes = [f"xs4_{number}" for number in range(1000, 1150)]
         text = text_of(
             Haul(
@@ -235,8 +238,8 @@ class Progress(unittest.TestCase):
         )
 
     def test_a_census(self) -> None:
-        """The progress line of the program is passed on, as described in docs/COMMANDS.md, and
-        erased."""
+        """`haul check` passes on the progress line of the census program, including the spaces that
+        erase it. docs/COMMANDS.md describes the line."""
         said = self.written("check", text=taken(40))
         self.assertTrue(said.startswith(b"\r0 of 40 soups") and said.endswith(b" \r"))
 
@@ -263,7 +266,7 @@ class Usage(unittest.TestCase):
         self.assertEqual(run("--help")[0], 0)
 
     def test_values(self) -> None:
-        """An invalid value is reported, whatever it is."""
+        """If the value of an option is invalid, the message says what is wrong with it."""
         for words, told in (
             (["check", "--workers=0"], "0 is not in 1 to 16"),
             (["check", "--workers=17"], "17 is not in 1 to 16"),
@@ -318,7 +321,8 @@ class Usage(unittest.TestCase):
 
 
 class Starter(unittest.TestCase):
-    """`haul` prevents what Python itself would print before `haul` begins, such as a traceback."""
+    """Cases in which Python itself would print a message, such as a traceback, before `haul`
+    begins. `haul` prevents this."""
 
     def test_a_folder_as_input(self) -> None:
         ended = subprocess.run(
@@ -373,13 +377,14 @@ class NoThreads(unittest.TestCase):
 
 class Unforeseen(unittest.TestCase):
     def test_a_fault_of_this_program(self) -> None:
-        """A fault of this program has a status of its own, which is 1."""
+        """If `haul` fails because of a bug, its status is 1, which has no other meaning."""
         script = f"import os, sys; sys.path.insert(0, {str(TOP)!r}); from haul.cli.process import run_heeding_signals; os._exit(run_heeding_signals(lambda: 1 // 0))"
         ended = subprocess.run([sys.executable, "-c", script], capture_output=True, check=False)
         self.assertEqual(ended.returncode, 1)
 
     def test_another_error_is_not_one_of_memory(self) -> None:
-        """A `RuntimeError` that isn't about threads is a fault of this program."""
+        """A `RuntimeError` that isn't about threads isn't reported as a lack of memory. It is
+        raised."""
         with patch(
             "haul.cli.main.run_command", side_effect=RuntimeError("other")
         ), self.assertRaisesRegex(RuntimeError, "^other$"):
@@ -414,7 +419,7 @@ class LittleMemory(unittest.TestCase):
 
 
 class OtherPrograms(unittest.TestCase):
-    """The program at the path isn't the census program."""
+    """The program that `--census` names isn't the census program."""
 
     # Programs that end successfully. In this order, they print: nothing; their arguments; bytes
     # that aren't text; a haul that wasn't asked for; a line of another job; something like a
@@ -432,8 +437,9 @@ class OtherPrograms(unittest.TestCase):
     COMMANDS = ["check", "check --samples", "page"]
 
     def answer(self, script: str, command: str, program: str = "./other") -> tuple[int, str, str]:
-        """Returns what `haul` prints about a haul of three soups if it calls this shell script, or
-        another program, as the census program."""
+        """Runs a command on a haul of three soups, with this shell script or another program in
+        place of the census program. Returns the status and what is printed to standard output and
+        standard error."""
         with tempfile.TemporaryDirectory() as folder:
             fill(folder, script)
             return run(*command.split(), "--census", program, "three", cwd=folder)
@@ -503,15 +509,16 @@ class OtherPrograms(unittest.TestCase):
 
 
 class Calls(unittest.TestCase):
-    """The calls of the census program by a page, a check and the other commands. In these scripts
-    `real` is the census program."""
+    """Tests which calls of the census program the commands make. In the scripts, `real` is the
+    census program."""
 
     # Records the arguments of the call, and defines `real`.
     NOTES = f'echo "$*" >> calls; real() {{ "{CENSUS}" "$@"; }}; '
 
     def ended(self, command: str, script: str) -> tuple[int, str, str, list[str]]:
-        """Runs a command on a haul of forty soups, with this script as the program. Returns its
-        status, both outputs, and the calls of the program."""
+        """Runs a command on a haul of forty soups, with this script in place of the census program.
+        Returns the status, what is printed to standard output and standard error, and the calls of
+        the script."""
         with tempfile.TemporaryDirectory() as folder:
             fill(folder, self.NOTES + script)
             Path(folder, "forty").write_bytes(taken(40))
@@ -549,7 +556,7 @@ class Calls(unittest.TestCase):
                 )
 
     def test_the_others_ask_nothing(self) -> None:
-        """The other commands don't call the program, so they work even if there is none."""
+        """These commands don't call the census program, so they work even if there is none."""
         with tempfile.TemporaryDirectory() as folder:
             shutil.copytree(TOP / "haul", Path(folder, "haul"))
             shutil.copytree(TOP / "reference", Path(folder, "reference"))
@@ -591,8 +598,7 @@ class Signals(unittest.TestCase):
         return found
 
     def below(self, process: int) -> dict[int, str]:
-        """Returns the processes that a process has started, and the processes that these have
-        started, with their names."""
+        """Returns the descendants of a process, with their names."""
         running = self.running()
         found: dict[int, str] = {}
         above = {process}
@@ -607,7 +613,7 @@ class Signals(unittest.TestCase):
         with tempfile.TemporaryDirectory() as folder:
             Path(folder, "long").write_text(LONG)
             Path(folder, "many").write_text(MANY)
-            # A program that would run for a long time and answers nothing.
+            # A program that runs for a long time and prints nothing.
             Path(folder, "sleeps").write_text("#!/bin/sh\nexec sleep 1000\n")
             Path(folder, "sleeps").chmod(0o755)
             # Tests that run in the background ignore SIGINT, and the program would inherit that.

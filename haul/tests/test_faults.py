@@ -16,8 +16,8 @@ from haul.tests.drawn import any_haul
 
 # A line and a column. Both count from 1.
 Place = tuple[int, int]
-# None of these is a valid field. An empty field is two spaces in a row, or a space at the end of a
-# line.
+# None of these is a valid field. With an empty field, a line has two spaces in a row, or begins or
+# ends with a space.
 NO_FIELDS = ["", "*", "\x01", "\xff", "@", "-1", "x.y"]
 
 
@@ -48,8 +48,8 @@ class Fields:
 
 
 def wrong_fields(haul: Haul, at: Fields) -> Iterator[tuple[str, Place]]:
-    """Yields hauls with a field that is wrong in any haul, a field too many, or a field too few,
-    each with the place of the fault."""
+    """Yields hauls with one fault, and the place of the fault. The fault is a field that would be
+    wrong in every haul, a field too many, or a field too few."""
     for line, fields in enumerate(at.lines):
         for field in range(len(fields)):
             for word in NO_FIELDS:
@@ -63,7 +63,8 @@ def wrong_fields(haul: Haul, at: Fields) -> Iterator[tuple[str, Place]]:
 
 
 def wrong_numbers(haul: Haul, at: Fields) -> Iterator[tuple[int, int, int]]:
-    """Yields the places of numbers that are out of range, with the numbers."""
+    """Yields a line, a field, and a number that is out of range there. Lines and fields count from
+    0."""
     period = haul.job.profile[0]
     yield from (
         (4, 1, 0),
@@ -133,8 +134,8 @@ def wrong_lines(haul: Haul, at: Fields) -> Iterator[tuple[str, Place]]:
 
 def cut(haul: Haul, at: Fields) -> Iterator[tuple[str, Place]]:
     """Yields inputs that are cut off. If an input ends before a field or after the last field of a
-    line, the fault is at the end of the input. If the input ends within a word that isn't a field
-    yet, the fault is where the word begins."""
+    line, the fault is at the end of the input. If the input ends within a word such as `@RULE` or
+    `seed=`, the fault is where the word begins."""
     text = ""
     for line, fields in enumerate(at.lines):
         for field, word in enumerate(fields):
@@ -158,7 +159,8 @@ class Faults(unittest.TestCase):
 
 
 def place_of(text: str) -> Place | None:
-    """Returns the place of the fault that is reported for a text, or `None` if it is a haul."""
+    """Returns the place of the fault that is reported for a text, or `None` if the text is a
+    haul."""
     try:
         read_one_haul(io.BytesIO(text.encode("latin-1")))
     except BadHaul as bad:

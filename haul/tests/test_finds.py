@@ -1,4 +1,4 @@
-"""Finds: which parts a search reports, how it reports them, and the calls of the program for finds.
+"""Finds: which parts a search reports, how it reports them, and the calls of the `--finds` program.
 Also the status line, and when the file is written."""
 
 from __future__ import annotations
@@ -132,15 +132,15 @@ class Finds(unittest.TestCase):
         )
 
     def test_parts_of_a_new_object(self) -> None:
-        """The soup is the lowest soup that left the part."""
+        """The soup of a find is the lowest soup that left the part."""
         finder = Finder(OTHER_RULE, haul_of(OTHER_RULE, "xs6_696"), RARER)
         self.assertEqual(
             found(finder, [(BI_BLOCK, 9), (BLOCK, 20)], [(BLOCK, 30)]), [Find(BLOCK, 9)]
         )
 
     def test_the_part_that_begins_a_haul(self) -> None:
-        """Under another rule or profile, the first batch reports nothing, and its parts are known
-        afterwards."""
+        """Under a rule other than Life, or a profile other than the standard one, the finds of the
+        first batch aren't reported. In later batches, the parts of the first batch are known."""
         for job, finds in ((LIFE, [Find(BIPOLE, 5)]), (OTHER_RULE, []), (OTHER_PROFILE, [])):
             finder = Finder(job, haul_of(job), RARER)
             self.assertEqual(found(finder, [(BIPOLE, 5)]), finds)
@@ -149,8 +149,8 @@ class Finds(unittest.TestCase):
             )
 
     def test_a_haul_without_objects(self) -> None:
-        """The soups of the haul have left nothing. But the file has begun with them, so later
-        batches report finds."""
+        """The haul has soups but no objects. These soups count as the first batch, so the finds of
+        the next batch are reported."""
         self.assertEqual(
             found(
                 Finder(
@@ -208,7 +208,8 @@ class Finds(unittest.TestCase):
         self.assertEqual(finder.left(), 1)
 
     def test_which_objects_can_have_a_part(self) -> None:
-        """Checks all objects of 100,000 soups that have several parts, and some more kinds."""
+        """`Unread.holders` finds an object with several parts by each of these parts. The test
+        tries all such objects of 100,000 soups, and further pairs of kinds."""
         with open(TOP / "examples" / "100000.haul", "rb") as file:
             haul = read_one_haul(file)
         separator = Separator(read_rule("b3s23"))
@@ -281,7 +282,7 @@ class Fields(Searches):
         self.assertEqual(Find("xs99_0", 1).fields(LIFE)[2], "-")
 
     def test_commands_are_for_a_shell(self) -> None:
-        """Each command shows what the soup leaves."""
+        """The command of a find, run by a shell, prints what its soup leaves."""
         (self.folder / "census").symlink_to(CENSUS)
         for seed in ("", "a", "-a", "a'b", "$(x)", '`x`;"\\'):
             for job, words in (
@@ -358,7 +359,7 @@ class Fields(Searches):
 
 
 class Calls(Searches):
-    """Tests the program of `--finds`."""
+    """Tests the calls of the `--finds` program."""
 
     ONE = ["--seed=", "--first", str(CLOCK_SOUP), "--until", "1", *RARE]
 
@@ -371,7 +372,8 @@ class Calls(Searches):
         )
 
     def test_it_is_called_for_each(self) -> None:
-        """Under another rule there are many finds, and the calls come one after another."""
+        """The program is called for each find, one call at a time. Under this rule there are many
+        finds."""
         program = self.stub(
             '[[ ! -e runs ]] || echo two >> said; touch runs; sleep 0.05; rm runs; echo "$2" >> said'
         )
@@ -391,7 +393,7 @@ class Calls(Searches):
         self.assertTrue((self.folder / "closed").exists())
 
     def test_it_fails(self) -> None:
-        """A single line reports the failure."""
+        """If a call fails, a single line says why."""
         for name, line in (
             (self.stub("exit 1"), "ended with status 1"),
             (self.stub("kill -9 $$", "dies"), "was ended by signal 9"),
@@ -406,7 +408,8 @@ class Calls(Searches):
             self.assert_right()
 
     def test_it_cant_be_started(self) -> None:
-        """The system's reason is reported, if there is one, and the next call is made."""
+        """If a call can't be started, the message has the system's reason, if there is one. Then
+        the next call is made."""
         said: list[str] = []
         calls = FindCalls(StreamWaiter(), "program", said.append)
         calls.add(["a"])
@@ -462,7 +465,7 @@ class Calls(Searches):
 
     def test_an_interrupt_before_it_has_its_session(self) -> None:
         """A Ctrl-C for `haul` that comes before the program has its own session is dropped. After
-        that, the signal ends the program as usual."""
+        that, SIGINT ends the program as usual."""
 
         def interrupted() -> None:
             signal.signal(signal.SIGINT, signal.SIG_DFL)
@@ -603,7 +606,8 @@ class StatusLines(Searches):
         os.close(keeper.lock)
 
     def test_when_the_batch_ends(self) -> None:
-        """The end is estimated from the rate so far, if there is one."""
+        """The time to the end of the batch is estimated from the rate of the search, unless the
+        rate is 0."""
         said = io.StringIO()
         with patch("time.monotonic", return_value=1000.0) as now:
             keeper = Keeper(str(self.file))
@@ -780,7 +784,8 @@ class Pace(Searches):
             for at, may in ((1099.0, False), (1100.0, True)):
                 now.return_value = at
                 self.assertEqual(search.may_keep(), may)
-            # Writing must begin early enough to end ten minutes after the file was last written.
+            # Writing must begin early enough to end within ten minutes after the file was last
+            # written.
             search.writing, search.unkept, search.kept_at = 500.0, [(0, [])], 1200.0
             for at, must in ((1798.9, False), (1799.0, True)):
                 now.return_value = at
@@ -790,7 +795,8 @@ class Pace(Searches):
         os.close(keeper.lock)
 
     def test_how_long_writing_took(self) -> None:
-        """All writing time counts. During writing, no signal ends the program."""
+        """The times of all writings are added up. While the file is written, no signal ends the
+        program."""
         with patch("time.monotonic", return_value=1000.0) as now:
             keeper, stopping = Keeper(str(self.file)), Stopping()
             search = make_search(
@@ -825,8 +831,8 @@ class Pace(Searches):
 
     def test_how_long_it_waits(self) -> None:
         """The search waits for streams for up to half a second, or until the status is due. If
-        there are objects to examine, it examines them for a fiftieth of a second, and doesn't wait.
-        After a signal it examines them for a second."""
+        there are objects to examine, the search examines them for a fiftieth of a second, and
+        doesn't wait. After a signal, it examines them for a second."""
         keeper, stopping = Keeper(str(self.file)), Stopping()
         said, told = io.StringIO(), io.StringIO()
         client = Census(CENSUS, Terminal(said))
@@ -858,7 +864,8 @@ class Pace(Searches):
         os.close(keeper.lock)
 
     def test_when_it_says_what_is_left(self) -> None:
-        """After five seconds, a single line says what remains to be done."""
+        """If reporting the last finds takes five seconds, a single line says what remains to be
+        done."""
         keeper = Keeper(str(self.file))
         with patch("time.monotonic", return_value=1000.0) as now, redirect_stderr(
             io.StringIO()
@@ -890,7 +897,8 @@ class Pace(Searches):
         os.close(keeper.lock)
 
     def test_a_signal_while_batches_wait(self) -> None:
-        """The batches that wait to be written are written. The running batch is dropped."""
+        """After a signal, the batches that wait to be written are written, and the running batch is
+        dropped."""
         keeper, stopping = Keeper(str(self.file)), Stopping()
         search = make_search(
             Plan(0, None, 10, 1, None, RARER),

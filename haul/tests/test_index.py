@@ -1,4 +1,5 @@
-"""Indexes of a census in parts: `haul index`, and `haul check` of an index."""
+"""`haul index`, and `haul check` of an index. An index lists the parts of a census. Each part is a
+haul with a single range of soups."""
 
 from __future__ import annotations
 
@@ -166,7 +167,7 @@ class Indexes(unittest.TestCase):
         self.assertEqual(self.refused("check", "index"), "index: bad index at line 7 column 1")
 
     def test_the_reference(self) -> None:
-        """The index of the reference has 100 parts of a million soups."""
+        """The index of the reference has 100 parts, each with a million soups."""
         lines = (TOP / "reference" / "index").read_text().splitlines()[6:]
         self.assertEqual(
             [line.split()[:2] for line in lines],

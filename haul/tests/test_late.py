@@ -29,7 +29,7 @@ class LateSearches(Searches):
 
     def lines_of_work(self, count: int, late: int, *words: str, first: int = 0) -> list[bytes]:
         """Returns the lines of late and unsettled soups that `census work` prints, without their
-        workers."""
+        `worker` fields."""
         job = words or ("--seed=a", *SHORT)
         lines = census("work", "--worker=1", f"--first={first}", f"--count={count}", *job)
         return [
@@ -39,7 +39,7 @@ class LateSearches(Searches):
         ]
 
     def kept(self) -> tuple[str, list[bytes]]:
-        """Returns the header of FILE.late, and its lines without their workers."""
+        """Returns the header of FILE.late, and its lines without their `worker` fields."""
         header, *lines = self.late.read_bytes().splitlines()
         return header.decode(), [WORKER.sub(b" ", line) for line in lines]
 
@@ -51,7 +51,8 @@ class LateSearches(Searches):
 
 class Kept(LateSearches):
     def test_exactly_those(self) -> None:
-        """The lines are the same for batches of any size and for any number of workers."""
+        """FILE.late has the lines of exactly the late and unsettled soups, for batches of any size
+        and for any number of workers."""
         for until, size, workers in ((70, 100, 1), (100, 7, 2), (101, 1, 3), (160, 25, 17)):
             words = ["--part", str(size), "--workers", str(workers), "--late=404", "--seed=a"]
             self.assertEqual(self.search(*words, *SHORT, "--until", str(until))[0], 0)
@@ -60,8 +61,8 @@ class Kept(LateSearches):
         self.assert_left("mine.haul", "mine.haul.late", "mine.haul.lock")
 
     def test_generations(self) -> None:
-        """Without `--late`, the generation is that of the file, or the default. A higher generation
-        drops lines, and a lower one is refused."""
+        """Without `--late`, the generation is the one in FILE.late, or the default if there is no
+        FILE.late. A higher generation drops lines, and a lower one is refused."""
         self.search("--seed=a", *SHORT, "--until=30")
         self.assert_kept(12000, 30)
         told = "haul: mine.haul.late: has soups from generation 12000 on, and not from 11999\n"
@@ -86,7 +87,8 @@ class Kept(LateSearches):
         self.assert_kept(303, 40)
 
     def test_a_file_from_before(self) -> None:
-        """If FILE is older than FILE.late, FILE.late has no lines for the first soups."""
+        """If FILE is older than FILE.late, FILE.late has no lines about the soups that FILE already
+        had."""
         self.file.write_bytes(census("take", "--seed=a", *SHORT, "--count=40"))
         self.search("--until=70", "--late=505")
         self.assert_kept(505, 70, 40)
@@ -107,7 +109,8 @@ class Kept(LateSearches):
             self.assert_right()
 
     def test_a_kill_between_the_files(self) -> None:
-        """Lines of soups that aren't in FILE are dropped, and written again later."""
+        """If FILE.late has lines of soups that aren't in FILE, they are dropped, and written again
+        when these soups are run."""
         self.search("--seed=a", *SHORT, "--late=505", "--until=60")
         earlier = self.file.read_bytes()
         self.search("--until=100")
@@ -155,7 +158,8 @@ class Kept(LateSearches):
         self.assert_kept(505, self.soups())
 
     def test_drawn_faults(self) -> None:
-        """After each fault, the next search continues, and the files are right at the end."""
+        """After each signal that ends a search, the next search continues. At the end, both files
+        are correct."""
         draw = random.Random("late")
         for trial in range(12):
             soups = self.soups()
@@ -207,7 +211,8 @@ class Told(LateSearches):
         self.assertEqual(said, output)
 
     def test_under_another_rule(self) -> None:
-        """Unsettled soups are kept, but reported only on request."""
+        """Under another rule, unsettled soups are kept, but are reported only if `--late` is
+        given."""
         words = ["--seed=a", "--rule=b2s", "--limit=0"]
         self.assertEqual(self.search(*words, "--until=20"), (0, "", ""))
         header, lines = self.kept()
@@ -273,11 +278,12 @@ class OtherFiles(LateSearches):
 
 
 class Reports(LateSearches):
-    """Report lines of a batch."""
+    """Tests the report lines that the census program prints about a batch."""
 
     def test_wrong_lines(self) -> None:
-        """The program prints a line about a soup of another batch, about a soup that isn't late, or
-        about another job; prints a line twice; prints a malformed line; or leaves lines out."""
+        """The search refuses a census program that prints a line about a soup of another batch,
+        about a soup that isn't late, or about another job; prints a line twice; prints a malformed
+        line; or leaves lines out."""
         line = f"report 2 {JOB} worker=1"
         for said in (
             f"echo '{line} soup=900 unsettled' >&2",

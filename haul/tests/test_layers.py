@@ -1,4 +1,4 @@
-"""The layers of `haul`: no folder imports from a higher layer."""
+"""The layers of `haul`. Each folder is a layer, and imports nothing from a higher layer."""
 
 from __future__ import annotations
 

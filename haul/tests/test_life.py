@@ -1,4 +1,4 @@
-"""The model of Life, compared with `census` function by function."""
+"""The model of Life in haul/life, compared with `census` function by function."""
 
 from __future__ import annotations
 
@@ -18,14 +18,14 @@ from haul.life.generations import MOST_PERIOD, advance, find_recurrence, find_sh
 from haul.life.soups import make_soup
 from haul.tests.called import CENSUS, TOP
 
-# Under this rule all cells stay and none is born, so each cluster is a still life.
+# Under this rule, every live cell survives and no cell is born, so each cluster is a still life.
 STILL = "bs012345678"
 RULES = ["b3s23", "b36s23", "b3678s34678", "b37s0123", STILL]
 
 
 def asked(calls: list[tuple[list[str], str]]) -> list[str]:
-    """Returns what `census` prints for these calls, some of which read a text. A shell makes the
-    calls one after another."""
+    """Returns what `census` prints for each call. A call consists of arguments and of a text, which
+    is empty if the call reads nothing. A shell makes the calls one after another."""
     script = "".join(
         f"\"$0\" {' '.join(words)}" + (f" << 'END'\n{read}\nEND" if read else "") + "\necho =$?\n"
         for words, read in calls
@@ -55,8 +55,8 @@ def plaintext(cells: Cells) -> str:
 
 
 def found(text: str) -> Counter[str]:
-    """Returns the objects that `census name` found, or none if the pattern hadn't settled in
-    generation 0."""
+    """Returns the objects in the output of `census name`, or no objects if the pattern hadn't
+    settled in generation 0."""
     settled, *lines = text.splitlines()
     return (
         Counter({code: int(count) for code, count in map(str.split, lines)})
@@ -91,8 +91,8 @@ def patterns() -> tuple[Cells, ...]:
 
 class Drawings(unittest.TestCase):
     def test_each_code_of_the_example(self) -> None:
-        """Each code is drawn as `census show` draws it, and the phases of the drawn object have
-        this code."""
+        """`read_wechsler` draws each code as `census show` does, and `find_code` returns this code
+        for the drawn object."""
         codes, rule = list(example().totals), read_rule("b3s23")
         for code, shown in zip(codes, asked([(["show", code], "") for code in codes]), strict=True):
             cells = read_wechsler(code.partition("_")[2])
@@ -103,8 +103,8 @@ class Drawings(unittest.TestCase):
             self.assertEqual((find_code(recurrence), recurrence.phases[0]), (code, cells))
 
     def test_texts(self) -> None:
-        """A text that is written can be read again, by `census show` too. Runs of dead columns have
-        their shortest form."""
+        """`read_wechsler` and `census show` can read what `write_wechsler` writes. Runs of dead
+        columns have their shortest form."""
         written = [text for cells in patterns() if (text := write_wechsler(cells)) is not None]
         for cells, text, shown in zip(
             patterns(), written, asked([(["show", text], "") for text in written]), strict=True
@@ -126,11 +126,12 @@ class Drawings(unittest.TestCase):
             self.assertEqual(write_wechsler(frozenset([(0, 0), (runs + 1, 0)])), text)
 
     def test_texts_that_draw_nothing(self) -> None:
-        """`census show` refuses these texts, or they are larger than what `census run` reads."""
+        """`read_wechsler` returns `None` for texts that `census show` refuses, and for patterns
+        that are larger than what `census run` reads."""
         for text in ("", "0", "z", "y0", "1y", "1A", "_1", "1_", "1y-", "w0zx"):
             self.assertIsNone(read_wechsler(text))
         # A run of 39 dead columns is written `yz`. Between the two live cells there are 998 dead
-        # columns, and in the second text 999.
+        # columns in the first text, and 999 in the second.
         row = "1" + "yz" * 25 + "yj"
         self.assertEqual((39 * 25 + 4 + 19, SIDE), (998, 1000))
         self.assertEqual(read_wechsler(row + "1"), frozenset([(0, 0), (999, 0)]))
@@ -141,8 +142,8 @@ class Drawings(unittest.TestCase):
 
 class Generations(unittest.TestCase):
     def test_drawn_patterns(self) -> None:
-        """After one, two or three generations, each pattern, moved to the corner, is the pattern
-        that `census run` prints."""
+        """Each pattern is advanced by one, two or three generations. If the result is moved to the
+        corner, it is the pattern that `census run` prints."""
         calls, wanted = [], []
         for place, cells in enumerate(patterns()):
             name, later = RULES[place % len(RULES)], cells
@@ -154,8 +155,8 @@ class Generations(unittest.TestCase):
             self.assertEqual(drawn_cells(printed), move_to_corner(later) if later else frozenset())
 
     def test_a_generation_stays_in_its_place(self) -> None:
-        """A blinker turns around its middle. Under B1/S0, a single cell survives and its eight
-        neighbours are born. Under B/S, it dies."""
+        """`advance` doesn't move a pattern. A blinker turns around its middle cell. Under B1/S0, a
+        single cell survives and its eight neighbours are born. Under B/S, a single cell dies."""
         self.assertEqual(
             advance(read_rule("b3s23"), frozenset([(-1, 7), (0, 7), (1, 7)])),
             {(0, 6), (0, 7), (0, 8)},
@@ -188,7 +189,8 @@ class Generations(unittest.TestCase):
         self.assertGreater(recurring, 100)
 
     def test_kinds(self) -> None:
-        """A block, a blinker and a glider, and where they are after a period."""
+        """Checks the kind, the period, the phases and the shift of a block, a blinker and a
+        glider."""
         for code, kind, period, shift in (
             ("33", "s", 1, (0, 0)),
             ("7", "p", 2, (0, 0)),
@@ -212,8 +214,9 @@ class Generations(unittest.TestCase):
             )
 
     def test_the_longest_period(self) -> None:
-        """The longest period that a census finds is 64. A pulsar has period 3. A pattern that dies
-        or turns into another object never recurs."""
+        """The longest period that a census finds is 64. A pulsar recurs after 3 generations, so it
+        is found if `most` is at least 3. A pattern that dies or turns into another object never
+        recurs."""
         self.assertEqual(MOST_PERIOD, 64)
         pulsar = read_wechsler("co9nas0san9oczgoldlo0oldlogz1047210127401")
         assert pulsar is not None
@@ -242,11 +245,12 @@ class Generations(unittest.TestCase):
 
 class Clusters(unittest.TestCase):
     def test_clusters_and_islands(self) -> None:
-        """Where all cells stay, `census` counts the clusters. If a pattern is stretched by two,
-        cells that touched are two steps apart, and cells that were two steps apart are four steps
-        apart, so the clusters of the stretched pattern are the islands of the pattern."""
+        """Under `STILL`, `census name` counts each cluster of a pattern as an object. If a pattern
+        is stretched by two, cells that touched are at distance 2, and all other cells are at
+        distance 4 or more. So the clusters of the stretched pattern are the islands of the original
+        pattern."""
         stretched = [frozenset((2 * x, 2 * y) for x, y in cells) for cells in patterns()]
-        # A longer horizon makes no difference where all cells stay.
+        # A longer horizon makes no difference under `STILL`, since no pattern changes.
         short = ["--period=1", "--horizon=1"]
         clusters = asked(
             [
@@ -270,9 +274,9 @@ class Clusters(unittest.TestCase):
         self.assertFalse(is_cluster(frozenset()))
 
     def test_islands_of_several_phases(self) -> None:
-        """Cells that touch in a later phase belong together. A place that is alive in two phases is
-        one cell. A cell beside a place that is alive only in another phase doesn't touch it. A set
-        without cells in phase 0 isn't an island."""
+        """Cells that touch in a later phase belong to one island. A cell that is alive in two
+        phases links its neighbours in both. Two adjacent cells don't touch if they are never alive
+        in the same phase. A set without cells in phase 0 isn't an island."""
         a, b, far, between = (0, 0), (3, 0), (9, 9), frozenset([(1, 0), (2, 0)])
         self.assertEqual(find_islands([frozenset([b, a, far])]), [{a}, {b}, {far}])
         self.assertEqual(find_islands([frozenset([a, b, far]), between | {a, b}]), [{a, b}, {far}])
@@ -288,7 +292,8 @@ class Clusters(unittest.TestCase):
 
 class Shapes(unittest.TestCase):
     def test_images(self) -> None:
-        """A pattern has the eight orientations in docs/FORMATS.md, here moved to the corner."""
+        """`list_orientations` returns the eight orientations in docs/FORMATS.md. The test moves
+        them to the corner."""
         wanted = [
             "OOO\nO..",
             "OO\n.O\n.O",
@@ -312,7 +317,8 @@ class Shapes(unittest.TestCase):
         self.assertIsNone(find_shift(one, frozenset([(2, 5), (3, 7), (6, 7)])))
 
     def test_no_text(self) -> None:
-        """If no phase of an object fits in 40 by 40 cells, its code is only a prefix."""
+        """If no phase of an object fits in 40 by 40 cells, the code of the object is only a
+        prefix."""
         large = frozenset((x, 0) for x in range(41))
         recurrence = find_recurrence(read_rule(STILL), large)
         assert recurrence is not None
@@ -321,7 +327,8 @@ class Shapes(unittest.TestCase):
 
 class Soups(unittest.TestCase):
     def test_a_thousand(self) -> None:
-        """The soups have several seeds, and numbers of one to twelve digits."""
+        """`make_soup` makes the same soups as `census soup`, for several seeds, and for numbers of
+        one to twelve digits."""
         draw = random.Random("soups")
         asks = [
             (

@@ -1,4 +1,4 @@
-"""`haul page --lives`: the section of the longest-lived and the unsettled soups."""
+"""`haul page --lives`: the section about the longest-lived and the unsettled soups."""
 
 from __future__ import annotations
 
@@ -21,7 +21,8 @@ DATA = re.compile(r'"lives": (\[.*?\]), "soups": \[', re.DOTALL)
 
 
 def list_late(generation: int) -> list[str]:
-    """Returns the report lines of late and unsettled soups."""
+    """Returns the report lines of soups that settle in `generation` or later, and of unsettled
+    soups."""
     return [
         line
         for line in census("work", "--worker=1", *JOB).decode().splitlines()
@@ -84,7 +85,8 @@ class Pages(unittest.TestCase):
         self.assertIn('"lives": []', output)
 
     def test_wrong_lines(self) -> None:
-        """Each wrong line is reported, and the page shows what is right."""
+        """A line that is wrong about its soup is reported, and the page shows what the soup really
+        does."""
         lines = list_late(1000)
         settled = next(line for line in lines if "at=" in line)
         soup = int(settled.split("soup=")[1].split()[0])

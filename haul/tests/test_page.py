@@ -1,4 +1,5 @@
-"""The contents of a page: its words, its table, the data of its script, and the ends of soups."""
+"""The contents of a page: its words, its table, the data of its script, and when its soups
+settle."""
 
 from __future__ import annotations
 
@@ -129,7 +130,7 @@ and <code>haul check --samples all.haul</code> runs only the sample soups.</p>
         self.assertNotIn("unsettled soup<", before_table(text).partition("</dl>")[2])
 
     def test_missing_soups(self) -> None:
-        """Missing soups can't be run again, since a haul doesn't say which ones they are."""
+        """If a haul lacks soups, the page says that only its sample soups can be checked."""
         some = Haul(
             Job("", "b3s23", Profile(1, 1, 1, 0)),
             ranges=[(0, 2000)],
@@ -187,7 +188,7 @@ and <code>haul check --samples all.haul</code> runs only the sample soups.</p>
             )
 
     def test_profiles_of_several_hauls(self) -> None:
-        """Each profile's hauls are named only if there are several profiles."""
+        """If hauls have different profiles, the page says which hauls have each profile."""
         one, other = (
             made({"xs4_33": 1}, [(5, 1)], profile)
             for profile in (Profile(64, 512, 101, 30300), Profile(4, 8, 10, 30))
@@ -244,7 +245,7 @@ class Unsettled(unittest.TestCase):
             )
 
     def test_it_lists_them(self) -> None:
-        """A shell that runs the command lists as many soups as the page says."""
+        """The command of the page, run by a shell, lists the two unsettled soups."""
         words = ["--first=600", "--count=40", "--limit=7070"]
         text = page(read_one_haul(io.BytesIO(census("take", *words))), 0)
         found = re.findall(
@@ -262,11 +263,11 @@ class Unsettled(unittest.TestCase):
 
 
 class Rows(unittest.TestCase):
-    """Tests the table for readers without scripts."""
+    """Tests the table for browsers without scripts."""
 
     def test_each_cell(self) -> None:
-        """Parts are counted: two blinkers in one object are two blinkers. The reference says
-        nothing about a census with another profile."""
+        """The table counts parts, so an object of two blinkers counts as two blinkers. The profile
+        of the haul isn't that of the reference, so the table has no rarity from the reference."""
         haul = made(
             {
                 "xs4_33": 1200,
@@ -556,8 +557,8 @@ class Data(unittest.TestCase):
 
     def test_least(self) -> None:
         """An object is on the page if a haul has at least `least` of it. A part is on the page if
-        its total by parts is at least `least`. The parts of objects that are left out are
-        counted."""
+        its total by parts is at least `least`. This total includes the parts of objects that aren't
+        on the page."""
         text = compared(self.HAUL, least=3)
         self.assertEqual(
             [
@@ -575,7 +576,8 @@ class Data(unittest.TestCase):
         self.assertEqual((data_of(text)["kinds"], data_of(text)["hauls"][0]["objects"]), (5, 14))
 
     def test_progress(self) -> None:
-        """There are five objects, and two parts that aren't among them."""
+        """Progress is shown after every three codes. Seven codes are described: five objects, and
+        two parts that aren't among them."""
         stderr = io.StringIO()
         sides = make_sides([self.HAUL], 1, 0, QUIET)
         with patch.object(stderr, "isatty", return_value=True), patch(
@@ -589,7 +591,7 @@ class Data(unittest.TestCase):
         )
 
     def test_large_totals(self) -> None:
-        """JavaScript loses digits of a number above 2^53, so such a number is a text."""
+        """JavaScript loses digits of a number above 2^53, so such a number is given as a text."""
         objects = objects_of(page(made({"xs4_33": 2**53, "xs5_253": 2**53 + 1}, [(0, 9)]), 0))
         self.assertEqual(
             [objects[code]["objects"][0][0] for code in ("xs4_33", "xs5_253")],
@@ -597,7 +599,7 @@ class Data(unittest.TestCase):
         )
 
     def test_soups(self) -> None:
-        """Soups of objects and of parts match those of `census soup`, cell for cell."""
+        """The sample soups of objects and of parts match those of `census soup`, cell for cell."""
         soups = data_of(page(self.HAUL, 0))["soups"][0]
         self.assertEqual(sorted(map(int, soups)), [0, 1, 2, 4, 5, 7, 8])
         for number, (cells,) in soups.items():
@@ -625,7 +627,7 @@ class Data(unittest.TestCase):
         self.assertEqual((text.count("</script>"), text.count("<!--")), (2, 0))
 
     def test_the_files_are_in_it(self) -> None:
-        """The page contains each of its files, and loads nothing."""
+        """The page contains each script and each style sheet of haul/page, and loads nothing."""
         text = page(self.HAUL, 0)
         files = [*TOP.glob("haul/page/*.js"), *TOP.glob("haul/page/*.css")]
         self.assertGreater(len(files), 8)
@@ -661,7 +663,7 @@ class Comparing(unittest.TestCase):
             self.assertIn(f"<title>{title}</title>", compared(*hauls))
 
     def test_facts(self) -> None:
-        """There is a row for each haul."""
+        """The table of facts has a row for each haul."""
         rows = re.findall(
             '<tr><th scope="row">(.*?)</th>(.*?)</tr>',
             before_table(compared(self.LIFE, self.OTHER)),
@@ -789,7 +791,8 @@ class Comparing(unittest.TestCase):
         )
 
     def test_ends_of_each(self) -> None:
-        """Soup 0 of A and soup 0 of B are different soups under different rules."""
+        """The page says for each haul when its own soups settle. Soup 0 of A and soup 0 of B are
+        different soups under different rules."""
         words = [
             ["--seed=x", "--count=3"],
             ["--seed=y", "--count=3", "--rule=b36s23", "--stride=50"],
@@ -830,8 +833,8 @@ class Comparing(unittest.TestCase):
 
 class Ends(unittest.TestCase):
     def test_when_soups_settle(self) -> None:
-        """The checkpoints are those of `census name`. The numbers of cells agree with the pattern
-        that `census run` prints at the checkpoint."""
+        """The checkpoints on the page are those of `census name`. The number of live cells that
+        `census run` prints at the checkpoint is between the two numbers on the page."""
         haul, exact = read_one_haul(io.BytesIO(census("take", "--count", "12"))), 0
         soups = data_of(page(haul))["soups"][0]
         self.assertEqual(
@@ -852,8 +855,8 @@ class Ends(unittest.TestCase):
         self.assertGreater(exact, 5)
 
     def test_how_many_cells_there_are_then(self) -> None:
-        """A pulsar has 48, 56 or 72 cells, and a glider always has five. For an object that can't
-        be drawn, the number is known only if it is a still life."""
+        """A pulsar has 48, 56 or 72 cells, and a glider always has five. If an object can't be
+        drawn, its number of cells is known only for a still life."""
         life = read_rule("b3s23")
         for code, sizes in (
             (PULSAR, {48, 56, 72}),
@@ -876,9 +879,8 @@ class Ends(unittest.TestCase):
             self.assertEqual(read_end(life, fields), end)
 
     def test_which_have_one(self) -> None:
-        """Only the sample soups of the first `play` objects have ends. Parts come first, the most
-        frequent first: 16 blinkers in pairs, 9 blocks, and 7 objects that couldn't be
-        separated."""
+        """Only the sample soups of the first `play` codes have ends. The most frequent parts come
+        first: 16 blinkers in pairs, 9 blocks, and 7 objects that couldn't be separated."""
         haul = made(
             {"xp2_1110s": 8, "xs4_33": 7, "xs8_rr": 1, "ov_p3": 7},
             [(0, 9)],
@@ -898,7 +900,7 @@ class Ends(unittest.TestCase):
         )
 
     def test_a_soup_without_end(self) -> None:
-        """`census` was asked about the soup, which doesn't settle, so its end is 0."""
+        """`census` has run the soup, which doesn't settle, so the page has 0 as its end."""
         (end,) = data_of(page(made({"xs4_33": 8}, [(9, 1)], Profile(1, 1, 1, 0))))["soups"][
             0
         ].values()

@@ -75,7 +75,8 @@ def read_pictures(text: str) -> dict[str, str]:
 
 class Names(unittest.TestCase):
     def test_each_picture_has_the_code(self) -> None:
-        """`census` gives the picture of each name the same code as names.tsv."""
+        """For the picture of each name, `census` prints the code in names.tsv. In the pictures of
+        `FALL_APART`, it finds no object, but `look_for_rest` finds the code."""
         pictures = read_pictures((FOLDER / "pictures.txt").read_text())
         names = load_names()
         self.assertEqual(list(pictures), list(names.shown.values()))
@@ -149,8 +150,8 @@ class Names(unittest.TestCase):
 
 class Parts(unittest.TestCase):
     def test_pseudo_objects(self) -> None:
-        """A bi-block is two blocks, and a traffic light is four blinkers. A block beside a pulsar
-        is separated from it."""
+        """A bi-block is two blocks, and a traffic light is four blinkers. If a block is beside a
+        pulsar, both are parts."""
         pulsar = PULSAR
         for code, wanted in (
             ("xs8_rr", ["xs4_33"] * 2),
@@ -162,8 +163,9 @@ class Parts(unittest.TestCase):
             self.assertEqual(parts(code), Separation(tuple(wanted)))
 
     def test_strict_objects(self) -> None:
-        """Objects that are one island, such as a beacon and a pentadecathlon; two tables that are
-        unstable by themselves; and a pulsar, whose four islands aren't parts."""
+        """These objects have only one part: objects with one island, such as a beacon and a
+        pentadecathlon; two tables, each of which is unstable by itself; and a pulsar, whose four
+        islands aren't parts."""
         for code in (
             "xs4_33",
             "xq4_153",
@@ -176,7 +178,8 @@ class Parts(unittest.TestCase):
             self.assertEqual(parts(code), strict(code))
 
     def test_what_is_not_separated(self) -> None:
-        """Objects that can't be drawn, don't recur as their prefix says, or outgrow the plane."""
+        """An object isn't separated if it can't be drawn, doesn't recur as its prefix says, or is
+        larger than 1,000 by 1,000 cells."""
         for code in (
             "ov_p12",
             "ov_s400",
@@ -219,7 +222,7 @@ class Parts(unittest.TestCase):
 
     def test_a_part_that_falls_apart(self) -> None:
         """A blocker is one cluster in two of its eight phases, but not in the phase that is drawn.
-        It is beside a block."""
+        The object of this test is a blocker beside a block, and both are its parts."""
         self.assertFalse(is_cluster(read_object(read_rule("b3s23"), "xp8_g3jgz1ut").phases[0]))  # type: ignore[union-attr]
         self.assertEqual(parts("xp8_g3jgy066z1ut"), Separation(("xp8_g3jgz1ut", "xs4_33")))
 
@@ -234,8 +237,8 @@ class Parts(unittest.TestCase):
                 )
 
     def test_each_condition_of_a_separation(self) -> None:
-        """The runs in this test have the cells of a bi-block, but needn't be runs under the
-        rule."""
+        """Checks each condition of a separation with runs made by hand from the cells of a
+        bi-block."""
         found = read_object(read_rule("b3s23"), "xs8_rr")
         assert found is not None
         blocks = Blocks(read_rule("b3s23"), {}, found)
@@ -243,14 +246,15 @@ class Parts(unittest.TestCase):
         self.assertEqual((len(left), len(right), left | right), (4, 4, found.phases[0]))
         one, other = [left, left], [right, right]
         self.assertTrue(blocks.is_separation([one, other]))
-        # Two blocks that share a cell, although together they are the object; two blocks that have
-        # as many cells as the object, but aren't the object; and a single block.
+        # None of these is a separation: two blocks that share a cell, although together they are
+        # the object; the same block twice, which has as many cells as the object; and a single
+        # block.
         shared = left | {min(right)}
         self.assertFalse(blocks.is_separation([[shared, shared], other]))
         self.assertFalse(blocks.is_separation([one, one]))
         self.assertFalse(blocks.is_separation([one]))
-        # A run that is right; one that is the other block a period later; one that isn't a cluster;
-        # and one with a cell that the object doesn't have.
+        # Only the first of these runs is accepted. The second is the other block after a period,
+        # the third isn't a cluster, and the fourth has a cell that the object doesn't have.
         run = Run(read_rule("b3s23"), left)
         self.assertEqual(blocks.checked(run, iter(one)), one)
         self.assertIsNone(blocks.checked(run, iter([left, right])))
@@ -267,14 +271,16 @@ class Parts(unittest.TestCase):
         )
 
     def test_the_object_of_a_code(self) -> None:
-        """The phases begin with the drawing, and follow one another."""
+        """The phases of the object begin with the drawing of its code. Each further phase is the
+        next generation."""
         found = read_object(read_rule("b3s23"), "xp2_7")
         assert found is not None
         self.assertEqual(found.phases, [{(0, 0), (0, 1), (0, 2)}, {(-1, 1), (0, 1), (1, 1)}])
 
     def test_by_brute_force(self) -> None:
-        """Random objects of the example, except for objects with long codes, which take too long;
-        and objects of two other rules."""
+        """Compares the parts of objects with parts found by brute force. The test takes random
+        objects of the example with short codes (others take too long), and all objects of small
+        censuses under two other rules."""
         draw = random.Random("objects")
         tried = [("b3s23", draw.sample([code for code in example().totals if len(code) < 22], 250))]
         for rule, count in (("b36s23", 800), ("b3678s34678", 3000)):
@@ -353,8 +359,8 @@ class Labels(unittest.TestCase):
         self.assertEqual([mark_label(label, strict("x")) for label in ("block", "")], ["block", ""])
 
 
-# Strict objects, two blocks in two ways, three blinkers, and an object about which nothing is
-# known.
+# Strict objects, two objects of two blocks, an object of three blinkers, and an object whose parts
+# aren't known.
 CODES = {
     "xs4_33": 50,
     "xs8_rr": 10,
@@ -412,8 +418,8 @@ class Tables(unittest.TestCase):
         )
 
     def test_strict(self) -> None:
-        """Only objects of a single part and objects that aren't separated (with a note) are shown,
-        with their ranks among all objects."""
+        """`--strict` shows only objects of a single part, and objects that aren't separated (with a
+        note). Each has its rank among all objects."""
         strict = [
             ["1", "xs4_33", "block"],
             ["5", "xp2_7", "blinker"],
@@ -430,8 +436,8 @@ class Tables(unittest.TestCase):
         )
 
     def test_by_parts(self) -> None:
-        """There are 50 blocks and two in each of 17 objects, and 3 blinkers and three in each of 4
-        objects. The samples are the three lowest numbers."""
+        """There are 50 blocks and two more in each of 17 objects, and 3 blinkers and three more in
+        each of 4 objects. The samples of a part are the three lowest numbers."""
         self.assertEqual(
             self.rows("--parts"),
             [
@@ -502,7 +508,8 @@ class Tables(unittest.TestCase):
         self.assertIn("not allowed with argument", errors)
 
     def test_an_enormous_code(self) -> None:
-        """Neither the row of an enormous code nor the other rows are lost."""
+        """If an object has an enormous code, a table has a row for this object and for each other
+        object."""
         code = "xp2_1" + "yz" * 30 + "1"
         with tempfile.TemporaryDirectory() as folder:
             Path(folder, "a").write_text(haul("b3s23", 100, {code: 2, "xs4_33": 1}))
@@ -554,10 +561,10 @@ class SideBySide(unittest.TestCase):
         self.assertEqual([one["not_separated"] for one in told["hauls"]], [["ov_p12"], []])
 
     def test_other_parts_under_another_rule(self) -> None:
-        """In Life, each of the two tables of a table on table would die alone. Under `bs123`,
-        nothing is born, and each table stays. Its code `xs6_9f` is a table turned on its side: a
-        column of four live cells, and beside it a column with only its first and fourth cell.
-        """
+        """In Life, each of the two tables of a table on table would die by itself. Under `bs123`,
+        no cell is born, and a table is a still life. The code `xs6_9f` draws a table that is turned
+        on its side: the first column has only its first and fourth cell alive, and the second
+        column has four live cells."""
         for name, rule in zip(self.names, ("b3s23", "bs123"), strict=True):
             Path(name).write_text(haul(rule, 100, {"xs12_raar": 4}))
         told = json.loads(run("compare", "--json", "--whole", *self.names)[1])
@@ -656,7 +663,8 @@ class Many(unittest.TestCase):
         self.assertEqual(worked.call_count, 0)
 
     def test_no_process(self) -> None:
-        """If no other process can be started, or if it is killed, this process does the work."""
+        """If no other process can be started, or if the other processes are killed, this process
+        does the work."""
         with patch("os.fork", side_effect=OSError):
             self.assert_right(self.separate())
         parent, separate = os.getpid(), Separator.separate

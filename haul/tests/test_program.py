@@ -32,7 +32,7 @@ from haul.views.compare import Comparison
 
 
 class Kept(Census):
-    """The census program. Keeps what each call of `take` printed."""
+    """A client of the census program that remembers what each call of `take` printed."""
 
     def __init__(self) -> None:
         super().__init__(CENSUS, QUIET)
@@ -61,7 +61,7 @@ def says_right(kept: Kept, text: bytes) -> bool:
 
 
 def is_printed(kept: Kept, text: bytes) -> bool:
-    """Checks whether `take` prints this text for the job and the set in the text."""
+    """Checks whether `take` prints this text for the job and the set of soups in the text."""
     haul = read_one_haul(io.BytesIO(text))
     again = io.BytesIO()
     kept.take(haul.job, haul.ranges, 1, again)
@@ -69,7 +69,7 @@ def is_printed(kept: Kept, text: bytes) -> bool:
 
 
 class Checking(unittest.TestCase):
-    # Small numbers, so that a changed haul is also taken quickly, under any rule.
+    # With these small numbers, the census of a changed haul takes little time, too, under any rule.
     WORDS = ["--seed=a", "--count=30", "--period=4", "--horizon=8", "--stride=10", "--limit=30"]
 
     def test_right(self) -> None:
@@ -197,7 +197,7 @@ class Checking(unittest.TestCase):
         )
 
     def test_a_haul_that_is_taken_again_in_pieces(self) -> None:
-        """There are more ranges than `haul` puts into one call (`RANGES_IN_A_CALL`)."""
+        """There are more ranges than `haul` passes to one call of `census take`."""
         job = Job("", "b3s23", Profile(1, 1, 1, 0))
         parts = b""
         for start in (0, 2000):
@@ -304,7 +304,7 @@ class Comparing(unittest.TestCase):
 
 
 class Finding(unittest.TestCase):
-    """Tests which program is called if none is named."""
+    """Tests which census program is called if `--census` isn't given."""
 
     def setUp(self) -> None:
         self.folder = tempfile.TemporaryDirectory()
@@ -339,7 +339,7 @@ class Finding(unittest.TestCase):
             find_beside()
 
     def test_one_of_a_checkout(self) -> None:
-        """The launcher builds the program."""
+        """In a checkout, `haul` first calls the launcher bin/census, which builds the program."""
         starter = self.put("bin/census", f'#!/bin/sh\necho "$@" >> "{self.top}/asked"\n')
         self.put("bin/built.bash", "")
         built = str(self.top / "crates" / "census" / "out" / "census")
@@ -397,8 +397,9 @@ class Pages(unittest.TestCase):
                     self.assertIn(f'<code class="seed">{escape(seed)}</code>', shown)
 
     def test_all_is_there(self) -> None:
-        """The table has each part that is found by brute force from the definition. The data also
-        have each object. In the reference, 16,203,883 soups have a pond."""
+        """The table has each part that is found by brute force from the definition, and the data
+        also have each object. The rarity of a pond is one in 6.17, since 16,203,883 soups of the
+        reference have a pond."""
         haul = read_one_haul(io.BytesIO(census("take", "--count", "40")))
         shown, plain = page(haul), plain_parts.rule_of("b3s23")
         rows = table_of(shown).rows
@@ -415,7 +416,8 @@ class Pages(unittest.TestCase):
         )
 
     def test_options_of_a_sample(self) -> None:
-        """The command has the options that aren't standard, and no others."""
+        """The command has an option for each number of the profile that isn't standard, and no
+        other options."""
         for profile, words in (
             (Profile(64, 512, 101, 30300), ""),
             (Profile(64, 512, 100, 30300), " --stride=100"),
@@ -432,8 +434,8 @@ class Pages(unittest.TestCase):
                 )
 
     def test_codes_that_name_nothing(self) -> None:
-        """A haul may be valid although the program can't draw some of its codes. Everything else in
-        it is shown."""
+        """A haul may be valid although the program can't draw some of its codes. The page shows
+        everything else in the haul."""
         codes = ["xs4_33", "xs4_y", "yl3_1", "zz_"]
         haul = Haul(
             Job("", "b3s23", Profile(64, 512, 101, 30300)),

@@ -1,5 +1,5 @@
-"""Properties of every haul: a single fault is reported at its place, and a page shows what the haul
-has."""
+"""Properties that hold for every haul: a single fault is reported at its place, and a page shows
+what the haul has."""
 
 from __future__ import annotations
 
@@ -25,7 +25,7 @@ def read(lines: list[str]) -> Haul:
 
 
 class OneWrongThing(unittest.TestCase):
-    """Each test makes one fault in a right haul, at one place after another, and composes the
+    """Each test makes one fault in a correct haul, at one place after another, and composes the
     expected messages from the lines of the haul."""
 
     def setUp(self) -> None:
@@ -71,7 +71,8 @@ class OneWrongThing(unittest.TestCase):
                 )
 
     def test_samples(self) -> None:
-        """A sample at each place is replaced, the last sample is left out, or one is added."""
+        """In turn, each sample is replaced, the last sample of each row is left out, and a sample
+        is added to each row."""
         tried = 0
         for row in self.samples:
             code, *numbers = self.lines[row].split()
@@ -110,7 +111,7 @@ class OneWrongThing(unittest.TestCase):
                 )
 
     def test_sample_soups(self) -> None:
-        """The sample at each place is replaced by a soup that doesn't leave the object."""
+        """In turn, each sample is replaced by a soup that doesn't leave the object."""
         left = {
             number: {field.partition("*")[0] for field in line.split()[9:]}
             for number, line in enumerate(

@@ -1,5 +1,5 @@
-"""The quick way to separate objects, compared with the definition; and patterns as bits of a number,
-compared with sets of cells."""
+"""The quick way to separate objects, compared with separation by the definition. Also patterns as
+bits of a number, compared with patterns as sets of cells."""
 
 from __future__ import annotations
 
@@ -60,7 +60,7 @@ class Bitmaps(unittest.TestCase):
             self.assertIsNone(read_bitmap(text), text)
 
     def test_the_largest(self) -> None:
-        """A pattern may have 56 columns and 56 rows."""
+        """A pattern may have at most 56 columns and 56 rows."""
         self.assertEqual(MOST_SIDE, 56)
         wide, high = "1" * 56, "v" + "zv" * 10 + "z1"
         for text in (wide, high):
@@ -89,7 +89,7 @@ class Bitmaps(unittest.TestCase):
             width, height = (max(side) + 1 for side in zip(*cells, strict=True))
             room = {(x, y) for x in range(-3, width + 3) for y in range(-3, height + 3)}
             self.assertEqual(find_room(bits), bits_of(frozenset(room)))
-        # The cell in the first column may be in any row.
+        # The corner is found in whichever row the cell of the first column is.
         for row in range(MOST_SIDE):
             cells = frozenset([(1, 0), (1, MOST_SIDE - 1), (0, row)])
             self.assertEqual(bitmaps.find_corner(bits_of(cells)), CORNER)
@@ -111,7 +111,7 @@ class Bitmaps(unittest.TestCase):
 class Quick(unittest.TestCase):
     def test_all_objects_of_the_example(self) -> None:
         """The quick way separates all objects of the example. The definition gives the same parts
-        for all strict objects and for 1,500 random ones."""
+        for all strict objects and for 1,500 random objects."""
         separator, slow = Separator(LIFE), Separator(LIFE)
         codes = list(example().totals)
         found = {code: separator.separate_quickly(code) for code in codes}
@@ -134,8 +134,9 @@ class Quick(unittest.TestCase):
             self.assertGreaterEqual(quick, 300 if rule == STILL else 1)
 
     def test_what_is_not_found(self) -> None:
-        """Codes that draw nothing or are wrong about what they draw, an object that is too wide,
-        and an object with eleven islands, two of which aren't parts."""
+        """The quick way gives up on codes that draw nothing or are wrong about what they draw, on
+        an object that is too wide, and on an object with eleven islands, two of which aren't
+        parts."""
         for code in (
             "xs48_raar0rr0rr0rr0rrw33",
             "xs5_33",
@@ -154,7 +155,8 @@ class Quick(unittest.TestCase):
             "xs2_1yyyy1",
         ):
             self.assertIsNone(Separator(LIFE).separate_quickly(code), code)
-        # A glider moves by a cell in four generations, so after twelve it is still in its room.
+        # A glider moves by one column and one row in four generations, so after twelve generations
+        # it is still in its room.
         bits = read_bitmap("153") or 0
         quick = QuickSeparator(LIFE)
         self.assertIsNotNone(quick.run(bits, 12))
@@ -166,9 +168,10 @@ class Quick(unittest.TestCase):
             )
 
     def test_islands_that_are_not_parts(self) -> None:
-        """Two tables that change by themselves, beside a block, and between blocks; the four
-        islands of a pulsar, beside a block; and a blocker, which is a cluster in two of its eight
-        phases, beside a block."""
+        """The quick way also separates objects with islands that aren't parts. The first two
+        objects have two tables, each of which changes if it is run alone, and one or two blocks.
+        The third object has the four islands of a pulsar, and a block. The fourth has a blocker,
+        which is a cluster in only two of its eight phases, and a block."""
         for code in (
             "xs16_raarw33",
             "xs20_33wraarw33",
@@ -180,15 +183,16 @@ class Quick(unittest.TestCase):
             self.assertEqual(found, Separator(LIFE).separate_by_definition(code), code)
 
     def test_the_most(self) -> None:
-        """The longest period and ten islands, eight of them blocks, are still tried."""
+        """An object with the longest period is separated, and so is an object with ten islands,
+        eight of which are blocks."""
         with patch("haul.life.quick_parts.MOST_PERIOD", 2):
             self.assertIsNotNone(Separator(LIFE).separate_quickly("xp2_7"))
         found = Separator(LIFE).separate_quickly("xs44_raar0rr0rr0rr0rr")
         self.assertEqual(found, Separation(("xs12_raar", *["xs4_33"] * 8)))
 
     def test_clusters_in_some_phases(self) -> None:
-        """A blocker is a cluster in two of eight phases, and a part whichever phase is the first.
-        Coe's p8 is several clusters in each phase, so it isn't a part."""
+        """A blocker is a cluster in two of its eight phases. It is a part whichever phase is the
+        first. Coe's p8 is several clusters in each phase, so it isn't a part."""
         quick = QuickSeparator(LIFE)
         self.assertIsNotNone(quick.run_part(read_bitmap("33") or 0, 1))
         bits = read_bitmap("g3jgz1ut") or 0
@@ -200,9 +204,9 @@ class Quick(unittest.TestCase):
         self.assertIsNone(quick.run_part(bits, 8))
 
     def test_each_condition_of_a_block(self) -> None:
-        """A block of a bi-block meets the conditions, and so do both blocks together. Three cells
-        of a block become four, of which one isn't in the object. Two cells that die don't recur
-        with the object."""
+        """Each island of a bi-block meets the conditions, and so do both islands together. Three
+        cells of an island don't meet them, since they become four cells, one of which isn't in the
+        object. Two cells that die don't recur with the object."""
         two = read_bitmap("rr") or 0
         blocks = QuickBlocks(LIFE, [two, two], bitmaps.find_islands([two]))
         one = blocks.islands[0]
@@ -212,7 +216,7 @@ class Quick(unittest.TestCase):
         less = QuickBlocks(LIFE, [two & ~corner, two & ~corner], [])
         self.assertIsNone(less.run_alone(one & ~corner))
         self.assertIsNone(QuickBlocks(LIFE, [one, one << 1], []).run_alone(one & two << 1))
-        # A separation has each cell once.
+        # In a separation, each cell of the object is in exactly one block.
         self.assertTrue(is_separation([two], [[one], [two & ~one]]))
         for wrong in ([[one], [two]], [[one]], [[one], [one]], [[one | corner << 9], [two & ~one]]):
             self.assertFalse(is_separation([two], wrong))

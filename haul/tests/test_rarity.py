@@ -22,7 +22,8 @@ from haul.tests.called import TOP, run
 
 
 def binomial_tail(least: int, trials: int, share: float) -> float:
-    """Returns the probability of at least `least` successes, as a sum."""
+    """Returns the probability of at least `least` successes in `trials` trials that succeed with
+    probability `share`, as a sum."""
     return math.fsum(
         math.comb(trials, k) * share**k * (1 - share) ** (trials - k)
         for k in range(least, trials + 1)
@@ -47,8 +48,8 @@ class Functions(unittest.TestCase):
                 )
 
     def test_beta_of_other_numbers(self) -> None:
-        """If both parameters are 1/2, the function is an arcsine. If one of them is 1, the function
-        is a power."""
+        """If both parameters are 1/2, the value is given by an arcsine. If one parameter is 1, the
+        value is given by a power."""
         for x in (0.01, 0.3, 0.9):
             self.near(compute_beta(0.5, 0.5, x), 2 / math.pi * math.asin(math.sqrt(x)))
             self.near(compute_beta(2.7, 1, x), x**2.7)
@@ -95,7 +96,8 @@ class Functions(unittest.TestCase):
         self.assertIsNone(Occurrence(0, 1000).one_in_high())
 
     def test_a_search_that_ends_early(self) -> None:
-        """A search that may take only a few steps returns the value that it has by then."""
+        """The search for a quantile returns the value that it has reached when it may take no more
+        steps."""
         with patch.object(occurrence, "MOST_STEPS", 2):
             early = occurrence.find_beta_quantile.__wrapped__(4, 6, 0.025, -1.96)
         self.assertEqual(round(early, 1), 0.1)

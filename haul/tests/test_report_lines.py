@@ -17,14 +17,14 @@ from haul.tests.called import CENSUS
 # The beginning of a line, 57 bytes long, as in docs/FORMATS.md.
 START = "report 1 rule=b3s23 profile=1,1,1,0 seed= worker=1 soup=0"
 SMALL_JOB = Job("", "b3s23", Profile(1, 1, 1, 0))
-# Soup 101 of the empty seed.
+# The report line of soup 101 of the empty seed.
 WHOLE = "report 2 rule=b3s23 profile=64,512,101,30300 seed= worker=3 soup=101 at=202 good=yes xp2_7*1 xs4_33*3 xs5_253*1 xs7_2596*1"
 # The largest number of bytes that a line may have.
 MOST = 16_777_216
 
 
 def fault(line: str | bytes) -> int | None:
-    """Returns the place at which a line is wrong, or `None` if it is good."""
+    """Returns the place at which a line is wrong, or `None` if it is a report line."""
     try:
         read_report_line(line if isinstance(line, bytes) else line.encode("latin-1"))
     except BadLine as bad:
@@ -162,8 +162,8 @@ class Faults(unittest.TestCase):
             self.assertEqual(fault(second + after), place, after)
 
     def test_a_line_that_lost_its_end(self) -> None:
-        """A line that is cut off is bad where its last field begins, or at its end if that field is
-        right. If the cut leaves a whole line, that line is good."""
+        """A line that is cut off is bad where its last field begins, or at its end if its last
+        field is valid. If the cut leaves a valid line, no fault is found."""
         for end, place in (
             ("", 0),
             ("repor", 0),
@@ -213,8 +213,8 @@ class Faults(unittest.TestCase):
 
 class BesideGather(unittest.TestCase):
     def test_changed_lines(self) -> None:
-        """`haul` and `census gather` find the same lines bad, at the same places. The set is empty,
-        so no soup is run."""
+        """`haul` and `census gather` find the same lines bad, at the same places. The set of soups
+        is empty, so no soup is run."""
         draw = random.Random("changed lines")
         lines = [
             self.changed(

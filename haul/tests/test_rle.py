@@ -41,7 +41,7 @@ def life(words: list[str], pattern: str) -> str:
 
 
 def boxed(rows: list[str]) -> list[str]:
-    """Returns the rows of the bounding box."""
+    """Returns the part of the rows that is in the bounding box of the live cells."""
     live = [y for y, row in enumerate(rows) if "O" in row]
     left = min((rows[y].index("O") for y in live), default=0)
     right = max((rows[y].rindex("O") for y in live), default=-1)
@@ -162,8 +162,8 @@ class Reading(unittest.TestCase):
 
 class NamedRules(unittest.TestCase):
     def test_each_can_be_run(self) -> None:
-        """Each rule is a value of `--rule`, without birth on zero neighbours, and is found by its
-        name in capital letters."""
+        """Each named rule is a valid value of `--rule`, and is also found by its name in capital
+        letters."""
         for name, option in RULES.items():
             self.assertTrue(RULE.fullmatch(option.encode()), option)
             self.assertEqual(find_named_rule(name.upper()), option)
@@ -275,7 +275,7 @@ class Refused(unittest.TestCase):
 
 class Writing(unittest.TestCase):
     def test_a_glider(self) -> None:
-        """The RLE is the same as on LifeWiki."""
+        """The RLE of a glider is the same as on LifeWiki."""
         self.assertEqual(
             run("rle", text=GLIDER.encode()), (0, "x = 3, y = 3, rule = B3/S23\nbo$2bo$3o!\n", "")
         )
@@ -361,8 +361,9 @@ class Golly(unittest.TestCase):
             )
 
     def test_patterns_of_golly(self) -> None:
-        """A third of Golly's patterns is tested, except for those that are too large or refused.
-        What Golly writes after reading a pattern is the same pattern, moved to the corner."""
+        """If Golly reads and writes one of its patterns, `haul` reads the same pattern from both
+        texts, apart from dead rows and columns at the sides. A third of the patterns is tested,
+        except for texts that are too long or refused."""
         tried = 0
         for file in sorted(Path("/usr/share/golly/Patterns").rglob("*.rle"))[::3]:
             text = file.read_bytes()

@@ -1,4 +1,4 @@
-"""`haul search`: which soups it takes, what it refuses, and that its file is right whatever
+"""`haul search`: which soups it takes, what it refuses, and that FILE is a correct haul whatever
 happens."""
 
 from __future__ import annotations
@@ -98,7 +98,8 @@ class Soups(Searches):
         )
 
     def test_as_many_as_there_are_or_fewer(self) -> None:
-        """The search ends at once, and doesn't call the program."""
+        """If FILE has as many soups as requested, or more, the search ends at once and doesn't call
+        the census program."""
         self.file.write_bytes(census("take", "--count", "20"))
         before = self.file.stat()
         for until in ("20", "19", "0"):
@@ -301,7 +302,7 @@ class Refusals(Searches):
 
 
 class Faults(Searches):
-    """The file is always a right haul, whatever fails."""
+    """FILE is a correct haul, whatever fails."""
 
     def test_a_program_that_fails(self) -> None:
         """The search passes on the program's message, or says how the program ended. The earlier
@@ -376,7 +377,8 @@ class Faults(Searches):
         self.assertFalse(self.file.exists())
 
     def test_nobody_reads(self) -> None:
-        """The batch whose find can't be reported is in the file."""
+        """If nobody reads the finds, the search ends, and the batch whose find couldn't be printed
+        is in the file."""
         with self.start("--seed=", "--first=23473", "--part=20", "--rarer=10000") as program:
             assert program.stdout
             program.stdout.close()
@@ -410,13 +412,13 @@ class Faults(Searches):
 
 
 class Signals(Searches):
-    """A signal loses only the running batch, and leaves nothing running."""
+    """After a signal, only the running batch is lost, and no process is left running."""
 
-    # In this program, the batch from soup 40 on takes a long time.
+    # With this program, the batch from soup 40 on takes a long time.
     SLOW = 'case "$*" in *--first=40*) echo census >&2; touch slow; exec sleep 1000 ;; *) real "$@" ;; esac'
 
     def slow(self) -> subprocess.Popen[bytes]:
-        """Starts a search whose third batch takes a long time."""
+        """Starts a search whose third batch takes a long time, and waits until this batch runs."""
         program = self.start("--seed=a", "--part", "20", program=self.stub(self.SLOW))
         self.wait_for(20)
         while not (self.folder / "slow").exists():
@@ -424,7 +426,7 @@ class Signals(Searches):
         return program
 
     def test_the_first_interrupt(self) -> None:
-        """The running batch is finished."""
+        """After the first Ctrl-C, the running batch is finished."""
         with self.start("--seed=a", "--part", "300") as program:
             self.wait_for(300)
             os.killpg(program.pid, signal.SIGINT)
@@ -476,7 +478,7 @@ class Signals(Searches):
 
 
 class Programs(Searches):
-    """A program that runs in its own session."""
+    """Tests programs that run in their own sessions."""
 
     def test_streams_that_are_closed_early(self) -> None:
         """If the program closes its streams before it ends, `is_ended` waits only for a moment."""
@@ -505,7 +507,7 @@ class Programs(Searches):
             self.assert_nothing_runs()
 
     def test_lines_of_progress(self) -> None:
-        """The last complete progress line counts."""
+        """The number of soups is read from the last complete progress line."""
         take = BackgroundTake(StreamWaiter(), [self.stub("exec sleep 1000")])
         for piece, soups in (
             (b"", 0),
@@ -580,7 +582,8 @@ class Keeping(Searches):
         os.close(Keeper(str(self.folder / "link")).lock)
 
     def test_a_link_to_a_link(self) -> None:
-        """The lock belongs to the file, and is in its folder."""
+        """If FILE is a link to a link, the search locks the file to which the links lead. The lock
+        is in the folder of this file."""
         (self.folder / "far").mkdir()
         (self.folder / "far" / "link").symlink_to("../near")
         (self.folder / "near").symlink_to("mine.haul")

@@ -1,5 +1,5 @@
-"""`haul search` under difficult conditions: interference with its file, its programs and its
-memory."""
+"""`haul search` under difficult conditions: unusual programs, changes to its files, and too little
+memory. Also unusual arguments, and bad report lines."""
 
 from __future__ import annotations
 
@@ -30,7 +30,8 @@ class Programs(Searches):
         self.assertEqual(self.sleeping("77.5"), [])
 
     def test_census_that_does_not_become_the_program(self) -> None:
-        """`haul` is killed while a wrapper waits for the program."""
+        """If `haul` is killed while a wrapper script waits for the census program, the script and
+        the program end, too."""
         program = self.stub(f'"{CENSUS}" "$@"; true', "wrapper")
         running = self.start("--part", "16000000", "--workers=1", program=program)
         for _ in range(1000):
@@ -49,7 +50,8 @@ class Programs(Searches):
         return [line for line in found if line == f"sleep {seconds}"]
 
     def test_without_a_path(self) -> None:
-        """Without a `PATH`, Python may not know the path of its interpreter."""
+        """A search works even if Python doesn't know the path of its interpreter, as may happen
+        without a `PATH`."""
         ended = subprocess.run(
             [sys.executable, "-c", WITHOUT_EXECUTABLE, HAUL, CENSUS, str(self.file), *QUICK],
             stdout=subprocess.PIPE,
@@ -91,7 +93,8 @@ class Files(Searches):
         self.assertEqual((running.returncode, errors), (0, b""))
 
     def test_changed_by_another_program(self) -> None:
-        """The file isn't changed further, and the haul is written beside it."""
+        """If another program removes or replaces FILE, the search leaves FILE as it is, and writes
+        its haul to a file beside it."""
         other = census("take", "--seed=other", "--count=3")
         changes: list[tuple[Callable[[], object], str]] = [
             (self.file.unlink, "mine.haul.mine"),
@@ -116,7 +119,7 @@ class Files(Searches):
 
 
 class Arguments(Searches):
-    """Tests how numbers are written, and arguments with control characters."""
+    """Tests numbers with a plus sign, and arguments with control characters."""
 
     def test_numbers_as_for_census(self) -> None:
         words = ["--seed=", "--first", "+5", "--limit", "+700"]

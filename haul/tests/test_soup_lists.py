@@ -185,8 +185,8 @@ from    to  settled
 
 class Lines(unittest.TestCase):
     def test_what_is_skipped(self) -> None:
-        """Bad lines and lines of another job are reported with file and number. Soups that occur
-        again aren't reported."""
+        """A bad line, or a line of another job, is reported with its file and its line number. A
+        soup that occurs again is skipped without a message."""
         with tempfile.TemporaryDirectory() as folder:
             one, other = os.path.join(folder, "one"), os.path.join(folder, "other")
             Path(one).write_bytes(
@@ -260,8 +260,8 @@ class Lines(unittest.TestCase):
         )
 
     def test_lines_of_work(self) -> None:
-        """For report lines, the numbers of soups, of unsettled soups and of soups settled for good
-        are those of the haul."""
+        """`haul soups` and the haul of the same soups agree on the numbers of soups, of unsettled
+        soups, and of soups that settled for good."""
         haul = census("take", "--count=300", "--seed=b").decode().splitlines()
         told = json.loads(
             run("soups", "--json", text=census("work", "--count=300", "--seed=b", "--worker=2"))[1]
@@ -351,7 +351,8 @@ class TheLongest(unittest.TestCase):
         self.assertEqual(rows("--longest=2", lines=lines), [["9", "1", "0"], ["4", "0", "0"]])
 
     def test_equal_checkpoints(self) -> None:
-        """The soup with the lower number comes first, in whichever order the lines are read."""
+        """Among soups with equal checkpoints, the soup with the lower number comes first, in
+        whichever order the lines are read."""
         lines = [
             f"report 2 {JOB} worker=1 soup={soup} at={at} good=yes"
             for soup, at in ((4, 7), (9, 5), (2, 5), (6, 5), (1, 3), (8, 5))
@@ -390,7 +391,8 @@ class TheLongest(unittest.TestCase):
         self.assertTrue(all(int(row[1]) <= int(row[2]) < int(row[1]) + 101 for row in table))
 
     def test_an_exact_generation_that_is_not_there(self) -> None:
-        """The lines are trusted, so they may say that a soup settles although it doesn't."""
+        """`haul soups` trusts report lines. If a line says that a soup settles, and the soup
+        doesn't, then no exact generation is shown."""
         line = "report 2 rule=b3s23 profile=1,1,1,0 seed= worker=1 soup=0 at=0 good=yes xs4_33*1"
         output = run("soups", "--longest=1", "--exact", "--census", CENSUS, text=text_of([line]))[1]
         self.assertEqual(
@@ -458,8 +460,8 @@ class UnsettledSoups(unittest.TestCase):
             )
 
     def test_a_thousand_generations(self) -> None:
-        """The program is called for the last checkpoint and for the generation a thousand before
-        it. The growth may be negative."""
+        """The program is called for the population at the last checkpoint and a thousand
+        generations earlier. The growth may be negative."""
         line = "report 2 rule=b36s23 profile=1,1,7,1010 seed=a worker=1 soup=0 unsettled"
         script = 'case "$*" in "run --rule=b36s23 8") echo OOO.O ;; "run --rule=b36s23 1008") echo "O..O" ;; *) exit 5 ;; esac; cat > "$0.read"'
         with program(script) as path:

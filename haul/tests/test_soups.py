@@ -12,7 +12,8 @@ from haul.tests.called import census, run
 
 
 def said_of(*names: str) -> str:
-    """Returns why the names are refused."""
+    """Returns the message about the first name that is refused, or `nothing` if all names are
+    read."""
     try:
         for name in names:
             read_sample(name)
@@ -58,13 +59,15 @@ class Soups(unittest.TestCase):
         self.assertEqual(run("soup", sign), (0, census("soup", "--seed=~!", "1").decode(), ""))
 
     def test_several(self) -> None:
-        """In a single stream, several samples would be one pattern, so they are refused."""
+        """Several samples in plaintext would be one pattern, so they are refused without
+        `--separate` or `--rle`."""
         status, printed, told = run("soup", "C1/b2", "a1")
         self.assertEqual((status, printed), (2, ""))
         self.assertIn("several samples need --separate FOLDER or --rle", told)
 
     def test_rle(self) -> None:
-        """RLE includes the name and the rule, so a stream may contain several samples."""
+        """With `--rle`, the output may contain several samples, since each begins with its name and
+        its rule."""
         status, printed, told = run("soup", "--rle", "C1/b2/b36s23", "a1")
         self.assertEqual((status, told), (0, ""))
         first, second = printed.split("#N a1\n")
@@ -84,7 +87,7 @@ class Soups(unittest.TestCase):
             self.assertEqual(run("soup", "--separate", soups, "C1/b2", "a1"), (0, "", ""))
             for name, words in (("b2", ("--seed=b", "2")), ("a1", ("--seed=a", "1"))):
                 self.assertEqual(Path(soups, f"{name}.cells").read_bytes(), census("soup", *words))
-            # A file that already exists isn't written again.
+            # A file that already exists isn't overwritten.
             Path(soups, "a1.cells").write_text("mine")
             self.assertEqual(
                 run("soup", "--separate", soups, "a1"),
@@ -95,8 +98,8 @@ class Soups(unittest.TestCase):
             self.assertTrue(Path(soups, "a1.rle").read_text().startswith("#N a1\nx = "))
 
     def test_other_symmetries(self) -> None:
-        """A sample with another symmetry is refused, the message names it, and no soup before it is
-        printed."""
+        """A sample with another symmetry is refused, and the message names this symmetry. If one
+        sample is refused, the samples before it aren't printed, either."""
         for name, symmetry in (
             ("D8_1/k_a1", "D8_1"),
             ("C2_4/k_a1", "C2_4"),

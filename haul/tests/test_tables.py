@@ -1,4 +1,4 @@
-"""Tables: of one haul, of several side by side, and for other programs."""
+"""Tables of one haul or of several hauls side by side, as text, as CSV and as JSON."""
 
 from __future__ import annotations
 
@@ -29,7 +29,7 @@ from haul.views.intervals import find_dispersed_interval, find_interval
 from haul.views.layout import format_figure
 from haul.views.rates import compute_rate
 
-# The ends of the interval of 95 %, from Garwood (1936).
+# The ends of the interval of 95 % for each count, from Garwood (1936).
 GARWOOD = {
     0: (0, 3.689),
     1: (0.0253, 5.572),
@@ -45,7 +45,8 @@ GARWOOD = {
 
 
 def haul(rule: str, soups: int, totals: dict[str, int]) -> str:
-    """Returns the text of a valid haul. Each code has one sample: its place in the table."""
+    """Returns the text of a valid haul. Each code has one sample, whose number is the index of the
+    code in the table."""
     rows = sorted(totals.items())
     lines = [
         "@VERSION 2",
@@ -178,8 +179,8 @@ class Intervals(unittest.TestCase):
             self.assertAlmostEqual(high, quantile(total + 1, deviations), delta=near)
 
     def test_by_sums(self) -> None:
-        """For totals below 30, both ends are exact. From 30 on, an expansion gives the ends with
-        four digits after the point."""
+        """For totals below 30, both ends are exact. For other totals, they are correct to four
+        decimal places."""
         for total in (*range(0, 12), 29, 30, 31, 32, 40, 60):
             for found, known in zip(find_interval(total), exact_ends(total), strict=True):
                 self.assertAlmostEqual(found, known, delta=1e-9 if total < 30 else 2e-5)
@@ -222,8 +223,8 @@ class Intervals(unittest.TestCase):
                 self.assertAlmostEqual(chance, wanted, places=6)
 
     def test_time(self) -> None:
-        """The test counts the lines that are run, since a clock also depends on what else is
-        running on the machine."""
+        """Computing an interval takes little time. The test counts the lines that are run, since a
+        clock also depends on what else is running on the machine."""
         for total in (0, 10, 28, 29, 30, 31, 1000, 2**64 - 1):
             self.assertLess(lines_of(find_interval, total), 12_000)
 
@@ -247,8 +248,8 @@ def lines_of(function: Callable[[int], object], number: int) -> int:
 
 
 class Rates(unittest.TestCase):
-    """Each rate is the double nearest to the exact quotient, as computed with `Fraction`, and is
-    printed in the shortest form that reads back the same."""
+    """Each rate is the double nearest to the exact quotient, as computed with `Fraction`. It is
+    printed in the shortest form from which the same double is read."""
 
     def test_each_is_the_nearest(self) -> None:
         self.assertEqual(
@@ -508,7 +509,8 @@ in A alone: xq4_153 xs8_rr; in B alone: xp15_4r4z4r4
 
     def test_stars(self) -> None:
         """If parts are counted under Life with the standard profile, a star marks a rate that
-        differs from the rate in A. The dispersion in the reference is taken into account."""
+        differs significantly from the rate in A. The test for this uses the dispersion in the
+        reference."""
         Path(self.folder.name, "l").write_text(haul("b3s23", 1000, {"xs4_33": 700, "xp2_7": 20}))
         Path(self.folder.name, "m").write_text(haul("b3s23", 500, {"xs4_33": 700, "xp2_7": 12}))
         lines = self.printed("compare", "--parts", "--intervals", "l", "m").splitlines()
@@ -569,8 +571,8 @@ in A alone: xq4_153 xs8_rr; in B alone: xp15_4r4z4r4
         self.assertIn("as if objects came singly", lines[-1])
 
     def test_all_that_is_printed(self) -> None:
-        """Three hauls in each order, with several options: facts, rates, intervals and ratios, and
-        the codes that only one haul has."""
+        """Checks all that is printed about three hauls in each order, with several options: facts,
+        rates, intervals and ratios, and the codes that only one haul has."""
         names = {
             "xs4_33": "block",
             "xp2_7": "blinker",
@@ -770,7 +772,7 @@ in A alone: xq4_153 xs8_rr; in B alone: xp15_4r4z4r4
         self.assertEqual(run("compare", "--csv", "--json", "-", "-")[0], 2)
 
     def test_none_vanishes(self) -> None:
-        """There are sixteen letters for sixteen hauls."""
+        """Sixteen hauls have sixteen letters. There is no letter for a seventeenth haul."""
         none = Haul(
             Job("", "b3s23", Profile(1, 1, 1, 0)),
             ranges=[],
@@ -839,7 +841,7 @@ class Terminals(Tables):
 
     def test_where_they_are_cut(self) -> None:
         """Nothing is cut if everything fits. Otherwise a code gets one column narrower for each
-        column that the terminal lacks, down to eight columns with the `…`."""
+        column that the terminal lacks, down to eight columns, including the `…`."""
         code = "xs40_" + "g" * 20
         Path(self.folder.name, "a").write_text(haul("b3s23", 10, {"xs4_33": 5, code: 7}))
         for words in (["table", "a"], ["compare", "a", "a"]):

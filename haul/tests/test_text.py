@@ -12,7 +12,7 @@ from haul.formats.haul import Haul
 from haul.formats.haul_reader import read_hauls, read_one_haul
 from haul.tests.drawn import any_haul, text_of
 
-# Two of four soups of the empty seed, each unsettled, as in docs/FORMATS.md.
+# A haul with two of four soups of the empty seed, both unsettled, as in docs/FORMATS.md.
 SMALL = """\
 @VERSION 2
 @ROOT seed=
@@ -59,8 +59,8 @@ def read(text: str) -> Haul:
 
 
 def said_of(text: str) -> str:
-    """Returns the message about a text that isn't a haul: a place, and a reason if the words of the
-    text are well formed."""
+    """Returns the message about a text that isn't a haul: the place of the fault, and a reason if
+    the field at this place is well formed. Returns `none` if there is no fault."""
     try:
         list(read_hauls(io.BytesIO(text.encode("latin-1"))))
     except BadHaul as bad:
@@ -69,7 +69,7 @@ def said_of(text: str) -> str:
 
 
 def fault(text: str) -> str:
-    """Returns the place at which a text isn't a haul."""
+    """Returns the place of the fault in a text, or `none` if there is no fault."""
     return said_of(text).partition(":")[0]
 
 
@@ -114,8 +114,9 @@ class Reading(unittest.TestCase):
         self.assertEqual([haul.line for haul in hauls], [1, 15, 34])
 
     def test_places_and_reasons(self) -> None:
-        """If the words are well formed, the message says why they are wrong, otherwise only where.
-        `None` means that the reason isn't checked, and `""` that the message has no reason."""
+        """If the field at the place is well formed, the message also has a reason. In the table of
+        this test, `None` means that the reason isn't checked, and `""` that the message has no
+        reason."""
         for old, new, place, reason in [
             ("@VERSION 2", "", "line 1 column 1", None),
             ("@VERSION 2", "@VERSION", "line 1 column 9", None),
@@ -207,8 +208,8 @@ class Reading(unittest.TestCase):
                     self.assertEqual(said, f"{place}: {reason}" if reason else place)
 
     def test_what_comes_before_a_fault_is_right(self) -> None:
-        """The largest total and the lowest number of a soup are right, and the fault follows
-        them."""
+        """The largest total and the lowest soup number are valid, so only the field after them is a
+        fault."""
         most = 2**64 - 1
         self.assertEqual(
             said_of(LARGER.replace("xs4_33 4\n", f"xs4_33 {most} x\n")),
@@ -240,8 +241,8 @@ class Reading(unittest.TestCase):
         self.assertEqual(fault(""), "line 1 column 1")
 
     def test_cut(self) -> None:
-        """A text that ends within a word that isn't a field yet is bad where the word begins.
-        Otherwise it is bad at the end."""
+        """A text that ends within a word such as `@RANGE` is bad where the word begins. Otherwise
+        it is bad at the end."""
         self.assertEqual(fault(LARGER[:5]), "line 1 column 1")
         self.assertEqual(fault("@VERSION "), "line 1 column 10")
         self.assertEqual(fault("@VERSION 2"), "line 1 column 11")

@@ -43,7 +43,8 @@ class UntoldFinds(Searches):
 
 class NotPrinted(UntoldFinds):
     def test_a_full_device(self) -> None:
-        """The soups are in the file, and the next search prints the finds first."""
+        """If the finds can't be printed, the soups are in the file, and the next search prints the
+        finds first."""
         status, errors = self.to_device(*WORDS, "--until=700")
         self.assertEqual(status, 5)
         self.assertEqual(
@@ -79,8 +80,8 @@ class NotPrinted(UntoldFinds):
         self.assertIn(CLOCK, self.told(self.search("--until=700", "--rarer=10000")[1]))
 
     def test_a_call_that_does_not_end(self) -> None:
-        """The find whose call doesn't end is reported again, and so are the finds that wait for
-        their calls."""
+        """If the call for a find doesn't end, the next search reports this find again, and also the
+        finds that wait for their calls."""
         program = self.stub("sleep 1000", "finder")
         with self.start(*WORDS, "--until=700", "--finds", program) as running:
             assert running.stdout
@@ -150,7 +151,7 @@ class AfterAKill(UntoldFinds):
             self.assert_right()
 
     def test_killed_at_drawn_moments(self) -> None:
-        """Each find is reported at least once."""
+        """Each find is reported at least once, even if searches are killed."""
         self.file.unlink()
         told: set[str] = set()
         for seconds in (0.4, 0.6, 0.8, 1.0, 1.2):

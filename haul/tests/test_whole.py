@@ -1,5 +1,5 @@
-"""The output for hauls that are made by hand: each number, row and word that a mistake could change
-unnoticed."""
+"""Tests of the exact output for hauls that are made by hand. They notice a mistake in any number,
+row or word."""
 
 from __future__ import annotations
 
@@ -44,7 +44,8 @@ def made(
 
 
 def drawn(path: str) -> set[tuple[int, int]]:
-    """Returns the cells that a path draws. The path moves a pen, and draws a line for each run."""
+    """Returns the cells that a path draws. The path moves a pen, and draws a line for each run of
+    cells."""
     cells: set[tuple[int, int]] = set()
     x = y = 0.0
     for name, first, second in re.findall(r"([Mmh])(-?[\d.]+)(?: (-?[\d.]+))?", path):
@@ -164,7 +165,7 @@ class Checks(unittest.TestCase):
             )
 
     def asked(self, haul: Haul, *words: str) -> list[str]:
-        """Returns the calls of a program that answers none of them."""
+        """Returns the calls of a census program that fails at once."""
         with tempfile.TemporaryDirectory() as folder:
             Path(folder, "other").write_text(NOTES)
             Path(folder, "other").chmod(0o755)
@@ -192,7 +193,7 @@ class Checks(unittest.TestCase):
             )
 
     def test_no_call_is_too_large(self) -> None:
-        """`census take` takes at most 2^24 soups."""
+        """A call of `census take` has at most 2^24 soups and 2,000 ranges."""
         self.assertIn(
             "--first=5 --count=16777216 ", self.asked(made({"xs4_33": 1}, [(5, 2**25)]))[0]
         )
@@ -240,7 +241,8 @@ class Joins(unittest.TestCase):
             )
 
     def test_samples_between_others(self) -> None:
-        """The samples are the three lowest, wherever the samples of the second haul are."""
+        """The samples of the joined haul are the three lowest of both hauls, whichever haul has
+        them."""
 
         def part(ranges: list[Range], numbers: list[int]) -> Haul:
             return Haul(
@@ -277,8 +279,8 @@ class Joins(unittest.TestCase):
 
 class Compares(unittest.TestCase):
     def test_exchanged(self) -> None:
-        """For random hauls, B beside A is A beside B with the columns exchanged, except for the
-        ratios."""
+        """For random hauls, comparing B with A gives the same as comparing A with B, with the
+        columns exchanged. Only the ratios differ."""
         draw = random.Random("pairs")
         rows = 0
         for _ in range(200):
@@ -315,8 +317,8 @@ class Compares(unittest.TestCase):
         self.assertGreater(rows, 1000)
 
     def test_order(self) -> None:
-        """The order is by the higher of the two rates (a haul without the code has none), then by
-        code."""
+        """Codes are ordered by the higher of the two rates, which is 0 in a haul without the code.
+        Codes with equal rates are in ASCII order."""
         one = made({"xs4_33": 5, "xs5_253": 1, "xq4_153": 1}, [(0, 10)])
         other = made({"xs4_33": 30, "xp2_7": 4, "xs6_696": 3, "xs8_rr": 99}, [(0, 1000)])
         for pair in ([one, other], [other, one]):

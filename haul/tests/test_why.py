@@ -73,7 +73,8 @@ class Fields(unittest.TestCase):
     """Tests `Field`, which runs patterns."""
 
     def test_as_the_model(self) -> None:
-        """A field gives the same generations as the model, under several rules."""
+        """`Field` gives the same generations as `advance` under several rules. It also says which
+        cells have changed."""
         for rule_text in ("b3s23", "b36s23", "b2s", "b1s012345678", "b3678s34678", "b3s023"):
             rule = read_rule(rule_text)
             for soup in range(3):
@@ -95,8 +96,8 @@ class Fields(unittest.TestCase):
 
 
 def plain_groups(cells: set[int], generations: int) -> set[frozenset[tuple[int, int]]]:
-    """Returns the groups of a pattern as sets of cells with their generations, according to the
-    definition."""
+    """Returns the groups of a pattern, found directly from the definition. A group is a set of
+    cells, each with a generation in which it is alive."""
     field = Field(LIFE, cells)
     live = {(cell, 0) for cell in cells}
     for generation in range(1, generations + 1):
@@ -151,8 +152,8 @@ class WiderRest(unittest.TestCase):
             self.assertEqual(look_for_rest(LIFE, cells_of(rle), STANDARD), Rest([code]))
 
     def test_objects_that_a_census_knows(self) -> None:
-        """Some of the objects are several clusters in some phases, and some are near one
-        another."""
+        """Objects that a census knows aren't reported, even if they are several clusters in some
+        phases, or are near one another."""
         for rle in ("2o$2o!", "3o!", PULSAR, "bo$2bo$3o!", "2o3b2o$2o3b2o!", "3o4$3o!", "10o!"):
             field = Field(LIFE, cells_of(rle))
             for _ in range(40):
@@ -162,7 +163,7 @@ class WiderRest(unittest.TestCase):
     def test_two_that_blink_by_themselves(self) -> None:
         """The cells of two blinkers are near one another only in successive generations, so the
         blinkers are one group. The group isn't an object that falls apart, since each of its
-        clusters does the same by itself."""
+        clusters evolves in the same way if it is run by itself."""
         cells = cells_of_rows("OOO.....\n.....O..\n.....O..\n.....O..")
         groups = Watched(Field(LIFE, cells), 2).groups()
         self.assertEqual(len(groups), 1)
@@ -178,7 +179,7 @@ class WiderRest(unittest.TestCase):
         self.assertIsNone(look_for_rest(LIFE, cells_of(GUN), STANDARD))
 
     def test_periods(self) -> None:
-        """An object may have a longer period than a census looks for."""
+        """An object whose period is longer than a census looks for is reported with its period."""
         short = STANDARD._replace(period=2)
         self.assertEqual(look_for_rest(LIFE, cells_of(PULSAR), short), Rest(periods=[3]))
         few = STANDARD._replace(period=4)
@@ -194,8 +195,8 @@ class WiderRest(unittest.TestCase):
             self.assertIsNone(look_for_rest(rule, cells_of("o!"), STANDARD))
 
     def test_meetings(self) -> None:
-        """The generation in which a glider comes near a block is the same as in a plain run. If it
-        is above 512, it isn't found."""
+        """`look_for_rest` finds the generation in which a glider comes near a block, up to
+        generation 512. The test runs the glider alone to find this generation, too."""
         for away in (60, 100, 150):
             glider = {cell + pack((-away, -away)) for cell in cells_of("bo$2bo$3o!")}
             block = cells_of("2o$2o!")
@@ -279,7 +280,8 @@ class Told(unittest.TestCase):
                 self.assertEqual(found, told)
 
     def test_it_settles_after_the_limit(self) -> None:
-        """A blocker is one cluster in two of its eight phases, and two clusters in the others."""
+        """A blocker is one cluster in two of its eight phases, and two clusters in the others. With
+        a limit of 0, it settles only if it begins in one of those two phases."""
         blocker = census("show", "xp8_g3jgz1ut").decode()
         field, texts = Field(LIFE, cells_of_rows(blocker)), set()
         for _ in range(8):

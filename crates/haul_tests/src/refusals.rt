@@ -1,4 +1,4 @@
-//! Tests the errors for hauls that aren't opened, and for reports that aren't made.
+//! Tests which errors `Haul::open` and `Report::make` return.
 
 use crate::setup::quick_job;
 use haul_core::book::haul::{Haul, OpenError};
@@ -28,7 +28,7 @@ const ONE_MORE: Range = Range {
 const FIRST: Range = Range { first: 0, count: 1 };
 
 /// Each row has ranges and a number of workers for which no haul is opened, and the error that is returned. If several
-/// errors apply, the first of them in `OpenError` is returned.
+/// errors apply, the one that `OpenError` lists first is returned.
 const NOT_OPENED: [(&[Range], u8, OpenError); 8] = [
     (&[FIRST], 0, OpenError::BadWorkers),
     (&[FIRST], 17, OpenError::BadWorkers),
@@ -40,7 +40,7 @@ const NOT_OPENED: [(&[Range], u8, OpenError); 8] = [
     (&[FIRST, ONE_MORE, FIRST], 1, OpenError::Overlap),
 ];
 
-/// Returns why no haul is opened, or `None` if a haul is opened.
+/// Returns the error of `Haul::open`, or `None` if a haul is opened.
 fn error_of(alloc: Global, job: &Job, ranges: &[Range], workers: u8) -> Option<OpenError> {
     match Haul::open(alloc, *job, ranges, workers) {
         Ok(haul) => {

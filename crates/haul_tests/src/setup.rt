@@ -1,6 +1,6 @@
-//! What the tests share: jobs, hauls and texts. The proof of a function takes longer with each exit at which a haul is
-//! dropped. That is why a test gets each haul from another function, and drops the haul with `drop` before the next
-//! exit.
+//! What the tests share: jobs, hauls and texts. The proof of a function takes longer with each exit (a `?` or a
+//! `return`) at which a haul is dropped. That is why a test gets each haul from another function, and drops the haul
+//! with `drop` before the next exit.
 
 use haul_core::book::census::Census;
 use haul_core::book::haul::Haul;
@@ -33,7 +33,8 @@ pub(crate) fn standard_job() -> Result<Job, Fail> {
     })
 }
 
-/// Returns a job under whose rule nothing is born or dies. Each soup is at rest at once, and most are one object.
+/// Returns a job under whose rule no cell is born and no cell dies. Each soup is at rest at once, and most soups are
+/// one object.
 pub(crate) fn still_job() -> Result<Job, Fail> {
     Ok(Job {
         rule: Rule::read("bs012345678")?,
@@ -45,7 +46,7 @@ pub(crate) fn range(first: u64, count: u64) -> Range {
     Range { first, count }
 }
 
-/// Offers worker 1's report on the soup with this number, and returns whether the haul takes it.
+/// Offers worker 1's report on the soup with this number to the haul, and returns whether the haul takes the report.
 pub(crate) fn offer(alloc: Global, haul: &mut Haul, number: u32) -> bool {
     match Report::make(alloc, &haul.job(), 1, u64::from(number)) {
         Ok(report) => haul.offer(report).is_ok(),
@@ -66,8 +67,8 @@ pub(crate) fn text_of(alloc: Global, haul: &Haul) -> Result<Vec<u8>, Fail> {
     written(alloc, &census)
 }
 
-/// Returns the haul text of a census. There is room for 65,536 bytes from the beginning, so that no write of a shorter
-/// text fails because memory ran out.
+/// Returns the haul text of a census. The buffer has room for 65,536 bytes from the beginning, so memory doesn't run
+/// out while a shorter text is written.
 fn written(alloc: Global, census: &Census) -> Result<Vec<u8>, Fail> {
     let mut out = Out::new(Vec::with_capacity(alloc, 65_536)?);
     write_haul(census, &mut out)?;

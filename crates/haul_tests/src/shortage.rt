@@ -1,5 +1,5 @@
-//! Tests without enough memory. `checks/program/memory` runs each of them many times, each time with a different
-//! allocation refused. A test must pass, or fail only because memory ran out.
+//! Tests what happens when memory runs out. `checks/program/memory` runs each test many times, and each time a
+//! different allocation is refused. A test must pass, or fail only because memory ran out.
 
 use crate::setup::{quick_job, range, still_job, text_of};
 use haul_core::book::haul::Haul;
@@ -10,7 +10,7 @@ use haul_core::report::claim::check::CheckError;
 use std::alloc::Global;
 use std::test::Fail;
 
-/// Offers worker 1's report on a soup to the haul. Fails with the haul's reason if the report is refused.
+/// Offers worker 1's report on soup `number` to the haul. Fails with the haul's reason if the report is refused.
 fn take(alloc: Global, haul: &mut Haul, number: u32) -> Result<(), Fail> {
     let report = Report::make(alloc, &haul.job(), 1, u64::from(number))?;
     match haul.offer(report) {
@@ -29,7 +29,7 @@ fn haul_of_one(alloc: Global) -> Result<Haul, Fail> {
     Ok(haul)
 }
 
-/// Checks whether the haul has taken only soup 1, and its haul text is `before`.
+/// Checks whether the haul has taken only soup 1, and whether its haul text is `before`.
 fn is_as_before(alloc: Global, haul: &Haul, before: &[u8]) -> Result<bool, Fail> {
     let text = text_of(alloc, haul)?;
     Ok(haul.taken() == [(1, 1)].as_slice() && text.as_slice() == before)
@@ -40,7 +40,8 @@ fn lacks_memory(refused: &Refused) -> bool {
     matches!(refused.reason, OfferError::Memory(_)) && refused.report.number() == 0
 }
 
-/// Checks whether a haul that has taken soup 1 takes soup 0 too or, if memory runs out, is unchanged.
+/// Offers the report on soup 0 to a haul that has taken soup 1. Returns `true` if the haul takes the report, or if
+/// memory runs out and the haul is unchanged.
 fn takes_or_leaves(alloc: Global, haul: &mut Haul) -> Result<bool, Fail> {
     let before = text_of(alloc, haul)?;
     let report = Report::make(alloc, &haul.job(), 1, 0)?;
@@ -59,7 +60,8 @@ fn without_memory_an_offer_changes_nothing(rt: HostRuntime) -> Result<(), Fail> 
     Ok(())
 }
 
-/// Checks whether a census and a list of the missing numbers can be made or, if not, the haul is unchanged.
+/// Makes a census of the haul and a list of its missing numbers. Returns `true` if both can be made, or if one of them
+/// can't and the haul is unchanged.
 fn stays(alloc: Global, haul: &Haul) -> Result<bool, Fail> {
     let before = text_of(alloc, haul)?;
     if haul.census().is_ok() && haul.missing().is_ok() {

@@ -1,4 +1,4 @@
-//! Tests of writing a haul text and a report line to a writer that fails in the middle.
+//! Tests that write a haul text or a report line to a writer that fails before the end.
 
 ghost use Rattle.std.specs.Prelude.{◌≡◌, false};
 
@@ -76,8 +76,8 @@ fn two_of_four(alloc: Global) -> Result<Census, Fail> {
     Ok(census?)
 }
 
-/// Checks whether writing the haul text of the census fails if the writer takes only `room` bytes, and whether these
-/// are the first `room` bytes of `TWO_OF_FOUR`.
+/// Writes the haul text of the census to a writer that takes only `room` bytes. Checks whether this fails, and whether
+/// the bytes taken are the first `room` bytes of `TWO_OF_FOUR`.
 fn haul_stops(alloc: Global, census: &Census, room: usize) -> bool {
     let mut out = out_with_room(alloc, room);
     let stopped = write_haul(census, &mut out).is_err();
@@ -95,8 +95,8 @@ fn a_haul_text_stops_where_the_writer_does(rt: HostRuntime) -> Result<(), Fail> 
 
 const UNSETTLED: &[u8] = b"report 2 rule=b3s23 profile=1,1,1,0 seed= worker=2 soup=0 unsettled\n";
 
-/// Checks whether writing the line of the report fails if the writer takes only `room` bytes, and whether these are the
-/// first `room` bytes of `UNSETTLED`.
+/// Writes the line of the report to a writer that takes only `room` bytes. Checks whether this fails, and whether the
+/// bytes taken are the first `room` bytes of `UNSETTLED`.
 fn line_stops(alloc: Global, report: &Report, room: usize) -> bool {
     let mut out = out_with_room(alloc, room);
     let stopped = write_report_line(report, &mut out).is_err();

@@ -1,4 +1,4 @@
--- The book takes each number from the worker of the first eligible offer that has the number.
+-- A haul takes each number from the worker of the first eligible offer that has the number.
 use Rattle.std.proofs.Common.{◌∙◌, ap}
 use Rattle.std.specs.Prelude.{option_map}
 use Rattle.haul_core.specs.Books.{eligible, first_of_each}

@@ -57,7 +57,7 @@ found_at job one (s ∷ ss) each n finding found h = elim (cases_Bool (nat_eq n 
       (sym (ap (λ (b : Bool). b || list_any (nat_eq n) (numbers_of_surveys ss)) other) ∙ h)
 ]
 
--- the number of each survey is among the numbers of the surveys
+-- in a list of surveys, the number of each survey is in the list's `numbers_of_surveys`
 among : (surveys : List Survey) → All (λ s. list_any (nat_eq s.number) (numbers_of_surveys surveys) ≡ true) surveys
 among surveys i d low =
     let here : get_or (numbers_of_surveys surveys) i d.number ≡ (get_or surveys i d).number = get_or-map (λ s. s.number) surveys i d d.number low in
@@ -95,7 +95,7 @@ samples_surveys f code (n ∷ ns) = go (has_object code (survey_of f n)) (sample
     go true ih = ap (λ (xs : List ℕ). n ∷ xs) ih
     go false ih = ih
 
--- both lists have surveys of the same numbers, in any order, and one function gives all their findings
+-- both lists survey the same numbers, in any order, and the function `found` gives the finding of each number
 record AreAlike (surveys others : List Survey) : Type 0 where
   found : ℕ → Finding
   numbers : List ℕ

@@ -115,7 +115,7 @@ corner-turned : (o : Orientation) (S : List Cell) → InOrder (turned o S) → a
 corner-turned o S order =
     turned-same (turned o S) order ∙ turned-turned o Same S ∙ ap (λ (p : Orientation). turned p S) (same_is_identity o).1
 
--- images that have the same text are equal
+-- two turned patterns that have the same text are equal
 same_image : (o p : Orientation) (S T : List Cell) (t : List ℕ) → text (turned o S) ≡ Some t → text (turned p T) ≡ Some t → turned o S ≡ turned p T
 same_image o p S T t one other =
     let here : wechsler_read t ≡ Ok (at_corner (turned o S)) = texts_are_read (turned o S) t (in_order-turned o S) one in
@@ -137,8 +137,8 @@ unfolding turned
 turned-after o rule S n order =
     corner-after rule (image o S) n (in_order-image o S) ∙ ap at_corner (after-image o rule S n order)
 
--- if generation `g` of a pattern looks like generation `h` of another pattern, which recurs after `h + n` generations,
--- then generation `g + n` of the first looks like the other pattern
+-- Suppose that generation `g` of `cells` and generation `h` of `others` are equal up to orientation and place, and that
+-- `others` recurs after `h + n` generations. Then generation `g + n` of `cells` equals `others` in the same way.
 reached : (o p : Orientation) (rule : Numbers) (cells others : List Cell) (g h n period : ℕ) (dx dy : _) → InOrder cells → InOrder others → h + n ≡ period
     → after rule others period ≡ shifted dx dy others → turned o (after rule cells g) ≡ turned p (after rule others h)
     → turned o (after rule cells (g + n)) ≡ turned p others

@@ -1,4 +1,4 @@
--- What `gather` prints, by its status.
+-- What `gather` prints, for each status with which it can end.
 use Rattle.std.proofs.Common.{◌≡◌, ◌∙◌, sym, subst, ℕ, zero, suc, ◌≤◌, ◌^◌, true, List, Ok, Err, arith, length}
 use Rattle.requests.specs.declared.plan.Plan.{Plan}
 use Rattle.survey_core.specs.declared.job.Job.{Job}

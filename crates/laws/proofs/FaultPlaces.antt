@@ -44,7 +44,7 @@ skip (a ∷ d) (b ∷ x) y z (c ∷ start) byte digits e other s =
     let m = skip d x y z start byte (search (rules)) left other remainder in
     record { more = m.more; prefix = λ i. sym same i ∷ m.prefix i; remainder = m.remainder; last = m.last }
 
--- the text is cut where a range begins
+-- the text of a list is cut into `x` and `y` where a range begins
 record StartsAt (x y : List ℕ) : Type 0 where
   prefix : List Range
   back : List Range
@@ -53,7 +53,7 @@ record StartsAt (x y : List ℕ) : Type 0 where
   is : x ≡ ranges_and_commas prefix
   remainder : y ≡ joined (map written back)
 
--- the text is cut where a count begins
+-- the text of a list is cut into `x` and `y` where a count begins
 record CountsAt (x y : List ℕ) : Type 0 where
   prefix : List Range
   range : Range
@@ -66,7 +66,7 @@ record CountsAt (x y : List ℕ) : Type 0 where
 abbrev At : List ℕ → List ℕ → Type 0
 At x y = StartsAt x y ⊎ CountsAt x y
 
--- a cut where a range or a count begins is still such a cut if the text has one more range in front
+-- if the text is cut where a range or a count begins, this also holds with one more range in front of the text
 consed : (r : Range) → FitsU64 r → (x more y : List ℕ) → x ≡ pair_text (written r) ++ 44 ∷ more → At more y → At x y
 consed r fits x more y e (inl a) = inl (record {
   prefix = r ∷ a.prefix;
@@ -87,7 +87,7 @@ consed r fits x more y e (inr a) = inr (record {
   remainder = a.remainder;
 })
 
--- past the count of the first range, a cut after a byte that isn't a digit is where a range or a count begins
+-- a cut past the count of the first range, after a byte that isn't a digit, is where a range or a count begins
 after_count : (r : Range) (rs : List Range) → FitsU64 r → ((x y : List ℕ) → Apart x → joined (map written rs) ≡ x ++ y → At x y) → (x y more : List ℕ)
     → x ≡ pair_text (written r) ++ more → tail (map written rs) ≡ more ++ y → LastByte more → At x y
 after_count r rs fits go x y [] e s last = absurd (none_last last)
@@ -102,7 +102,7 @@ after_count r (q ∷ rs) fits go x y (b ∷ more) e s last =
     apart (c ∷ start) f = let left : more ≡ start ++ last.byte ∷ [] = cc in
         inr (record { start = start; byte = last.byte; spelled = left; other = last.other })
 
--- past the first number of the first range, a cut after a byte that isn't a digit is where a range or a count begins
+-- a cut past the first number of the first range, after a byte that isn't a digit, is where a range or a count begins
 after_first : (r : Range) (rs : List Range) → FitsU64 r → ((x y : List ℕ) → Apart x → joined (map written rs) ≡ x ++ y → At x y) → (x y more : List ℕ)
     → x ≡ decimal r.first ++ more → 43 ∷ (decimal r.count ++ tail (map written rs)) ≡ more ++ y → (last : LastByte more) → (start : List ℕ)
     → more ≡ start ++ last.byte ∷ [] → At x y
@@ -186,8 +186,8 @@ are_written rs w fit one =
 zero_is_decimal : IsDecimal (48 ∷ [])
 zero_is_decimal = record { digits = refl; some = omega arith; plain = λ e. refl }
 
--- at the start of a list's text, or after a byte in it that isn't a digit, any decimal may follow if numbers of any
--- size are allowed
+-- if numbers of any size are allowed, any decimal may follow a beginning of a list's text that is empty or ends with a
+-- byte that isn't a digit
 goes_on : (x number : List ℕ) → Apart x → BeginsList x → IsDecimal number → BeginsLongList (x ++ number)
 goes_on x number apart b is = go (begins_at x b.remainder apart b.whole)
   where
@@ -244,7 +244,7 @@ shorter_long text m n le b =
       spelled = b.spelled ∙ ap (λ (t : List ℕ). t ++ b.remainder) (prefix_of text m n le) ∙ append_assoc (take m text) more b.remainder;
     }
 
--- a text with a large decimal at a place
+-- at this place, the text has a decimal of 2^64 or more
 record Large (text : List ℕ) (place : ℕ) : Type 0 where
   size : ℕ
   some : 1 ≤ size

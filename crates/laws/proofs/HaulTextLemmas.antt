@@ -178,7 +178,7 @@ number_once name n m h low less e = ap (λ (ns : List ℕ). get_or ns 0 0) (line
 
 -- ---- the parts of a haul text
 
--- The second byte of the line is `R` (82), as in `@RANGE`. No line after those of the ranges has an `R` there.
+-- The second byte of the line is `R` (82), as in `@RANGE`. No line after the lines of the ranges has an `R` there.
 abbrev is_range_line : List ℕ → Bool
 is_range_line line = get_or line 1 0 == 82
 

@@ -30,7 +30,7 @@ use Rattle.haul_core.proofs.LeastLemmas.{least_is, one_least}
 use Rattle.laws.proofs.RowLemmas.{has_row, one_code, one_order}
 use Rattle.haul_core.proofs.SumLemmas.{rows_summed}
 
--- surveys with the same list of numbers are equal
+-- two lists of surveys of one job are equal if they have the same list of numbers
 one_list : (job : Job) → FindingsAreDetermined → (surveys others : List Survey) → numbers_of_surveys surveys ≡ numbers_of_surveys others
     → All (λ s. IsFound job s.number s.finding) surveys → All (λ s. IsFound job s.number s.finding) others → surveys ≡ others
 one_list job law [] [] same each were = refl
@@ -60,8 +60,8 @@ at_least_one : (n : ℕ) → cond {A = ℕ} (nat_le 1 n) n 0 ≡ n
 at_least_one zero = refl
 at_least_one (suc n) = ap (λ (b : Bool). cond {A = ℕ} b (suc n) 0) (le-leb 1 (suc n) (omega arith))
 
--- if `said` of each row is `meant` of the row's code, then looking up a code gives `meant` of the code, or `nothing` if
--- the code has no row
+-- if `said row` equals `meant row.code` for each row, then looking up `code` in the rows gives `meant code`, or
+-- `nothing` if the code has no row
 module _ {X : Type 0} (said : Row → X) (meant : List ℕ → X) (nothing : X) where
   in_row : (rows : List Row) (code : List ℕ) → All (λ row. said row ≡ meant row.code) rows
       → unwrap_or (option_map said (find (λ row. is_code code row.code) rows)) nothing
@@ -89,7 +89,7 @@ row_total surveys rows are code =
 
 -- ---- the samples in a row
 
--- if the total of a code is 0, no soup left an object with it
+-- if the total of a code is 0, no soup left an object with the code
 none_with : (surveys : List Survey) (code : List ℕ) → total surveys code ≡ 0 → numbers_with surveys code ≡ []
 none_with [] code none = refl
 none_with (s ∷ ss) code none =
@@ -220,7 +220,7 @@ add_up law job ranges others all numbers more one other both h k b =
 
 -- ---- sets without a common number
 
--- the numbers of both sets are those of the union
+-- if two sets share no number, the numbers of the union are the numbers of both sets
 both_counted : (ranges others all : List Range) (numbers more every : List ℕ) → ((n : ℕ) → is_in all n ≡ (is_in ranges n || is_in others n))
     → ¬ ShareNumber ranges others → AreAll ranges numbers → AreAll others more → AreAll all every → AreSameNumbers every (numbers ++ more)
 both_counted ranges others all numbers more every union apart of_one of_other of_all n =

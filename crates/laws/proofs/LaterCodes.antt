@@ -31,7 +31,7 @@ module _ (rule : Numbers) (cells : List Cell) (limit : ℕ) (r : Recurrence) (or
   a_period_later : (g : ℕ) → after rule cells (r.period + g) ≡ shifted r.dx r.dy (after rule cells g)
   a_period_later g = sym (after-after rule cells r.period g) ∙ ap (λ (S : List Cell). after rule S g) h.back ∙ after-shifted r.dx r.dy rule cells g order
 
-  -- the next generation recurs as the pattern does
+  -- the next generation recurs with the same period and displacement as the pattern
   recurs-next : Recurs rule (after rule cells 1) limit r
   recurs-next = record {
     some = h.some;

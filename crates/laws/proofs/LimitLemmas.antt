@@ -8,7 +8,7 @@ use Rattle.survey_core.specs.Profiles.{IsCheckpoint, Settling}
 use Rattle.survey_core.specs.rest.Rest.{IsAtRest, RestsAs}
 use Rattle.laws.specs.Limits.{SettledStaySettled, UnsettledSettleLater, with_limit}
 
--- rest doesn't depend on the limit
+-- whether a pattern is at rest doesn't depend on the limit
 rest_under : (rule : Numbers) (profile : Settling) (limit : ℕ) (cells : List Cell) (clusters : List (List Cell)) → RestsAs rule profile cells clusters
     → RestsAs rule (with_limit limit profile) cells clusters
 rest_under rule profile limit cells clusters rest = record { parts = rest.parts; back = rest.back; apart = rest.apart }

@@ -1,4 +1,4 @@
--- The line of a lawful claim has no line feed. A text made of lines without line feeds is cut into the same lines.
+-- The line of a lawful claim has no line feed. A text made of lines without line feeds is cut into these lines again.
 use Rattle.std.proofs.Common.{ℕ, zero, suc, ◌≡◌, ◌∙◌, ap, refl, ◌≤◌, append_assoc, cond, ◌++◌, ◌∷◌, List, [], Bool, true, false, Option, None, Some, arith, codes, decimal, flat_map, map}
 use Rattle.std.specs.List.{AllByRecursion, list_all}
 use Rattle.std.proofs.lemmas.Bool.{and_parts, leb-true, ne_eqb}

@@ -1,4 +1,5 @@
--- The lines of `name` determine a finding: its checkpoint, codes and counts, from which the mark `for good` follows.
+-- The lines that `name` prints determine the finding: its checkpoint, codes and counts, from which the mark `for good`
+-- follows.
 use Rattle.std.proofs.Common.{◌≡◌, ◌∙◌, ap, sym, refl, subst, ℕ, suc, ◌+◌, ◌<◌, ◌≤◌, ◌^◌, ◌++◌, List, [], ◌∷◌, All, append_assoc, arith, codes, decimal, flat_map, get_or, sum}
 use Rattle.std.specs.Cmp.{both_ways as both_true}
 use Rattle.std.specs.List.{AllByRecursion}
@@ -52,7 +53,8 @@ objects_once (x ∷ xs) (o ∷ os) h k e =
     let more : xs ≡ os = objects_once xs os h.1 k.1 count.1 in
     λ i. (line.0 i, number i) ∷ more i
 
--- the objects of a small finding are short
+-- if the codes have the shape of apgcodes and the counts add up to less than 2^64, `IsShortObject` holds for each
+-- object
 short_objects : (objects : List (List ℕ × ℕ)) → All (λ object. HasCodeShape object.0) objects → sum (values_of objects) < 2 ^ 64
     → AllByRecursion IsShortObject objects
 short_objects [] shape few = tt

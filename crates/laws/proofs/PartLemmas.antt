@@ -1,4 +1,4 @@
--- What is taken from a worker is a subsequence of what it offered.
+-- The reports taken from a worker are a subsequence of those that the worker offered.
 use Rattle.std.proofs.Common.{◌≡◌, ◌&&◌, ℕ, Bool, true, false, nat_eq, nat_le, List, [], ◌∷◌, All}
 use Rattle.std.proofs.Common.{not, subst, arith, filter, map}
 use Rattle.std.proofs.lemmas.Bool.{false≢true}

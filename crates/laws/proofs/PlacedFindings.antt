@@ -97,7 +97,8 @@ lefts-sorted (pair ∷ pairs) = lefts-place pair (sorted (λ p. first p.0) pairs
         go true ih = refl
         go false ih = ap (λ (more : List (List Cell)). other.0 ∷ more) ih
 
--- if clusters are sorted by their first cells, and their codes with them, each code occurs as often as before
+-- if clusters and their codes are sorted together, by the first cells of the clusters, each code occurs as often as
+-- before
 sorted_codes : (R : List Cell → List ℕ → Type 0) (xs : List (List Cell)) (ys : List (List ℕ)) → AllZip R xs ys
     → (zs : List (List ℕ)) × AllZip R (sorted first xs) zs × ((p : List ℕ → Bool) → count_by p zs ≡ count_by p ys)
 sorted_codes R xs ys all = (
@@ -118,7 +119,7 @@ sorted_codes R xs ys all = (
 -- ---- the image of a pattern at rest
 
 module _ (f g : Cell → Cell) (rigid : IsRigid f g) (there : KeepsObjects f) (home : KeepsObjects g) (rule : Numbers) where
-  -- if a pattern recurs with a move, so does its image, with the image of the move
+  -- if a pattern recurs with a displacement, its image recurs with the image of the displacement
   recurs-image : (limit : ℕ) (cells : List Cell) → InOrder cells → (r : Recurrence) → Recurs rule cells limit r → (ex ey : ℤ)
       → image_by f (shifted r.dx r.dy cells) ≡ shifted ex ey (image_by f cells)
       → Recurs rule (image_by f cells) limit (record { period = r.period; dx = ex; dy = ey })

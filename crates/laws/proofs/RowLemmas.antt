@@ -1,4 +1,4 @@
--- The rows of a census are determined by the totals and the samples.
+-- The totals and samples of all codes determine the rows of a census.
 use Rattle.std.proofs.Common.{◌≡◌, ◌∙◌, ◌≤◌, Bool, true, false, List, [], ◌∷◌, ◌||◌, ℕ, ap, sym, subst, refl, inl, inr, map, nat_le}
 use Rattle.std.specs.Cmp.{both_ways as both_true, tied_itself}
 use Rattle.std.specs.Cmp.Lexicographic.{nat_list_cmp_total, slice_cmp}

@@ -1,4 +1,5 @@
--- Findings are small: their clusters are few and have few cells, so their codes have the shape of apgcodes.
+-- The finding of a pattern within 1,000 columns and rows of the origin is small: it has fewer than 2^64 objects, and
+-- their codes have the shape of apgcodes.
 use Rattle.std.proofs.Common.{◌≡◌, ◌≢◌, ap, sym, refl, subst, ℕ, suc, ℤ, pos, ◌+ℤ◌, ◌+◌, ◌*◌, ◌<◌, ◌≤◌, ◌^◌, ◌++◌, true, List, [], ◌∷◌, All, AllPairs, arith, decimal, get_or, length, nat_le, unsigned_abs}
 use Rattle.std.specs.List.{list_all}
 use Rattle.std.specs.Ordering.{int_cmp, ordering_then}

@@ -30,7 +30,7 @@ use Rattle.laws.proofs.ShapeLemmas.{IsSmallFinding, small_finding, soup_close}
 
 -- ---- surveys
 
--- the findings of soups are small
+-- the finding of each soup is small: it has fewer than 2^64 objects, and their codes have the shape of apgcodes
 small_surveys : (job : Job) (numbers : List ℕ) (surveys : List Survey) → IsJob job → AreSurveys job numbers surveys
     → All (λ s. IsSmallFinding s.finding) surveys
 small_surveys job numbers surveys valid are =

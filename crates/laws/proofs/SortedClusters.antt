@@ -25,7 +25,7 @@ module _ {X : Type 0} (key : X → Cell) where
   place x [] = x ∷ []
   place x (y ∷ ys) = cond (is_lt (cell_cmp (key x) (key y))) (x ∷ y ∷ ys) (y ∷ place x ys)
 
-  -- the list, sorted by its keys
+  -- the list, sorted by the keys of its items
   abbrev pub sorted : List X → List X
   sorted [] = []
   sorted (x ∷ xs) = place x (sorted xs)

@@ -41,7 +41,7 @@ same_bit a b e = bits (a % 2) (b % 2) (omega arith) (omega arith) e
     bits : (m n : ℕ) → m < 2 → n < 2 → (m == 1) ≡ (n == 1) → m ≡ n
     bits m n low less e = grind (arith, nat_tests)
 
--- digests with the same bit for each cell of the square are equal
+-- two digests are equal if they have the same bit for each cell of the 16 by 16 square
 same_digests : (one other : List ℕ) → length one ≡ 32 → length other ≡ 32 → All IsByte one → All IsByte other
     → ((x y : ℕ) → x < 16 → y < 16 → is_set one x y ≡ is_set other x y) → one ≡ other
 same_digests one other long wide small low same =

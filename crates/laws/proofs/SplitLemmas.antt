@@ -1,4 +1,4 @@
--- If each soup of a set is worked on, `gather` makes what `take` prints for the set.
+-- If each soup of a set is worked on by a call of `work`, `gather` makes what `take` prints for the set.
 use Rattle.std.proofs.Common.{◌≡◌, ◌∙◌, ap, sym, refl, subst, ℕ, suc, ◌<◌, ◌≤◌, ◌^◌, Bool, true, false, cond, nat_eq, nat_le, List, [], ◌∷◌, ◌++◌}
 use Rattle.std.proofs.Common.{◌||◌, inl, inr, Result, Ok, Err, Option, None, Some, nat_lt, arith, count_by, flat_map, length, map}
 use Rattle.std.specs.List.{AllByRecursion, Contains, list_any, position}
@@ -64,7 +64,7 @@ same_ranges set one other h k =
     let listed : h.listed ≡ k.listed = one_list h.listed k.listed h.fit k.fit (h.spelled ∙ sym k.spelled) in
     h.all ∙ ap (λ (rs : List Range). rs ++ record { first = set.first; count = set.count } ∷ []) listed ∙ sym k.all
 
--- ---- one right text
+-- ---- only one text is right for `take`
 
 right_again : (plan : Plan) (job : Job) (text : List ℕ) → job_named plan ≡ Ok job → IsTextOf plan.set (TellsAll job) text → take_right plan (Ok text)
 right_again plan job text is right =
@@ -177,7 +177,7 @@ unfolding line_in text_of
 texts_spelled [] = refl
 texts_spelled (r ∷ reports) = ap (λ (more : List ℕ). (claim_line (claim_of 2 r) ++ 10 ∷ []) ++ more) (texts_spelled reports)
 
--- the lines of the text of `work` are those of its reports
+-- the lines that `work` prints are the lines of its reports
 work_lines : (job : Job) (worker : ℕ) (numbers : List ℕ) (reports : List Reported) (text : List ℕ) → IsJob job → AreReportsOn job worker numbers reports
     → text ≡ flat_map report_text reports → input_lines text ≡ map line_in reports
 work_lines job worker numbers reports text valid each is =
@@ -187,7 +187,7 @@ contains_line : (reports : List Reported) (report : Reported) → Contains repor
 contains_line reports report (k, low, is) =
     (k, subst (λ (n : ℕ). k < n) (sym (length-map reports line_in)) low, get_or-map line_in reports k report (line_in report) low ∙ ap line_in is)
 
--- a soup that is worked on has a correct line
+-- if a call of `work` worked on a soup, the input has a correct line for the soup
 worked_line : (plan : Plan) (job : Job) (workers : ℕ) (bytes : List ℕ) (n : ℕ) (terms : Terms) → IsJob job → terms.job ≡ job → terms.workers ≡ workers
     → IsWorkedOn job workers bytes n → HasCorrectLine terms.job terms.workers bytes n
 unfolding line_in
@@ -251,8 +251,8 @@ not_refused plan job refusal accepted (Too_large ranges named large is) =
 not_refused plan job refusal accepted (Overlapping ranges named small overlap is) =
     accepted.apart (subst Overlap (same_ranges plan.set ranges accepted.ranges named accepted.named) overlap)
 
--- if exactly the numbers of a set are listed, each at most once, a number occurs once if it is in the set, and
--- otherwise not
+-- if a list has exactly the numbers of a set, each at most once, then a number occurs in the list once if it is in the
+-- set, and not at all otherwise
 counted_once : (numbers : List ℕ) (n : ℕ) (within : Bool) → count_by (nat_eq n) numbers ≤ 1
     → (within ≡ true → list_any (nat_eq n) numbers ≡ true) → (list_any (nat_eq n) numbers ≡ true → within ≡ true)
     → count_by (nat_eq n) numbers ≡ cond {A = ℕ} within 1 0

@@ -19,8 +19,7 @@ abbrev pub CodesLater : Type 0
 CodesLater = (g : ℕ) (rule : Numbers) (cells : List Cell) (limit : ℕ) (code : List ℕ)
     → InOrder cells → IsCode rule cells limit code → IsCode rule (after rule cells g) limit code
 
--- two patterns are one object: some generation of the first, in some orientation, is the second, if both are moved to
--- the corner
+-- two patterns are one object: the second is some generation of the first, moved and possibly turned or mirrored
 pub record IsOneObject (rule : Numbers) (cells others : List Cell) : Type 0 where
   pub generation : ℕ
   pub orientation : Orientation

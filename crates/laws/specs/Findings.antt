@@ -1,4 +1,4 @@
--- Laws of findings: a pattern that is moved or turned keeps its finding, and counts add up.
+-- Laws of findings: moving and turning keep a finding, and the counts of objects add up to the number of clusters.
 use Rattle.std.specs.Prelude.{◌≡◌, ℕ, ℤ, List, length, sum}
 use Rattle.std.specs.Map.{values_of}
 use Rattle.plane_core.specs.declared.plane.cell.Cell.{Cell}

@@ -1,4 +1,4 @@
--- The lines of `name` determine the finding.
+-- The lines that `name` prints determine the finding.
 use Rattle.std.specs.Prelude.{◌≡◌, List, true}
 use Rattle.plane_core.specs.declared.plane.cell.Cell.{Cell}
 use Rattle.plane_core.specs.plane.Generations.{lies_within}

@@ -1,4 +1,4 @@
--- Different digests give different soups.
+-- Different SHA-256 digests give different soups.
 use Rattle.std.specs.Prelude.{◌≡◌, ◌++◌, ℕ, List, decimal}
 use Rattle.sha2.specs.Sha256.{sha256}
 use Rattle.survey_core.specs.Soups.{soup}

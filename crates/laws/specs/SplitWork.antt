@@ -1,5 +1,5 @@
 -- Laws of split work: `gather` turns the lines of several calls of `work` into what `take` prints for the whole set,
--- and only one text is right for `take`.
+-- and for each plan only one text is correct for `take`.
 use Rattle.std.specs.Prelude.{Option, ◌≡◌, ◌≤◌, ◌^◌, ℕ, true, List, Ok, MatchResult, length}
 use Rattle.std.specs.List.{All, Contains}
 use Rattle.survey_core.specs.declared.job.Job.{Job}
@@ -54,14 +54,14 @@ pub record IsWorkedOn (job : Job) (workers : ℕ) (bytes : List ℕ) (n : ℕ) :
 abbrev pub IsWholeHaul : Plan → Result Made Complaint → Type 0
 IsWholeHaul plan answer = MatchResult answer (λ made. take_right plan (Ok made.text) × (made.missing ≡ 0)) (λ complaint. ⊥)
 
--- if each soup of a set is worked on, in parts that may overlap, and the input has at most 2^32 bytes, `gather` makes
--- what `take` prints for the set
+-- if each soup of a set is worked on, by calls whose sets may overlap, and the input has at most 2^32 bytes, `gather`
+-- makes what `take` prints for the set
 abbrev pub SplitWorkIsWhole : Type 0
 SplitWorkIsWhole = (plan : Plan) (job : Job) (workers : ℕ) (bytes : List ℕ) (answer : Result Made Complaint) → IsAccepted plan job
     → length bytes ≤ 2 ^ 32 → ((n : ℕ) → IsInSet plan.set n → IsWorkedOn job workers bytes n) → gather_right plan workers bytes answer
     → IsWholeHaul plan answer
 
--- what standard output got, by status: the text of `take`, or anything if memory ran out or a stream failed
+-- the output by status: the text of `take` for `Done`, anything for `Memory` and `Failed`; no other status is possible
 abbrev pub HasWholeText : Plan → Status → Stream → Type 0
 HasWholeText plan Done output = (text : List ℕ) × take_right plan (Ok text) × Has output text
 HasWholeText plan Memory output = Unit {0}
@@ -74,6 +74,6 @@ SplitWorkEnds = (plan : Plan) (job : Job) (workers : ℕ) (reader : Option (List
     → IsAccepted plan job → length bytes ≤ 2 ^ 32 → ((n : ℕ) → IsInSet plan.set n → IsWorkedOn job workers bytes n)
     → Ends (gather_behaviour plan workers) reader bytes status output errors → HasWholeText plan status output
 
--- at most one text is right for `take`
+-- for each plan, at most one text is correct for `take`
 abbrev pub OneRightText : Type 0
 OneRightText = (plan : Plan) (one other : List ℕ) → take_right plan (Ok one) → take_right plan (Ok other) → one ≡ other

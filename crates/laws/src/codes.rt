@@ -11,8 +11,8 @@ pub fn codes_are_of_objects()
     ensures later { CodesLater }
 {}
 
-/// The law that two patterns with the same apgcode are one object, if the apgcode contains a Wechsler text: some
-/// generation of the first pattern, in some orientation, is the second pattern, if both are moved to the corner.
+/// The law that two patterns with the same apgcode are one object, if the apgcode contains a Wechsler text. They are
+/// one object if the second pattern is some generation of the first, moved and possibly turned or mirrored.
 pub fn codes_are_faithful()
     ensures { CodesAreFaithful }
 {}

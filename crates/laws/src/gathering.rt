@@ -13,15 +13,15 @@ pub fn gather_takes_correct_lines()
     ensures prints { GatherPrintsCorrectLines }
 {}
 
-/// The laws that split work is whole. If a set is split among calls of `work`, and each line that these calls print is
-/// among the lines of the input of `gather`, then `gather` prints what `take` prints for the set, and no soup is
-/// missing, unless memory runs out or a stream fails.
+/// The laws of split work. If a set is split among calls of `work`, and each line that these calls print is among the
+/// lines of the input of `gather`, then `gather` prints what `take` prints for the set, and no soup is missing. This
+/// holds for inputs of at most 2^32 bytes and lines of at most 2^24, unless memory runs out or a stream fails.
 pub fn split_work_is_whole()
     ensures whole { SplitWorkIsWhole }
     ensures ends { SplitWorkEnds }
 {}
 
-/// The law that at most one text is right for `take` with a given plan.
+/// The law that, for each plan, at most one text is correct for `take`.
 pub fn one_right_text()
     ensures { OneRightText }
 {}

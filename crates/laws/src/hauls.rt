@@ -1,19 +1,19 @@
-//! Laws of the book, of censuses and of their texts.
+//! Laws of what a haul takes, of censuses and their texts, and of report lines.
 
 ghost use Rattle.laws.specs.Books.{FirstOffersAreTaken, WorkersAreTakenInOrder};
 ghost use Rattle.laws.specs.Censuses.{CompleteHaulsPrintTheSame, JoinedHaulsAddUp, SameSoupsPrintTheSame, SplitSetsAddUp};
 ghost use Rattle.laws.specs.HaulTexts.{HaulCensusesAreShort, HaulTextsAreFaithful};
 ghost use Rattle.laws.specs.ReportLines.{FaultyLinesHaveNoClaim, LinesHaveOneClaim, LinesHaveOneFault};
 
-/// The law that a number is taken if and only if some eligible offer has it, and then from the worker of the first such
-/// offer. An offer is eligible if no closing came before it, its job is the haul's, its worker is one of the haul's
-/// workers, and its number is in the haul's set.
+/// The law that a haul takes a number if and only if some eligible offer has it, and then from the worker of the first
+/// such offer. An offer is eligible if no closing came before it, its job is the haul's, its worker is one of the
+/// haul's workers, and its number is in the haul's set.
 pub fn first_offers_are_taken()
     ensures { FirstOffersAreTaken }
 {}
 
-/// The law that the reports taken from a worker are some of those that it offered before any closing, in the same
-/// order. Each number is taken at most once, and is in the set.
+/// The law that the reports taken from a worker are a subsequence of what the worker offered before any closing. Each
+/// number is taken at most once, and is in the set.
 pub fn workers_are_taken_in_order()
     ensures { WorkersAreTakenInOrder }
 {}
@@ -38,15 +38,15 @@ pub fn split_sets_add_up()
 {}
 
 /// The laws that two short censuses with the same haul text are equal, and that the census of every haul is short. A
-/// census is short if its job is valid, its ranges are in normal form, its count is their size, its codes have the
-/// shape of apgcodes, and its other numbers are below 10^64.
+/// census is short if its job is valid, its ranges are in normal form, its count is the size of these ranges, its codes
+/// have the shape of apgcodes, and its other numbers are below 10^64.
 pub fn haul_texts_are_faithful()
     ensures faithful { HaulTextsAreFaithful }
     ensures hauls { HaulCensusesAreShort }
 {}
 
-/// The laws of report lines: a line is the line of at most one claim, a line with a fault is the line of none, and a
-/// line has its first fault at only one place.
+/// The laws of report lines: a line is the line of at most one claim, a line with a fault is the line of no claim, and
+/// a line has its first fault at only one place.
 pub fn lines_tell_claims()
     ensures one { LinesHaveOneClaim }
     ensures faulty { FaultyLinesHaveNoClaim }

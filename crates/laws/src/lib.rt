@@ -8,7 +8,7 @@
 pub mod codes;
 /// Laws of what `gather` and `take` print.
 pub mod gathering;
-/// Laws of the book, of censuses and of their texts.
+/// Laws of what a haul takes, of censuses and their texts, and of report lines.
 pub mod hauls;
 /// Laws of what `name` prints.
 pub mod names;

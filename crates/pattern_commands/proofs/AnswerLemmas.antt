@@ -25,12 +25,12 @@ use Rattle.pattern_commands.specs.Inputs.{HasReadAtMost, Reads, rule_named, inpu
 use Rattle.pattern_commands.specs.Streams.{Stream, Has}
 use Rattle.pattern_commands.specs.TextSteps.{ReachesText}
 
--- a result that is an error with the value `e` is `Err e`
+-- if a result is an error, and the error equals `e`, the result is `Err e`
 pub err_of : {A E : Type 0} (r : Result A E) (e : E) → IsErrAnd r (λ x. x ≡ e) → r ≡ Err e
 err_of (Ok a) e h = absurd h
 err_of (Err x) e h = ap Err h
 
--- for each reader, some bytes may be its input
+-- for each reader, there are bytes that may be its input
 pub some_input : (reader : Option (List ℕ)) → (bytes : List ℕ) × IsInput reader bytes
 some_input None = ([], tt)
 some_input (Some left) = (left, refl)
@@ -59,7 +59,7 @@ long_input limit None mid bytes before long = tt
 long_input limit (Some xs) None bytes before long = absurd before
 long_input limit (Some xs) (Some ys) bytes before long = let all = ap length before ∙ length-append bytes ys in omega (arith, all, long)
 
--- after one more read, the bytes read so far are the earlier bytes, followed by those of this read
+-- after one more read, the bytes read so far are the earlier bytes, followed by the bytes of this read
 pub read_more : (old mid new : Option (List ℕ)) (bytes buffer later : List ℕ) (n : ℕ) → Consumes old mid bytes → Consumes mid new (take n buffer)
     → later ≡ bytes ++ take n buffer → Consumes old new later
 read_more old mid new bytes buffer later n before now is = subst (Consumes old new) (sym is) (Consumes-trans old mid new bytes (take n buffer) before now)
@@ -79,7 +79,7 @@ little_more limit once old mid new bytes buffer n before now short room = (
   short_more limit once bytes buffer (bytes ++ take n buffer) n short room refl,
 )
 
--- an input over the limit is too long, whatever its bytes are
+-- an input of more than 2^24 bytes is too long, whatever its bytes are
 pub pattern_of-long : (bytes : List ℕ) → 2 ^ 24 < length bytes → pattern_of bytes ≡ Err TooLong
 pattern_of-long bytes long =
     let unlooked : nat_le (length bytes) (2 ^ 24) ≡ false = search rules in
@@ -96,7 +96,7 @@ Reads_unread None input_error.TooLong long =
     (bytes, tt, pattern_of-long bytes (subst (λ n. 2 ^ 24 < n) (sym (length-range_with_len 0 (2 ^ 24 + 1))) (omega arith)))
 Reads_unread (Some left) input_error.TooLong long = (left, refl, pattern_of-long left (long refl))
 
--- an input that isn't over the limit is parsed
+-- an input of at most 2^24 bytes is parsed
 pub pattern_of-short : (bytes : List ℕ) (answer : Result (List Cell) PlaintextFault) → length bytes ≤ 2 ^ 24 → pattern bytes ≡ answer
     → pattern_of bytes ≡ result_map_both (λ (cells : List Cell). cells) pattern_complaint answer
 pattern_of-short bytes answer short is =
@@ -115,7 +115,7 @@ pub Reads_error : (bytes : List ℕ) (error : PlaintextError) → length bytes �
 Reads_error bytes (plaintext_error.Fault fault) short faults = Reads_refused bytes fault short ((faults fault).0 refl)
 Reads_error bytes (plaintext_error.Memory refused) short faults = tt
 
--- a command that reads its input may run out of memory, if it has written nothing
+-- if nothing was written, a command that reads its input may end because memory ran out
 pub Reaches_no_memory : (reads : Bool) (right : Right) (output : Stream) → reads ≡ true → Has output []
     → ReachesText reads true right (Err (Memory out_of_memory)) output
 Reaches_no_memory reads right output read nothing =
@@ -131,7 +131,7 @@ Reaches_unread reads right answer (ReadFailed error) output read is refused noth
 Reaches_unread reads right answer TooLong output read is long nothing = (read, is TooLong long, nothing)
 Reaches_unread reads right answer (WriteFailed error) output read is refused nothing = absurd refused
 
--- a command whose rule was refused may end with the complaint about it, if it has written nothing
+-- if nothing was written, a command whose rule was refused may end with the complaint about the rule
 pub Reaches_rule : (reads : Bool) (right : Right) (text : List ℕ) (error : RuleFault) (output : Stream) → rule_read text ≡ Err error
     → ((complaint : Complaint) → rule_named text ≡ Err complaint → right (Err complaint)) → Has output []
     → ReachesText reads true right (Err (rule_complaint error)) output

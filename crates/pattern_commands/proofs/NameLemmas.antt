@@ -37,17 +37,17 @@ Reaches_profile reads numbers text bytes complaint output refused nothing = go (
         let why : Refused HorizonBelowPeriod ≡ complaint = cc in
         rw (← why) (rw named refl, nothing)
 
--- the refusal of a rule is right
+-- if the profile is valid and the rule is refused, the complaint about the rule is a right answer
 pub right_rule : (numbers : ProfileNumbers) (text bytes : List ℕ) (profile : Settling) (complaint : Complaint) → profile_named numbers ≡ Ok profile
     → rule_named text ≡ Err complaint → name_right numbers text bytes (Err complaint)
 right_rule numbers text bytes profile complaint profiled refused = rw (profiled, refused) refl
 
--- the refusal of a pattern is right
+-- if the profile and the rule are valid and the pattern is refused, the complaint about the pattern is a right answer
 pub right_pattern : (numbers : ProfileNumbers) (text bytes : List ℕ) (profile : Settling) (rule : Numbers) (complaint : Complaint)
     → profile_named numbers ≡ Ok profile → rule_named text ≡ Ok rule → pattern_of bytes ≡ Err complaint → name_right numbers text bytes (Err complaint)
 right_pattern numbers text bytes profile rule complaint profiled ruled refused = rw (profiled, ruled, refused) refl
 
--- the lines of the pattern's finding are right
+-- if nothing is refused, the lines of the pattern's finding are a right answer
 pub right_finding : (numbers : ProfileNumbers) (text bytes : List ℕ) (profile : Settling) (rule : Numbers) (cells : List Cell) (finding : Finding)
     → profile_named numbers ≡ Ok profile → rule_named text ≡ Ok rule → pattern_of bytes ≡ Ok cells → IsFinding rule profile cells finding
     → name_right numbers text bytes (Ok (finding_text finding))

@@ -25,7 +25,7 @@ show_answer-fault : (form : PatternForm) (code text : List ℕ) (fault : Wechsle
     → show_answer form code ≡ Err (wechsler_complaint fault)
 show_answer-fault form code text fault is read = rw (is, read) refl
 
--- if reading the code's text ran out of memory, the text has no fault, so the answer is a pattern
+-- if reading the code's text ran out of memory, the text has no fault, so the right answer is a pattern
 show_answer-faultless : (form : PatternForm) (code text : List ℕ) → text_in code ≡ Ok text
     → ((fault : WechslerFault) → IsErrOf {T = List Cell} (Err (Memory out_of_memory)) (Fault fault) ↔ (wechsler_read text ≡ Err fault)) → IsOk (show_answer form code)
 show_answer-faultless form code text is faults = go (wechsler_read text) refl

@@ -37,8 +37,8 @@ module _ (rule : Numbers) (cells : List Cell) (from : ℕ) where
     later : g - from + made ≡ g + made - from
     later = omega arith
 
-    -- a property of `now` and `g` also holds for what they equal: `cells` after `g - from` generations, and
-    -- `from + (g - from)`
+    -- a property that holds for `now` and `g` also holds for `after rule cells (g - from)` and `from + (g - from)`,
+    -- which equal `now` and `g`
     pub moved : (P : List Cell → ℕ → Type 0) → P now g → P (after rule cells (g - from)) (from + (g - from))
     moved P h = subst (P (after rule cells (g - from))) (sym here) (subst (λ (S : List Cell). P S g) is h)
 

@@ -31,7 +31,7 @@ origin = record { y = pos 0; x = pos 0 }
 
 -- ---- patterns and parts of them
 
--- no cell of a pattern is off the plane
+-- if all cells are on the plane, no place has a cell off the plane
 pub none_off : (cells : List Cell) → list_all on_plane cells ≡ true → position off_plane cells ≡ None
 none_off cells on = go (position off_plane cells) refl
   where
@@ -133,7 +133,7 @@ still_below a b c d n g gap p q low = omega (arith, ints)
 far_rows : (a b : ℤ) (n g : ℕ) → (a +ℤ pos (2 * n)) <ℤ b → g ≤ n → 2 * g < distance a b
 far_rows a b n g gap low = omega (arith, ints)
 
--- two patterns with a gap of more than 2n rows between them run apart for n generations
+-- two patterns run apart for n generations if the second is more than 2n rows below the first
 pub rows_apart : (rule : Numbers) (S T : List Cell) (n g : ℕ) → InOrder S → InOrder T
     → ((c d : Cell) → has S c ≡ true → has T d ≡ true → (c.y +ℤ pos (2 * n)) <ℤ d.y) → g ≤ n
     → after rule (S ++ T) g ≡ after rule S g ++ after rule T g
@@ -167,8 +167,8 @@ no_parts rule n (suc g) low = after-suc rule [] g ∙ ap (next rule) (no_parts r
     none : (rule : Numbers) → next rule [] ≡ []
     none rule = refl
 
--- if the cells before place `i` run apart in parts, and there is a gap at `i`, the cells before place `j` run apart
--- with one more part
+-- if the cells before place `i` run apart in parts, and there is a gap at `i`, then the cells before place `j` run
+-- apart in the same parts and one more, which has the cells from `i` on
 pub one_part_more : (rule : Numbers) (S : List Cell) (i j n : ℕ) (parts later : List Running) → InOrder S → i < j → IsGap (2 * n) S i
     → RunApart rule (take i S) n parts → later ≡ parts ++ record { rule = rule; cells = take (j - i) (drop i S) } ∷ []
     → RunApart rule (take j S) n later

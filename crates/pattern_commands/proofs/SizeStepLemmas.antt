@@ -138,8 +138,8 @@ whole_text rule cells from last low =
 
 -- ---- how the command ends
 
--- if nothing was written, a complaint that may end a command whose text is complete before any write may also end a
--- command that writes its text line by line
+-- Suppose that nothing was written, and that a command whose text is complete before any write may end with this
+-- complaint. Then a command that writes its text line by line may end with this complaint, too.
 pub reaches_lines : (reads : Bool) (answer : Answer) (complaint : Complaint) (output : Stream) → Has output []
     → ReachesText reads true (only answer) (Err complaint) output → ReachesText reads false (only answer) (Err complaint) output
 reaches_lines reads answer (Refused refusal) output nothing reached = reached

@@ -1,4 +1,4 @@
--- The endings of commands that write only a text.
+-- How commands that write only a text end.
 use Rattle.std.proofs.Common.{◌≡◌, ℕ, Bool, true, false, inl, List, [], Option, Result, Ok, Err, IfErr, refl}
 use Rattle.std.proofs.KnownBytes.{Appends-nil}
 use Rattle.memory.specs.Witness.{out_of_memory}
@@ -14,7 +14,7 @@ use Rattle.pattern_commands.specs.Streams.{Stream, HasPrefix, IsUntouched}
 use Rattle.pattern_commands.specs.Behaviours.{Made, alone, text_made, text_behaviour}
 use Rattle.pattern_commands.specs.TextSteps.{LeavesTextPrefix, LeavesTextPart, ReachesText, TextOutcome, none_missing}
 
--- the part of a text that `LeavesTextPart` allows is one that the command's behaviour allows
+-- if `LeavesTextPart` allows what was written, so does the command's behaviour
 part_of : (whole : Bool) (right : Right) (output : Stream) → LeavesTextPart whole right output → LeavesPart whole (alone right) output
 part_of true right output left = left
 part_of false right output left = go

@@ -1,4 +1,4 @@
--- Answers: what a command writes, or why it doesn't.
+-- Answers: what a command writes to standard output, or the complaint with which it ends.
 use Rattle.std.specs.Prelude.{◌≡◌, ℕ, List, [], Option, Result, Ok, Err, IfSome}
 use Rattle.std.specs.Result.{result_unwrap_or}
 use Rattle.pattern_commands.specs.declared.ending.complaint.Complaint.{Complaint}
@@ -31,8 +31,8 @@ Right = Answer → Type 0
 abbrev pub only : Answer → Right
 only answer other = answer ≡ other
 
--- the right answers after a step, which depend on its value; if the step ended with a complaint, that is the only right
--- answer
+-- the right answers after a step: if the step ended with a value, the answers that are right for the value; if it ended
+-- with a complaint, only this complaint
 abbrev pub IsRightGiven : {A : Type 0} → Result A Complaint → (A → Right) → Right
 IsRightGiven (Ok x) next = next x
 IsRightGiven (Err complaint) next = only (Err complaint)

@@ -37,7 +37,7 @@ pub record Behaviour : Type 1 where
   pub whole : Bool
   -- what the command may have added to standard error before it ended early
   pub begins : (reader before after : Option (List ℕ)) → Type 0
-  -- what may have become of standard error if the diagnostics were not written completely
+  -- the states that standard error may be in if the diagnostics were not written completely
   pub breaks_off : Stream → Type 0
 
 -- what is right for a command that makes only a text: a right answer, without diagnostics and without missing soups

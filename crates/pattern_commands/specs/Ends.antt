@@ -25,7 +25,7 @@ HasLast (Ok zero) errors = Has errors [] × (errors.failed ≡ false)
 HasLast (Ok (suc n)) errors = HasLine errors (missing_line (suc n))
 HasLast (Err complaint) errors = HasLine errors (complaint_line complaint)
 
--- How a command of this behaviour ends on an input. `so_far` is standard error before the last line.
+-- How a command with this behaviour ends on an input. `so_far` is standard error before the last line.
 pub record Ends (behaviour : Behaviour) (reader : Option (List ℕ)) (bytes : List ℕ) (status : Status) (output errors : Stream) : Type 0 where
   pub outcome : Outcome
   pub so_far : Stream

@@ -62,7 +62,7 @@ abbrev pub LiesWithin999 : List Cell → Type 0
 LiesWithin999 cells = lies_within 999 cells ≡ true
 
 -- A call that reads a value returns the right `answer`: the value, a refusal, or that the text is too long. If memory
--- runs out or a read fails, the call may return that instead.
+-- runs out or a read fails, the call may return this complaint instead.
 abbrev pub Reads : {A : Type 0} → Result A Complaint → Result A Complaint → Type 0
 Reads answer (Ok x) = answer ≡ Ok x
 Reads answer (Err (Refused refusal)) = answer ≡ Err (Refused refusal)
@@ -71,6 +71,6 @@ Reads answer (Err (Memory error)) = Unit {0}
 Reads answer (Err (ReadFailed error)) = Unit {0}
 Reads answer (Err (WriteFailed error)) = ⊥
 
--- at most this many bytes of a reader were read; `old` and `new` are its bytes before and after, if they are known
+-- at most `most` bytes were read; `old` and `new` are what the reader had left before and after, if that is known
 abbrev pub HasReadAtMost : ℕ → (old new : Option (List ℕ)) → Type 0
 HasReadAtMost most old new = (bytes : List ℕ) × Consumes old new bytes × (length bytes ≤ most)

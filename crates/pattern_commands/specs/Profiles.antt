@@ -1,4 +1,4 @@
--- Profiles, from the numbers that a call gives.
+-- The profile that a command's four numbers make, or the complaint about them.
 use Rattle.std.specs.Prelude.{◌≤◌, Result, Ok, Err, nat_le, if◌then◌else◌}
 use Rattle.survey_core.specs.Profiles.{Settling}
 use Rattle.pattern_commands.specs.declared.ending.complaint.Complaint.{Complaint}

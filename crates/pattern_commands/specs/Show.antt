@@ -45,7 +45,7 @@ is_prefix (x ∷ kind ∷ number) = x == 120 && (is_kind kind && is_number numbe
 abbrev pub after_prefix : List ℕ × List ℕ → Result (List ℕ) Complaint
 after_prefix (prefix, text) = if is_prefix prefix then Ok text else Err (Refused NotACode)
 
--- the text of a code that has been parted; a code without `_` is a text as a whole
+-- the text of a code, given the code's parts before and after its first `_`; a code without `_` is a text as a whole
 abbrev pub text_or_part : List ℕ → Option (List ℕ × List ℕ) → Result (List ℕ) Complaint
 text_or_part code None = Ok code
 text_or_part code (Some parts) = after_prefix parts

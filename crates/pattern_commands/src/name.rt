@@ -38,8 +38,8 @@ use survey_core::finding::{Finding, survey_pattern};
 /// objects that have it. Otherwise the finding is the line `unsettled`.
 ///
 /// Each number of the profile has to be in its range, and no earlier write to either writer may have failed. First the
-/// profile is checked, and then the rule. If one of them is refused, nothing of the input is read. `census name` is
-/// this call with the standard streams.
+/// profile is checked, and then the rule. If one of them is refused, the input isn't read. `census name` is this call
+/// with the standard streams.
 ///
 /// # Errors
 ///

@@ -16,7 +16,7 @@ use std::alloc::Global;
 use std::io::{BufWriter, Write};
 
 /// A buffer for a line of standard error, so that the line is one write and isn't mixed with lines of other programs.
-/// Each line is shorter than the buffer. A longer one would be written in pieces.
+/// Each line is shorter than the buffer. A longer line would be written in pieces.
 pub type LineBuffer = ArrayVec<u8, 128>;
 
 /// Flushes what a command has left in the buffer, and returns the status with which the process ends. This is the

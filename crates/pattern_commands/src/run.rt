@@ -35,8 +35,8 @@ use std::io::{Read, Write};
 ///
 /// `generations` is at most 100,000. A pattern of at most 1,000 by 1,000 cells takes far longer to reach the edge of
 /// the plane, because its box grows by at most one cell per side and generation. No earlier write to either writer may
-/// have failed. The rule is read first. If it is refused, nothing of the input is read. `census run N --rule RULE` is
-/// this call with the standard streams.
+/// have failed. The rule is read first. If it is refused, the input isn't read. `census run N --rule RULE` is this call
+/// with the standard streams.
 ///
 /// # Errors
 ///

@@ -34,8 +34,8 @@ use plane_core::plane::rule::Rule;
 use std::alloc::Global;
 use std::io::{Read, Write};
 
-/// The most generations of a stretch. In a longer stretch, the parts of the pattern would have to be farther apart, so
-/// fewer parts would get a board of their own.
+/// The most generations of a stretch, in which each part of the pattern runs on a board of its own. In a longer
+/// stretch, the parts would have to be farther apart, so there would be fewer parts.
 const STRETCH: u32 = 16;
 
 /// Reads a plaintext pattern, and writes a line for each generation from `from` to `last`: its number, its population
@@ -43,8 +43,8 @@ const STRETCH: u32 = 16;
 /// input, whose first row and column are 0.
 ///
 /// `from` is at most `last`, which is at most 100,000. No earlier write to either writer may have failed. The rule is
-/// read first. If it is refused, nothing of the input is read. The lines are written while the pattern runs, so they
-/// aren't kept in memory. `census run N --sizes FROM` is this call with the standard streams.
+/// read first. If it is refused, the input isn't read. The lines are written while the pattern runs, so they aren't
+/// kept in memory. `census run N --sizes FROM` is this call with the standard streams.
 ///
 /// # Errors
 ///

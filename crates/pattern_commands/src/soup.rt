@@ -71,7 +71,7 @@ fn put_soup<W: Write>(
         → output.new ≡ output.old) }
 {
     let seed = Seed::new(seed_text)?;
-    // The cells don't depend on the profile and the rule.
+    // The soup's cells don't depend on the profile or the rule.
     let job = Job {
         seed,
         profile: Profile::standard(),

@@ -1,4 +1,4 @@
-"""The entries of the commands that check, join and index hauls."""
+"""The entries of `check`, `join` and `index` in the table of commands."""
 
 from __future__ import annotations
 

@@ -1,4 +1,4 @@
-"""The entry of `search`."""
+"""The entry of `search` in the table of commands."""
 
 from __future__ import annotations
 

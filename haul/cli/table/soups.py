@@ -1,4 +1,4 @@
-"""The entries of the commands about soups, report lines and patterns."""
+"""The entries of `soup`, `soups`, `cells` and `rle` in the table of commands."""
 
 from __future__ import annotations
 

@@ -1,4 +1,4 @@
-"""The entries of the commands that show hauls and rarities."""
+"""The entries of `compare`, `table`, `rarity` and `page` in the table of commands."""
 
 from __future__ import annotations
 

@@ -120,7 +120,8 @@ def run_noted(copy: Path, name: str) -> float:
 
 
 def read_or_note(kept: Path | None, copy: Path, workers: int) -> Lines:
-    """Returns the lines that an earlier call has kept in a file, or records them anew."""
+    """Returns the tests that run each line. Reads them from the file `kept` if there is such a
+    file. Otherwise runs the tests to record them, and writes them to `kept` unless it is `None`."""
     if kept is not None and kept.exists():
         lines: Lines = json.loads(kept.read_text())
         return lines

@@ -119,7 +119,8 @@ def find_signals(tree: ast.Module) -> set[int]:
 
 
 def list_changes(node: ast.AST, is_truth: bool) -> Iterator[tuple[str, int | None, object]]:
-    """Yields the possible changes of a node: a field, an entry of the field, and the new value."""
+    """Yields the possible changes of a node. A change is a field, the index of an entry of the
+    field (or `None`), and the new value."""
     match node:
         case ast.Compare():
             for entry, op in enumerate(node.ops):

@@ -45,7 +45,8 @@ class Trial(NamedTuple):
 
 
 def make_copy(copy: Path) -> None:
-    """Copies the files of a checkout that tests need. The launcher of the copy builds nothing."""
+    """Copies the files of this checkout that tests need. The launcher of the copy builds
+    nothing."""
     for folder in ("haul", "release"):
         shutil.copytree(TOP / folder, copy / folder, ignore=shutil.ignore_patterns("__pycache__"))
     for folder in ("bin", "crates/census/out"):
@@ -69,7 +70,7 @@ def compile_copy(copy: Path) -> None:
 
 
 def try_all(trials: list[Trial], workers: int) -> Iterator[str | None]:
-    """Yields what `find_noticing_test` returns for each change."""
+    """Yields what `find_noticing_test` returns for each trial."""
     with tempfile.TemporaryDirectory() as compiled:
         compile_copy(Path(compiled))
         # The workers are processes, since a process with running threads can't be forked safely.
@@ -78,7 +79,8 @@ def try_all(trials: list[Trial], workers: int) -> Iterator[str | None]:
 
 
 def find_failing_tests(unchanged: Trial, workers: int) -> list[str]:
-    """Returns the tests that fail on the unchanged file. They would seem to notice every change."""
+    """Returns the tests that fail on the unchanged file. Such a test would seem to notice every
+    change."""
     trials = [unchanged._replace(tests={test: took}) for test, took in unchanged.tests.items()]
     seen = try_all(trials, workers)
     return [test for test, found in zip(unchanged.tests, seen, strict=True) if found is not None]

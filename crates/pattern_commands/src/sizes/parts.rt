@@ -1,4 +1,4 @@
-//! A pattern in parts that don't meet for some generations, each on a board of its own.
+//! A pattern in parts that don't meet for some generations. Each part has a board of its own.
 //!
 //! The pattern is cut between rows that are far apart:
 //!
@@ -110,7 +110,7 @@ pub(crate) fn advance_each(boards: &mut [Board]) -> Result<bool, OutOfMemory>
     Ok(true)
 }
 
-/// Returns the size of all boards' cells together, or `None` if they have more cells than can be counted.
+/// Returns the size of the pattern that the boards show together, or `None` if a `usize` can't count its cells.
 pub(crate) fn size_together(alloc: Global, boards: &[Board]) -> Result<Option<Size>, OutOfMemory>
     ensures { IfOk result
         (λ found. IfSome found (λ size. size ≡ pattern_size (flat_map (λ board. board.cells) boards.now))) }

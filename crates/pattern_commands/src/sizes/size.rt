@@ -43,7 +43,8 @@ impl Size {
         }
     }
 
-    /// Returns the size of two lists of cells together, or `None` if they have more cells than can be counted.
+    /// Returns the size of two lists of cells together, given the size of each, or `None` if a `usize` can't count the
+    /// cells.
     pub(crate) fn joined(self, other: Size) -> Option<Size>
         ensures { IfSome result (λ size. (cells others : List Cell)
             → self ≡ pattern_size cells → other ≡ pattern_size others

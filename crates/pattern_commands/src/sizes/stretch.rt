@@ -67,8 +67,8 @@ fn put_board_sizes<W: Write>(
     Ok(made)
 }
 
-/// Advances each board by one generation, and returns the size of all boards' cells together. Returns `None` if some
-/// board has no room for the next generation, or if there are more cells than can be counted.
+/// Advances each board by one generation, and returns the size of the pattern that the boards then show together.
+/// Returns `None` if some board has no room for the next generation, or if a `usize` can't count the cells.
 fn next_size(alloc: Global, boards: &mut [Board]) -> Result<Option<Size>, OutOfMemory>
     ensures { IfOk result (λ found. IfSome found (λ size. (boards.new ≡ map advanced boards.old)
         × (size ≡ pattern_size (flat_map (λ board. board.cells) boards.new)))) }

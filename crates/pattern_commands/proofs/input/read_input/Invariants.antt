@@ -2,7 +2,7 @@ use Rattle.std.proofs.Common.{◌≡◌, ◌≤◌, ◌+◌, ◌-◌, ◌^◌, l
 use Rattle.std.specs.Io.KnownBytes.{Consumes}
 use Rattle.pattern_commands.proofs.input.read_input.Given as goal
 
--- the bytes that were read are kept, and only the last read may exceed the limit
+-- `bytes` has all bytes that were read, and exceeds the limit of 2^24 by at most one read
 abbrev pub invariant-loop-input : goal.invariant-loop-input
 invariant-loop-input g l =
     Consumes (g.R.Read.remaining l.fn.input) (g.R.Read.remaining l.input) l.bytes.items

@@ -4,7 +4,7 @@ use Rattle.pattern_commands.specs.SizeSteps.{later_sizes}
 use Rattle.pattern_commands.specs.Streams.{Has, stream}
 use Rattle.pattern_commands.proofs.sizes.put_later_sizes.Given as goal
 
--- the lines up to this generation have been written
+-- the lines of the generations after `from` have been written, up to generation `generation`
 abbrev pub invariant-loop-generation : goal.invariant-loop-generation
 invariant-loop-generation g l = record {
   later : l.from ≤ l.generation;

@@ -6,7 +6,7 @@ use Rattle.plane_core.proofs.lemmas.plane.CommuteLemmas.{set_of-in_order}
 use Rattle.pattern_commands.proofs.SizePartLemmas.{none_off}
 use Rattle.pattern_commands.proofs.sizes.parts.pattern_of.Goals as goal
 
--- no cell is off the plane
+-- the arm for a cell off the plane is unreachable, because no cell is off the plane
 pub unreachable-requires : goal.unreachable-requires
 unreachable-requires c =
     let none : position off_plane c.args.cells.now ≡ None = none_off c.args.cells.now c.requires.on_plane in
