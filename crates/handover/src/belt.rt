@@ -320,8 +320,8 @@ impl<N: Drop> Belt<N> {
 }
 
 impl<N: Drop> Remainder<N> {
-    /// Removes and returns a note, the first of its sender's notes that are left. Returns `None` if no notes are left
-    /// of the senders whose passes were handed back. May wait until it is known whether the queue is empty.
+    /// Removes and returns a note, the first of its sender's notes that are left. Returns `None` if no notes are left.
+    /// May wait until it is known whether the queue is empty.
     pub fn next<R: Wait>(&mut self, rt: &R) -> Option<N>
         ensures taken { IfSome result (TookFirst self.old self.new) }
         ensures none { IfNone result (NothingLeft self.old) }

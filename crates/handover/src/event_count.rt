@@ -19,7 +19,8 @@ const EVENTS_PER_WAKE: u64 = 8;
 
 /// A count of events, and the threads that sleep until the next one.
 ///
-/// A thread that reads the count before it checks whether it has to wait misses no change that is notified afterwards.
+/// A thread first reads the count, then checks whether it has to wait, and then sleeps only while the count is
+/// unchanged. So it misses no change that is notified after it read the count.
 #[derive(Drop)]
 pub(crate) struct EventCount {
     events: AtomicU64,

@@ -29,10 +29,10 @@ use std::fmt;
 use std::marker::Model;
 use thiserror::Error;
 
-/// The most numbers: as many as a haul may have.
+/// The largest count of numbers, which is also the largest number of soups for which a haul can be opened.
 const MOST_NUMBERS: u64 = 1 << 24;
 
-/// The most passes: as many as a haul may have workers.
+/// The largest number of passes, which is also the largest number of a haul's workers.
 const MOST_PASSES: u8 = 16;
 
 /// Why no tickets were opened.

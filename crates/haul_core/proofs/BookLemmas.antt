@@ -1,4 +1,4 @@
--- The book, one arrival at a time.
+-- What the book does at one more arrival, and why a haul does the same.
 use Rattle.std.proofs.Common.{◌≡◌, ◌≢◌, ◌∙◌, ◌&&◌, ◌||◌, ℕ, Bool, true, false, cond, not, nat_le, nat_lt, List, [], ◌∷◌}
 use Rattle.std.proofs.Common.{◌++◌, Option, None, Some, ap, sym, subst, refl, inl, inr, ◌⊎◌, filter, map, option_map, if◌then◌else◌, Result, Ok, Err}
 use Rattle.std.specs.List.{find}

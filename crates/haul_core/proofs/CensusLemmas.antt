@@ -80,7 +80,8 @@ kept_more rows kept newer i d distinct low before new code = go (cases_Bool (is_
         found code ∙ ap (λ (b : Bool). option_or (found_score (take i rows) code) (cond b (Some e.1) None)) apart ∙ or_none (found_score (take i rows) code) in
         new code ∙ ap (λ (b : Bool). cond b (with_objects (Some e.1)) (lookup (is_code code) kept)) other ∙ before code ∙ ap with_objects (sym miss)
 
--- if the next score's total isn't 0 and the score is inserted, the map has all scores so far whose totals aren't 0
+-- if the next score's total isn't 0 and the score is inserted, the map has those of the first `i + 1` scores whose
+-- totals aren't 0
 pub kept_inserted : (rows kept newer : List (List ℕ × Score)) (i : ℕ) (code : List ℕ) (score put : Score)
     → IsDistinct (pointwise nat_eq) (keys_of rows) → i < length rows
     → slice_get rows i ≡ Some (code, score) → 0 < score.total → put ≡ score
@@ -94,7 +95,8 @@ kept_inserted rows kept newer i code score put distinct low at some same new bef
     → lookup (is_code q) newer ≡ cond (is_code o.0 q) (with_objects (Some o.1)) (lookup (is_code q) kept)) (sym e)
     (λ q. new q ∙ ap (λ (o : Option Score). cond (is_code code q) o (lookup (is_code q) kept)) (ap Some same ∙ sym (with_some score some))))
 
--- if the next score's total is 0 and the score is left out, the map has all scores so far whose totals aren't 0
+-- if the next score's total is 0 and the score is left out, the map has those of the first `i + 1` scores whose
+-- totals aren't 0
 pub kept_skipped : (rows kept : List (List ℕ × Score)) (i : ℕ) (code : List ℕ) (score : Score) → IsDistinct (pointwise nat_eq) (keys_of rows)
     → i < length rows
     → slice_get rows i ≡ Some (code, score) → score.total ≤ 0 → ((q : List ℕ) → lookup (is_code q) kept ≡ with_objects (found_score (take i rows) q))

@@ -73,7 +73,7 @@ bad_at line before here field more f c b none =
       is = omega (arith, ap length f, length-append (followed before) here);
     })
 
--- if the line ends after the fields `before`, and no lawful claim has just these, the missing field is the first fault
+-- if the line ends after the fields `before`, and no lawful claim has only these, the missing field is the first fault
 pub lacks_at : (line : List ℕ) (before : List (List ℕ)) (there : List ℕ) → FollowsFields line before None → there ≡ [] → BeginClaim before
     → ((claim : Claimed) → IsClaim claim → fields_of claim ≢ before) → IsFirstFaultOf line (length line - length there)
 lacks_at line [] there f e b none = absurd f

@@ -1,4 +1,4 @@
--- Two hauls, joined into one.
+-- The totals and the invariant of a haul that was joined from two hauls.
 use Rattle.std.proofs.Common.{◌≡◌, ◌∙◌, ◌+◌, ◌^◌, ◌<◌, ◌≤◌, ◌||◌, ◌++◌, ℕ, zero, suc, Bool, true, false, cond, List, [], ◌∷◌}
 use Rattle.std.proofs.Common.{None, Some, true≢false}
 use Rattle.std.proofs.Common.{ap, sym, refl, subst, arith, rules, map, filter, take, get_or, length, length-append, max, nat_eq, zero-add}

@@ -44,7 +44,7 @@ ascending-same [] h = refl
 ascending-same (x ∷ []) h = refl
 ascending-same (x ∷ y ∷ xs) h = ap (with_number x) (ascending-same (y ∷ xs) h.1) ∙ with_first x (y ∷ xs) h
 
--- replacing the second list by a list with the same three lowest numbers doesn't change the three lowest of both lists
+-- if `ys` and `zs` have the same three lowest numbers, so do `xs ++ ys` and `xs ++ zs`
 least_after : (xs ys zs : List ℕ) → least_three ys ≡ least_three zs → least_three (xs ++ ys) ≡ least_three (xs ++ zs)
 least_after [] ys zs h = h
 least_after (x ∷ xs) ys zs h =

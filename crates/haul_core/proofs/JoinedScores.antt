@@ -29,7 +29,7 @@ score_set scores i before score other code at is e q =
 together_none : (t : Score) → together t no_score ≡ t
 together_none t = λ i. record { total = add-zero t.total i; samples = t.samples }
 
--- the first `i` of the other scores were added
+-- `new` is `old` with the first `i` scores of `others` added
 abbrev pub Added : List (List ℕ × Score) → List (List ℕ × Score) → List (List ℕ × Score) → ℕ → Type 0
 Added old new others i = (code : List ℕ) → score_in new code ≡ together (score_in old code) (score_in (take i others) code)
 
@@ -50,7 +50,7 @@ module _ (old new others : List (List ℕ × Score)) (i : ℕ) (code : List ℕ)
       ∙ lookup_append (pointwise nat_eq q) (take i others) (get_or others i (code, score) ∷ [])
       ∙ ap (λ (o : List ℕ × Score). option_or (found_score (take i others) q) (cond (pointwise nat_eq q o.0) (Some o.1) None)) own
 
-  -- so far nothing was added to the score of the next code
+  -- the first `i` scores of `others` add nothing to the score of the next code
   pub next_total : score_in new code ≡ score_in old code
   next_total =
       a code ∙ ap (λ (o : Option Score). together (score_in old code) (unwrap_or o no_score)) absent ∙ together_none (score_in old code)
@@ -62,7 +62,7 @@ module _ (old new others : List (List ℕ × Score)) (i : ℕ) (code : List ℕ)
   here : score_in (take (i + 1) others) code ≡ score
   here = ap (λ (o : Option Score). unwrap_or o no_score) found_here
 
-  -- the other scores have this score for the code
+  -- in `others`, the code has this score
   pub row_at : score_in others code ≡ score
   row_at = ap (λ (o : Option Score). unwrap_or o no_score) (ap (λ (scores : List (List ℕ × Score)). found_score scores code) (sym (take-append-drop (i + 1) others))
       ∙ lookup_append (pointwise nat_eq code) (take (i + 1) others) (drop (i + 1) others)

@@ -62,7 +62,7 @@ all_ascending : (x : ℕ) (xs : List ℕ) → AllByRecursion (λ y. x ≤ y) xs 
 all_ascending x [] all = tt
 all_ascending x (y ∷ ys) all = all_with x y (ascending ys) all.0 (all_ascending x ys all.1)
 
--- if numbers that aren't lower are sorted and put after ascending numbers, the whole list ascends
+-- if `xs` ascends, and no number of `ys` is lower than a number of `xs`, the list `xs ++ ascending ys` ascends
 up_both : (xs ys : List ℕ) → IsUp xs → AllByRecursion (λ m. All (λ n. m ≤ n) ys) xs → IsUp (xs ++ ascending ys)
 up_both [] ys up lower = up_ascending ys
 up_both (x ∷ xs) ys up lower =

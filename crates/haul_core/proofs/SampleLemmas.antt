@@ -18,7 +18,7 @@ pub with_first : (x : ℕ) (more : List ℕ) → IsAscending (x ∷ more) → wi
 with_first x [] h = refl
 with_first x (y ∷ more) h = with_least x y more h.0
 
--- ---- only the `k` lowest of the numbers so far matter
+-- ---- dropping all but the first `k` numbers before an insertion doesn't change the first `k` after it
 
 pub take_with : (k n : ℕ) (xs : List ℕ) → take k (with_number n (take k xs)) ≡ take k (with_number n xs)
 take_with zero n xs = refl

@@ -117,7 +117,7 @@ Extends-then a b c x y = record {
   blank = All-append (λ score. score.1 ≡ no_score) x.more y.more x.blank y.blank;
 }
 
--- unchanged scores extend themselves
+-- a list of scores extends itself
 pub Extends-none : (scores : List (List ℕ × Score)) → Extends scores scores
 Extends-none scores = record { more = []; is = sym (append-nil scores); blank = All-nil (λ score. score.1 ≡ no_score) }
 

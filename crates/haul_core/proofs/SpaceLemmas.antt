@@ -33,7 +33,7 @@ abbrev pub Stops : ℕ → List ℕ → Type 0
 Stops byte [] = Unit {0}
 Stops byte (c ∷ remainder) = byte ≡ c
 
--- only one way to cut a text gives a prefix without the byte and a remainder that is empty or begins with the byte
+-- there is only one way to cut a text into a prefix without the byte and a remainder that is empty or begins with it
 pub cut_ends : (byte : ℕ) (x y r s : List ℕ) → Lacks byte x → Lacks byte y → Stops byte r → Stops byte s → x ++ r ≡ y ++ s → (x ≡ y) × (r ≡ s)
 cut_ends byte [] [] r s p q h k e = (refl, e)
 cut_ends byte [] (b ∷ y) [] s p q h k e = absurd (cc)

@@ -29,7 +29,7 @@ offered [] = []
 offered (Offer report ∷ more) = report ∷ offered more
 offered (Closing ∷ more) = []
 
--- the report is for the haul's job, by one of the haul's workers, and on a number in the haul's set
+-- the report is for the haul's job, by one of the haul's workers, and on a soup whose number is in the haul's set
 abbrev pub is_lawful : Terms → Reported → Bool
 is_lawful terms r = same_job terms.job r.job && (nat_le r.worker terms.workers && is_in terms.ranges r.number)
 
@@ -62,7 +62,7 @@ pub record Held : Type 0 where
   pub closed : Bool
   pub taken : List (ℕ × ℕ)
 
--- the arrivals lead to this haul: it has taken what the book takes, and is closed exactly if one of them is a closing
+-- the arrivals lead to this haul: it has taken what the book takes, and is closed exactly if an arrival is a closing
 pub record StandsFor (arrivals : List Arrival) (held : Held) : Type 0 where
   pub taken : held.taken ≡ taken_of held.terms arrivals
   pub closed : held.closed ≡ has_closing arrivals

@@ -1,4 +1,4 @@
--- Checking a claim: it is compared with the finding that the definition gives for its soup.
+-- Checking a claim: what it says is compared with the finding of its soup.
 use Rattle.std.specs.Prelude.{◌≡◌, IfErr, IfOk, MatchResult, Result, true, false}
 use Rattle.memory.specs.Witness.{out_of_memory}
 use Rattle.std.specs.List.{All}
@@ -15,7 +15,7 @@ use Rattle.haul_core.specs.ReportLines.{claim_of, said_of}
 use Rattle.haul_core.specs.LawfulClaims.{Claimed}
 use Rattle.haul_core.specs.Reports.{IsReport, Reported}
 
--- the claim says the same as the finding, except that version 1 doesn't say whether the objects stay for good
+-- the claim says the same as the finding, except that a line of version 1 doesn't say whether the objects stay for good
 abbrev pub Agrees : Claimed → Finding → Type 0
 Agrees claim finding = said_of claim.version finding ≡ claim.found
 

@@ -34,7 +34,7 @@ abbrev pub IsLineOf : List (List ℕ) → List ℕ → Type 0
 IsLineOf [] line = ⊥
 IsLineOf (first ∷ more) line = line ≡ line_of first more
 
--- the line has these fields, a space after each, and the remainder; `None` means that it ends with the last field
+-- the line has these fields, a space after each, and the remainder; `None` means that the line ends with the last field
 abbrev pub FollowsFields : List ℕ → List (List ℕ) → Option (List ℕ) → Type 0
 FollowsFields line fields None = IsLineOf fields line
 FollowsFields line fields (Some remainder) = line ≡ followed fields ++ remainder

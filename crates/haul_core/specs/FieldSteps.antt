@@ -7,8 +7,8 @@ use Rattle.survey_core.specs.Profiles.{Settling}
 abbrev pub Lacks : ℕ → List ℕ → Type 0
 Lacks byte text = list_any (λ b. b == byte) text ≡ false
 
--- the text is cut at the first byte of this value, into a prefix and the text after that byte; `None` means that there
--- is no such byte, and that the prefix is the whole text
+-- the text is cut at the first occurrence of the byte, into a prefix and the text after the byte; `None` means that the
+-- byte doesn't occur, and that the prefix is the whole text
 abbrev pub Cuts : ℕ → List ℕ → List ℕ → Option (List ℕ) → Type 0
 Cuts byte text prefix None = (text ≡ prefix) × Lacks byte prefix
 Cuts byte text prefix (Some remainder) = (text ≡ prefix ++ byte ∷ remainder) × Lacks byte prefix

@@ -55,7 +55,7 @@ sum_lines census =
 abbrev pub total_line : Row → List ℕ
 total_line row = line_of_numbers row.code (row.total ∷ [])
 
--- a code, and the lowest numbers of the soups that left an object with it
+-- a code, and the lowest numbers of the soups that left an object with this code
 abbrev pub sample_line : Row → List ℕ
 sample_line row = line_of_numbers row.code row.samples
 

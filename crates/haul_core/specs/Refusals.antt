@@ -22,7 +22,7 @@ abbrev pub double : Option ℕ → Option OfferError
 double None = None
 double (Some worker) = Some (Double worker)
 
--- why an offer after these arrivals is refused, if it is: the first reason that fits
+-- why an offer after these arrivals is refused: the first reason that fits, or `None` if the offer is taken
 abbrev pub refusal_of : Terms → List Arrival → Reported → Option OfferError
 refusal_of terms before r =
     if has_closing before then Some Closed

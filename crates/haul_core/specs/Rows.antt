@@ -17,7 +17,7 @@ codes_of rows = map (λ row. row.code) rows
 abbrev pub AreInOrder : List Row → Type 0
 AreInOrder rows = IsStrictlySortedBy (slice_cmp nat_cmp) (codes_of rows)
 
--- the row has its code's total, at least 1, and the three lowest numbers (or all) of soups that left such an object
+-- a code's row: its total, at least 1, and the three lowest numbers (or all) of soups that left an object with the code
 pub record IsRowOf (surveys : List Survey) (row : Row) : Type 0 where
   pub some : 1 ≤ row.total
   pub total_is : row.total ≡ total surveys row.code

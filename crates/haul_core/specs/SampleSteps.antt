@@ -15,7 +15,7 @@ ascending (n ∷ more) = with_number n (ascending more)
 abbrev pub least_three : List ℕ → List ℕ
 least_three numbers = take 3 (ascending numbers)
 
--- xs after the other numbers were inserted one by one, where only the three lowest numbers are kept each time
+-- xs after the other numbers were inserted one by one, and only the three lowest were kept after each insertion
 abbrev pub with_each : List ℕ → List ℕ → List ℕ
 with_each xs [] = xs
 with_each xs (n ∷ more) = with_each (take 3 (with_number n xs)) more

@@ -11,8 +11,8 @@ IsAscending (x ∷ y ∷ more) = (x ≤ y) × IsAscending (y ∷ more)
 abbrev pub AreSameNumbers : List ℕ → List ℕ → Type 0
 AreSameNumbers numbers others = (n : ℕ) → count_by (nat_eq n) numbers ≡ count_by (nat_eq n) others
 
--- `least` has the three lowest of the numbers, ascending, or all if there are fewer. `others` are the rest, none of
--- which is lower.
+-- `least` has the three lowest of the numbers, ascending, or all if there are fewer. `others` has the rest, and no
+-- number of `others` is lower than a number of `least`.
 pub record AreLeastThree (numbers least : List ℕ) : Type 0 where
   pub others : List ℕ
   pub all : (n : ℕ) → count_by (nat_eq n) (least ++ others) ≡ count_by (nat_eq n) numbers

@@ -66,7 +66,8 @@ impl<E: Into<OutOfMemory>> From<E> for ReportError {
 
 /// What a worker reports about a soup: the job, the worker, the soup's number, and its finding.
 ///
-/// A report is always correct: its finding is the one that the definition gives for its job and number.
+/// A report is always correct: the invariant `IsReport` says that `finding` is the finding of this soup, under the
+/// job's rule and profile.
 #[derive(Debug, Drop)]
 pub struct Report {
     job: Job,

@@ -9,7 +9,7 @@ use std::test::Fail;
 
 // Two lines about soup 101 of the empty seed under the standard profile, and a line about soup 0 under a profile whose
 // only checkpoint is generation 0. The finding of soup 101 was computed by a program in another language, which was
-// written only from the definitions.
+// written only from the formal definitions.
 const RIGHT: [&[u8]; 3] = [
     b"report 2 rule=b3s23 profile=64,512,101,30300 seed= worker=3 soup=101 at=202 \
         good=yes xp2_7*1 xs4_33*3 xs5_253*1 xs7_2596*1",
@@ -119,7 +119,7 @@ const DAMAGED: [(&[u8], usize); 14] = [
     (b"report 1 rule=b3s23 profile=1,1,1,0 seed= wor", 42),
 ];
 
-/// Lines that are read: the same line in both versions, and a line with another rule.
+/// Lines without a fault: the same line in both versions, and a line with another rule.
 const WHOLE: [&[u8]; 3] = [
     b"report 1 rule=b3s23 profile=1,1,1,0 seed= worker=2 soup=0 unsettled",
     b"report 2 rule=b3s23 profile=1,1,1,0 seed= worker=2 soup=0 unsettled",

@@ -16,7 +16,7 @@ fn haul_of(alloc: Global, job: &Job, number: u32) -> Result<Haul, OpenError> {
     Ok(closed(haul))
 }
 
-// The objects of the two soups were computed by a program in another language, which was written only from the
+// The objects of the two soups were computed by a program in another language, which was written only from the formal
 // definitions.
 #[test]
 fn joins_hauls_that_have_objects(rt: HostRuntime) -> Result<(), Fail> {

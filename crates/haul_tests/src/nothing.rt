@@ -13,7 +13,7 @@ fn empty_haul(alloc: Global, job: &Job) -> Result<Haul, OpenError> {
     Ok(closed(haul))
 }
 
-/// Checks whether the haul gives no replies if nothing arrives, and no number of the haul is missing.
+/// Passes an empty list of arrivals to the haul. Checks whether there are no replies and no missing numbers.
 fn replies_nothing(alloc: Global, haul: &mut Haul) -> Result<bool, Fail> {
     let replies = keep_book(alloc, haul, Vec::new(alloc))?;
     let missing = haul.missing()?;

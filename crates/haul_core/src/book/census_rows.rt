@@ -25,7 +25,7 @@ pub struct Row {
     pub code: Apgcode,
     /// The number of objects that have the code, at least 1.
     pub total: u128,
-    /// The three lowest numbers of soups that left such an object, ascending.
+    /// The three lowest numbers (or all) of soups that left an object with the code, ascending.
     pub samples: Samples,
 }
 

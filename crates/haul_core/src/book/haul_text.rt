@@ -88,7 +88,8 @@ fn put_range<W: Write>(out: &mut Out<W>, range: &Range) -> Result<(), WriteError
     put_line(out, b"@RANGE", &[range.first, range.count])
 }
 
-/// Writes the sums: how many soups, unsettled soups, soups whose objects stay for good, and objects there are.
+/// Writes the sums, a line for each: the numbers of soups, unsettled soups, soups whose objects stay for good, and
+/// objects.
 fn put_sums<W: Write>(out: &mut Out<W>, census: &Census) -> Result<(), WriteError>
     requires { out.old.failed ≡ false }
     ensures { Writes W.contents out.old out.new result (text_of (sum_lines census.now)) }

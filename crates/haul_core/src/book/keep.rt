@@ -1,4 +1,4 @@
-//! The book as a whole: a haul, any list of arrivals, and the replies.
+//! The book as a whole: passes a list of arrivals to a haul, and returns the replies.
 
 ghost use Rattle.std.specs.Prelude.{◌≡◌, ◌++◌, ◌∷◌, [], List, IfOk, OnErr, OnOk};
 ghost use Rattle.haul_core.specs.Books.{StandsFor};
@@ -16,7 +16,7 @@ use std::alloc::Global;
 ///
 /// Whatever arrived before, and in whatever order reports arrive, the haul takes each number of its set at most once,
 /// and lists each worker's soups in the order in which they were offered. It refuses doubles, reports of another job,
-/// of an unknown worker or of a number outside the set, and everything after a closing, each with its reason.
+/// of an unknown worker or of a number outside the set, and every report after a closing, each with its reason.
 ///
 /// # Errors
 ///

@@ -14,7 +14,8 @@ use std::marker::Model;
 /// The most samples that a code may have. With three, a user can look at more than one soup.
 pub const MOST_SAMPLES: usize = 3;
 
-/// The three lowest numbers of soups that left an object, ascending, or all numbers if there are fewer.
+/// The samples of a code: the three lowest numbers of soups that left an object with it, ascending, or all numbers if
+/// there are fewer.
 #[derive(Debug, Drop)]
 pub struct Samples {
     numbers: [u64; MOST_SAMPLES],

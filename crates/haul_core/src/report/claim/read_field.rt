@@ -24,11 +24,11 @@ use survey_core::seed::Seed;
 /// The highest limit of a profile. No other number of a profile, and no checkpoint, is higher.
 const MOST_GENERATIONS: u64 = 100_000;
 
-/// The most bytes of an apgcode, by the law `codes_have_their_shape`.
+/// The most bytes of an apgcode, by the law `codes_have_their_shape` of the crate `code_core`.
 const MOST_CODE_BYTES: usize = 400;
 
-/// Cuts a text at its first byte `byte`. Returns the text before that byte and the text after it, or the whole text and
-/// `None` if there is no such byte.
+/// Cuts a text at the first occurrence of `byte`. Returns the text before the byte and the text after it, or the whole
+/// text and `None` if the byte doesn't occur.
 pub(crate) fn cut_at(byte: u8, text: &[u8]) -> (&[u8], Option<&[u8]>)
     ensures { Cuts byte text.now result.0.now (option_map (λ remainder. remainder.now) result.1) }
 {

@@ -4,7 +4,8 @@ use Rattle.haul_core.specs.MissingSteps.{has_no_worker}
 use Rattle.haul_core.proofs.MissingLemmas.{adds}
 use Rattle.haul_core.proofs.book.missing.add_missing.Given as goal
 
--- the missing numbers listed so far and those still to be added are all that should be listed
+-- the list, followed by the missing numbers of the range from the current number on, is the old list, followed by all
+-- missing numbers of the range
 abbrev pub invariant-loop-number : goal.invariant-loop-number
 invariant-loop-number l =
     l.missing.items ++ adds l.worker_of.entries l.number-counter l.number-end

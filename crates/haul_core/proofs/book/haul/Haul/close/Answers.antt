@@ -4,7 +4,7 @@ use Rattle.haul_core.specs.declared.book.arrival.Arrival.TheVariants.{Closing}
 use Rattle.haul_core.proofs.BookLemmas.{stands_closed}
 use Rattle.haul_core.proofs.book.haul.Haul.close.Goals as goal
 
--- a closed haul stays closed
+-- if the haul was closed before, it is unchanged, and also stands for its arrivals with one more closing
 pub returns-then-self-clause-stands : goal.returns-then-self-clause-stands
 returns-then-self-clause-stands c = λ arrivals s.
     let held : Held = c.args.self.now in

@@ -7,7 +7,7 @@ use Rattle.haul_core.proofs.SpaceLemmas.{no_claim}
 use Rattle.ranges.proofs.ListLemmas.{left_of}
 use Rattle.haul_core.proofs.report.claim.read_line.with_counts.Goals as goal
 
--- a cut leaves less of the line
+-- after a cut, less of the line is left
 less_left : (byte : ℕ) (here field : List ℕ) (more : Option (List ℕ)) → Cuts byte here field more → left_of more < left_of (Some here)
 less_left byte here field None c = omega arith
 less_left byte here field (Some remainder) c = omega (arith, ap length c.0, length-append field (byte ∷ remainder))
