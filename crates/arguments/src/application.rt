@@ -6,7 +6,7 @@
 //! ```
 
 ghost use Rattle.std.specs.Prelude.{◌≡◌, ◌∷◌, [], IfOk, map, true, false};
-ghost use Rattle.clap.specs.Words.{app_of, rule_of, shape_of, with_subcommand};
+ghost use Rattle.clap.specs.Words.{app_of, rule_of, shape_of};
 ghost use Rattle.clap.specs.declared.builder.command.Command.TheViews.{out-Command as fields_of};
 ghost use Rattle.arguments.specs.Application.{census_app, named, placed, program, rule_in, shape_in};
 ghost use Rattle.arguments.specs.Application.{with_commands, with_rules};
@@ -105,21 +105,9 @@ fn with_commands<'a>(
 {
     let mut program = program;
     for row in rows {
-        program = with_command(alloc, program, row)?;
+        let command = command(alloc, row)?;
+        program = program.subcommand(command)?;
     }
-    Ok(program)
-}
-
-/// Adds the command of a row to the program.
-fn with_command<'a>(
-    alloc: Global,
-    program: Command<'a>,
-    row: &CommandRow,
-) -> Result<Command<'a>, OutOfMemory>
-    ensures { IfOk result (λ new. app_of new ≡ with_subcommand (app_of program.entry) (shape_in (command_of row.now))) }
-{
-    let command = command(alloc, row)?;
-    let program = program.subcommand(command)?;
     Ok(program)
 }
 
