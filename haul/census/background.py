@@ -1,5 +1,5 @@
-"""Programs that run in their own sessions, which Ctrl-C doesn't reach, and that end when `haul`
-ends."""
+"""Programs that run in sessions of their own, so that Ctrl-C doesn't reach them. They end when
+`haul` ends."""
 
 from __future__ import annotations
 

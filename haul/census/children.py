@@ -1,5 +1,5 @@
-"""The processes that this process has started, and the only way in which they are started. If a
-signal ends this process, they must not outlive it."""
+"""The list of the processes that this process has started. All of them are started through this
+module, so that none is missing from the list: if a signal ends this process, they are ended too."""
 
 from __future__ import annotations
 
@@ -68,14 +68,14 @@ Started = TypeVar("Started", bound=Running)
 
 
 class Children:
-    """The running processes."""
+    """The running processes that this process has started."""
 
     def __init__(self) -> None:
         self.running: list[Running] = []
         # Held while a process is started, so that every running process is known.
         self.starts = threading.Lock()
-        # The work to notify of signals, which then ends by itself, or `None` if a signal ends this
-        # process.
+        # The work that is notified of signals and then ends by itself, or `None` if a signal ends
+        # this process.
         self.stopping: SignalHandler | None = None
 
     def start(
@@ -113,7 +113,8 @@ class Children:
             self.running.remove(process)
 
     def heed(self, stopping: SignalHandler) -> None:
-        """Passes signals to the work `stopping` from now on. It ends by itself after a signal."""
+        """Passes signals to the work `stopping` from now on. This work ends by itself after a
+        signal."""
         self.stopping = stopping
 
     @contextmanager

@@ -18,7 +18,7 @@ DONE, NO_MEMORY, FAILED = 0, 4, 5
 
 
 class Fork:
-    """A forked process, which `children` can end like the others."""
+    """A forked process. `children` can end it like the other processes of its list."""
 
     def __init__(self, pid: int) -> None:
         self.pid = pid

@@ -53,13 +53,13 @@ impl Pattern {
     }
 }
 
-/// The law that being linked is an equivalence relation on the cells of a pattern.
+/// The law that being linked by a chain of live cells is an equivalence relation on the cells of a pattern.
 #[tactic(auto, using(crate::proofs::lemmas::clusters::ClusterLaws::linked_law))]
 pub fn linked_is_an_equivalence()
     ensures { LinkedIsAnEquivalence }
 {}
 
-/// The law that no two clusters share a cell, and together they are the pattern.
+/// The law that no two clusters share a cell, and that all clusters together are the pattern.
 pub fn clusters_partition()
     ensures { ClustersPartition }
 {}

@@ -59,8 +59,8 @@ impl fmt::Debug for StepError {
 }
 
 impl StepError {
-    /// Returns the witness of an error that isn't `Edge`. This is for callers whose pattern can't reach the edge of the
-    /// plane.
+    /// Returns the `OutOfMemory` of an error that isn't `Edge`. This is for callers whose pattern can't reach the edge
+    /// of the plane.
     pub fn refusal(self) -> OutOfMemory
         requires inland { self ≢ StepError.Edge }
     {
@@ -72,7 +72,7 @@ impl StepError {
 }
 
 /// The most generations that are run on one board. After them, the pattern is read back and a new board is made, so
-/// that the board never is much wider than the pattern.
+/// that the board is never much wider than the pattern.
 const STRETCH: u32 = 256;
 
 /// How deep cuts may be nested. A part that results from this many nested cuts isn't cut again.
@@ -281,7 +281,7 @@ pub fn cells_follow_the_rule()
     ensures { CellsFollowTheRule }
 {}
 
-/// The law of the speed of light: in g generations, no pattern moves farther than g cells.
+/// The law of the speed of light: in g generations, no pattern spreads by more than g cells in any direction.
 pub fn speed_of_light()
     ensures boxes { SpeedOfLight }
     ensures origin { SpeedFromOrigin }

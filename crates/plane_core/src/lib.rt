@@ -1,7 +1,7 @@
-//! Finite patterns of a Life-like cellular automaton on the unbounded plane.
+//! Finite patterns of a Life-like cellular automaton. Their cells have coordinates from -1,000,000 to 1,000,000.
 //!
 //! Contracts see a [`Pattern`](plane::pattern::Pattern) as the list of its cells in order, each once. This list stands
-//! for the finite set.
+//! for the set of these cells.
 //!
 //! The main modules, each of which uses only the modules below it and `output`:
 //!

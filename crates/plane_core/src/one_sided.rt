@@ -4,7 +4,7 @@
 pub(crate) mod active_cells;
 pub(crate) mod crop;
 pub(crate) mod diverges;
-/// Rejecting a checkpoint of a board because of one cluster.
+/// A test that the pattern of a board isn't at rest, because of one cluster.
 pub mod early_reject;
 pub(crate) mod flood;
 pub(crate) mod follow;

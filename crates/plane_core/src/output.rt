@@ -74,7 +74,7 @@ impl<V: Write> Out<V> {
         *failed
     }
 
-    /// Returns the writer, whether a write has failed or not.
+    /// Returns the writer, even if a write has failed.
     pub fn into_inner(self) -> V
         ensures { result ≡ self.writer }
     {

@@ -40,7 +40,7 @@ const DEAD: u8 = b'.';
 
 const LIVE: u8 = b'O';
 
-/// Another byte for a live cell, which is read and never written.
+/// Another byte that is read as a live cell. It is never written.
 const STAR: u8 = b'*';
 
 /// The first byte of a comment.

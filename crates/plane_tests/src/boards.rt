@@ -1,5 +1,5 @@
-//! Tests of what no clause says about a board: that spaceships are among its small clusters, and that its frontier is
-//! exact, not only a bound.
+//! Tests of a board. No clause says that spaceships are among its small clusters, or that its frontier is exact, not
+//! only a bound.
 use memory::OutOfMemory;
 use plane_core::engine::board::Board;
 use plane_core::plane::cell::Cell;
@@ -55,7 +55,7 @@ fn greatest(pattern: &Pattern, gone: &Pattern, across: i32, down: i32) -> Option
     found
 }
 
-/// Returns the cells of 50 by 50 gliders, ten cells from one to the next.
+/// Returns the cells of 50 by 50 gliders, one in each square of ten by ten cells.
 fn gliders(alloc: Global) -> Result<Vec<Cell>, OutOfMemory> {
     let mut cells = Vec::new(alloc);
     for i in 0..2_500_i32 {
@@ -102,7 +102,7 @@ fn nothing_has_no_clusters(rt: HostRuntime) -> Result<(), Fail> {
     Ok(())
 }
 
-// A glider ahead of 2,500 others is found, and all gliders can be taken off the board at once.
+// `small_clusters` finds a glider ahead of 2,500 others, and `take_out` can take all gliders off the board at once.
 #[test]
 fn the_foremost_of_many_gliders_is_found(rt: HostRuntime) -> Result<(), Fail> {
     let mut cells = gliders(rt.alloc())?;

@@ -98,7 +98,7 @@ fn bytes(alloc: Global, count: u32) -> Result<Vec<u8>, OutOfMemory> {
     Ok(bytes)
 }
 
-// The clauses of `put` would allow it to give up a piece after many writes.
+// The clauses of `put` would allow it to fail after many writes, even if no write has failed.
 #[test]
 fn puts_a_piece_in_as_many_writes_as_it_takes(rt: HostRuntime) -> Result<(), Fail> {
     let piece = bytes(rt.alloc(), 20_000)?;

@@ -1,5 +1,5 @@
-//! Tests of runs: of many blinkers, of many gliders, and up to the edge. No clause says that there is enough memory for
-//! a run, or that it ends in a reasonable time.
+//! Tests that run many blinkers, many gliders, and blinkers beside the edge of the plane. No clause says that there is
+//! enough memory for a run, or that it ends in a reasonable time.
 use memory::OutOfMemory;
 use plane_core::generation::StepError;
 use plane_core::plane::cell::Cell;
@@ -61,7 +61,7 @@ fn a_thousand_blinkers_on_a_diagonal_turn(rt: HostRuntime) -> Result<(), Fail> {
     Ok(())
 }
 
-/// Checks whether the cell (x, y) is in a glider at the origin, which flies to the lower right.
+/// Checks whether a glider at the origin, which flies to the lower right, has the cell (x, y).
 fn is_in_glider(x: i32, y: i32) -> bool {
     match y {
         0 => x == 1,
@@ -83,7 +83,7 @@ fn glider_cells(alloc: Global) -> Result<Vec<Cell>, OutOfMemory> {
     Ok(cells)
 }
 
-/// Returns 100 by 60 gliders, ten cells from one to the next.
+/// Returns 100 by 60 gliders, one in each square of ten by ten cells.
 fn gliders(alloc: Global) -> Result<Pattern, FromCellsError> {
     let cells = glider_cells(alloc)?;
     Pattern::from_cells(alloc, cells.as_slice())

@@ -23,7 +23,7 @@ all_later n (r ∷ more) later =
     ap (λ (b : Bool). b || is_in more n) (before n r (later 0 r (omega arith)))
     ∙ all_later n more (λ k d low. later (suc k) d (omega arith))
 
--- if the first range of a list in normal form begins after a place, all its ranges do
+-- if the first range of a list in normal form begins after a place, all ranges of the list begin after the place
 each_after : (place : ℕ) (rs : List Range) → AreNormal rs → BeginAfter place rs → (k : ℕ) (d : Range) → k < length rs → place < (get_or rs k d).first
 each_after place [] normal starts k d low = absurd (omega arith)
 each_after place (r ∷ more) normal starts zero d low = starts
@@ -41,7 +41,7 @@ ascends (r ∷ more) normal zero (suc j) d order low =
 ascends (r ∷ more) normal (suc i) zero d order low = absurd (omega arith)
 ascends (r ∷ more) normal (suc i) (suc j) d order low = ascends more normal.2 i j d (omega arith) (omega arith)
 
--- a number is in the set if and only if it is in the last range that begins at it or before it
+-- n is in the set of the ranges if and only if n is in the last range that begins at n or before n
 pub only_last : (n : ℕ) (rs : List Range) (i : ℕ) (d : Range) → AreNormal rs → i < length rs → (get_or rs i d).first ≤ n
     → ((k : ℕ) (d : Range) → suc i ≤ k → k < length rs → n < (get_or rs k d).first) → is_in rs n ≡ is_in_range n (get_or rs i d)
 only_last n [] i d normal low begun later = absurd (omega arith)

@@ -1,4 +1,4 @@
--- A text of ranges can be split into numbers in one way only: each number goes on as long as there are digits.
+-- A text of ranges can be split into numbers in one way only: a number is 0, or it goes on as long as there are digits.
 use Rattle.std.proofs.Common.{◌≡◌, ◌≢◌, ◌<◌, ◌≤◌, ◌^◌, ◌++◌, ℕ, Bool, true, false, List, [], ◌∷◌, length, refl, sym, ◌∙◌, ap, arith, rules}
 use Rattle.std.proofs.Common.{append_assoc, append-nil, length-append}
 use Rattle.std.specs.Char.{is_ascii_digit}
@@ -11,7 +11,7 @@ use Rattle.ranges.specs.RangeListFaults.{IsDecimal}
 use Rattle.ranges.specs.RangeListSteps.{has_digit}
 use Rattle.ranges.proofs.DecimalLemmas.{IsDecimal-decimal}
 
--- the decimal doesn't continue in the remainder: a digit follows it only if its first digit is `0` (48)
+-- the decimal doesn't continue in the remainder: a digit follows the decimal only if the decimal begins with `0` (48)
 abbrev pub Ends : List ℕ → List ℕ → Type 0
 Ends number remainder = has_digit remainder ≡ true → slice_index number 0 ≡ 48
 
@@ -49,8 +49,8 @@ cut_zero d e x y p q z s =
     let whole : 48 ∷ x ≡ 48 ∷ y = sym (ap (λ (t : List ℕ). t ++ x) f) ∙ s ∙ ap (λ (t : List ℕ). t ++ y) g in
     (f ∙ sym g, cc)
 
--- if a text is the decimal d followed by x, and also the decimal e followed by y, and neither decimal continues in
--- what follows it, d and e are equal, and so are x and y
+-- A text is the decimal d followed by x, and also the decimal e followed by y. If d doesn't continue in x, and e
+-- doesn't continue in y, then d and e are equal, and so are x and y.
 pub cut : (d e x y : List ℕ) → IsDecimal d → IsDecimal e → Ends d x → Ends e y → d ++ x ≡ e ++ y → (d ≡ e) × (x ≡ y)
 cut d e x y p q h k s = go (has_digit x) (has_digit y) refl refl
   where
@@ -68,8 +68,8 @@ IsWritten-written r f c = (IsDecimal-decimal r.first f, IsDecimal-decimal r.coun
 pair-append : (w : Written) (x : List ℕ) → pair_text w ++ x ≡ w.first ++ 43 ∷ (w.count ++ x)
 pair-append w x = append_assoc w.first (43 ∷ w.count) x
 
--- if a text is the range w followed by x, and also the range v followed by y, and neither count continues in what
--- follows it, w and v are equal, and so are x and y
+-- A text is the range w followed by x, and also the range v followed by y. If the count of w doesn't continue in x, and
+-- the count of v doesn't continue in y, then w and v are equal, and so are x and y.
 pub cut_pair : (w v : Written) (x y : List ℕ) → IsWritten w → IsWritten v → Ends w.count x → Ends v.count y → pair_text w ++ x ≡ pair_text v ++ y
     → (w ≡ v) × (x ≡ y)
 cut_pair w v x y p q h k s =

@@ -61,7 +61,8 @@ large n d text remainder some fits digit big e =
       spelled = e ∙ sym (ap (λ (xs : List ℕ). xs ++ remainder) pushed ∙ append_assoc (decimal n) ((48 + d) ∷ []) remainder);
     }
 
--- the digits read so far are the decimal of `number`, which is at least 1 and below 2^64
+-- the digit `first`, followed by `text`, is the decimal of `number`, followed by the remainder; `number` is at least 1
+-- and below 2^64
 pub record Reading (first : ℕ) (text : List ℕ) (number : ℕ) (remainder : List ℕ) : Type 0 where
   pub some : 1 ≤ number
   pub fits : number < 2 ^ 64

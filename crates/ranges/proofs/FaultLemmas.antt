@@ -50,7 +50,8 @@ IsOfU64 w = (r : Range) × (FitsU64 r × (w ≡ written r))
 abbrev AreWritten : List Written → Type 0
 AreWritten ws = AllByRecursion IsWritten ws
 
--- `more` are the ranges of the list `qs` after those that have been passed, and x is the text of `more`
+-- A walk has passed some ranges at the beginning of the list `qs`. `more` are the ranges after them, and x is the text
+-- of `more`.
 record Walked (qs : List Written) (x : List ℕ) : Type 0 where
   more : List Written
   each : AreWritten more
@@ -112,7 +113,7 @@ first_digit (a ∷ d) x h = let s = h.digits in search (rules)
 pub pair-append : (w : Written) (x : List ℕ) → pair_text w ++ x ≡ w.first ++ 43 ∷ (w.count ++ x)
 pair-append w x = append_assoc w.first (43 ∷ w.count) x
 
--- if `there` doesn't begin with a digit, no range begins like it
+-- if `there` doesn't begin with a digit, no range begins like `there`
 pub refused_first : (there : List ℕ) → has_digit there ≡ false → RefusedRange [] there
 refused_first there none = λ w ws each x same s.
     let d : has_digit (w.first ++ 43 ∷ (w.count ++ tail ws)) ≡ true = first_digit w.first (43 ∷ (w.count ++ tail ws)) each.0 in

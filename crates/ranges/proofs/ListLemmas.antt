@@ -160,7 +160,7 @@ passed_more text ranges here r (Some remainder) p h = record {
   some = λ here' e. p.some here refl;
 }
 
--- the measure of a loop over the ranges of a text, which each iteration decreases: 0 if no range follows, otherwise one
+-- the measure that each iteration of a loop over the ranges of a text decreases: 0 if no range follows, otherwise one
 -- more than the number of bytes left
 abbrev pub left_of : Option (List ℕ) → ℕ
 left_of None = 0

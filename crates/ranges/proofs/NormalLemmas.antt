@@ -1,4 +1,4 @@
--- The normal form of a set is unique.
+-- A set of numbers has only one normal form as a list of ranges.
 use Rattle.std.proofs.Common.{◌≡◌, ◌∙◌, ◌<◌, ◌≤◌, ◌⊎◌, inl, inr, ℕ, Bool, true, false, List, [], ◌∷◌, ap, sym, refl, subst, arith}
 use Rattle.std.proofs.lemmas.Bool.{cases_lt}
 use Rattle.ranges.specs.declared.range.Range.{Range}

@@ -79,7 +79,8 @@ unmet_more ranges i d low h before n = elim (cases_Bool (is_in_range n (get_or r
 
 -- ---- normal form
 
--- the state of the loop that joins ranges: `done` is finished, `latest` may still grow, and `remainder` is to come
+-- the state of the loop that joins ranges that touch: the ranges in `done` no longer change, the range `latest` may
+-- still grow, and the loop has yet to read the ranges in `remainder`
 pub record Joining (all done : List Range) (latest : Range) (remainder : List Range) : Type 0 where
   pub normal : AreNormal (done ++ latest ∷ [])
   pub ascending : Ascending (latest ∷ remainder)

@@ -11,7 +11,7 @@ use Rattle.ranges.specs.Ranges.{AreNormal, Overlap, ShareNumber, end_of, is_in, 
 use Rattle.ranges.proofs.NormalLemmas.{after}
 use Rattle.ranges.proofs.RangeLemmas.{count_hit, count_miss, end_of_in, met, unmet}
 
--- a number that isn't in the set is in 0 of its ranges, and a number that is in at least one range is in the set
+-- a number that isn't in a set is in none of the set's ranges, and a number in at least one of the ranges is in the set
 count_out : (n : ℕ) (rs : List Range) → is_in rs n ≡ false → count_by (is_in_range n) rs ≡ 0
 count_out n [] h = refl
 count_out n (r ∷ rs) h =
@@ -26,7 +26,7 @@ in_counted n rs h = go (is_in rs n) refl
     go true e = e
     go false e = let c = count_out n rs e in absurd (omega arith)
 
--- in normal form, a number is in at most one range
+-- if ranges are in normal form, a number is in at most one of them
 count_normal : (n : ℕ) (rs : List Range) → AreNormal rs → count_by (is_in_range n) rs ≤ 1
 count_normal n [] h = omega arith
 count_normal n (r ∷ rs) h = go (is_in_range n r) refl (count_normal n rs h.2)

@@ -32,8 +32,8 @@ pub record BeginsLargeDecimal (text : List ℕ) : Type 0 where
   pub large : 2 ^ 64 ≤ digits_value 10 number
   pub spelled : text ≡ number ++ remainder
 
--- The text before the place is the beginning of a list. If a byte follows, the text with that byte isn't the beginning
--- of a list, even if numbers of any size are allowed. If the text ends at the place, it isn't a list.
+-- The text before the place is the beginning of a list. If a byte follows, the text up to and including that byte isn't
+-- the beginning of a list, even if numbers of any size are allowed. If the text ends at the place, it isn't a list.
 pub record IsBadListByte (text : List ℕ) (place : ℕ) : Type 0 where
   pub within : place ≤ length text
   pub before : BeginsList (take place text)

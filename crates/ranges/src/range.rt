@@ -18,7 +18,8 @@ use std::alloc::Global;
 use std::fmt;
 use std::marker::Model;
 
-/// The bound of soup numbers: each is below 2^40. That is enough for any census, and keeps sums of numbers small.
+/// The bound of soup numbers: each is below 2^40. That is enough for any census, and the sum of two soup numbers fits
+/// into a `u64`.
 pub const NUMBER_BOUND: u64 = 1 << 40;
 
 /// The most soup numbers that a haul may have when it is opened, 2^24, so that the haul fits into memory.
@@ -175,8 +176,7 @@ pub fn one_normal_form()
     ensures { OneNormalForm }
 {}
 
-/// Returns how many numbers the ranges have together, or `None` if a range ends past 2^40 or there are more than 2^24
-/// numbers.
+/// Returns the sum of the ranges' counts, or `None` if a range ends past 2^40 or the sum is more than 2^24.
 pub fn small_size(ranges: &[Range]) -> Option<u64>
     ensures small { IfSome result (λ size. (size ≡ size_of ranges.now) × AreSmall ranges.now) }
     ensures large { IfNone result (¬ AreSmall ranges.now) }

@@ -3,7 +3,7 @@
 //!
 //! ```text
 //! 0+4,10+2     the ranges are read one after another: 0+4, then 10+2
-//!     ^        the remainder of the text, once 0+4 is read
+//!     ^        once 0+4 is read, the remainder of the text begins here
 //! ```
 
 ghost use Rattle.std.specs.Prelude.{◌≡◌, ◌≢◌, ◌⊎◌, ◌≤◌, ◌+◌, ◌*◌, ◌^◌, ◌∷◌, [], ℕ, List, false, option_map, IfErr};
@@ -67,8 +67,8 @@ impl Range {
     ///   the leftmost fault.
     /// - [`ListError::Memory`] if memory runs out.
     pub fn read_list(alloc: Global, text: &str) -> Result<Vec<Range>, ListError>
-        // If ranges are read, `text` is the text of their list. If `text` is the text of a list of ranges below 2^64,
-        // these ranges are read, unless memory runs out.
+        // If ranges are read, `text` is the text of their list. If `text` is the text of a list of ranges whose first
+        // numbers and counts are below 2^64, these ranges are read, unless memory runs out.
         ensures fit { IfOk result (λ read. FitU64 read.items) }
         ensures ranges { IfOk result (λ read. list_text read.items ≡ text.now) }
         ensures complete { (ranges : List Numbers) → FitU64 ranges → list_text ranges ≡ text.now
@@ -132,9 +132,9 @@ fn unless_empty(text: &[u8]) -> Option<&[u8]>
     if text.is_empty() { None } else { Some(text) }
 }
 
-/// Returns the range at the beginning of a text, and the text after the comma that follows it, if there is one. If
-/// there is no range, or if something other than the end or a comma follows it, the error is the text from the fault
-/// on.
+/// Returns the range at the beginning of a text and, if a comma follows the range, the text after the comma. If there
+/// is no range, or if something other than a comma or the end of the text follows it, the error is the text from the
+/// fault on.
 fn next_range(text: &[u8]) -> Result<(Range, Option<&[u8]>), &[u8]>
     ensures ok { IfOk result (λ next. Passes text.now next.0 (option_map (λ remainder. remainder.now) next.1)) }
     ensures err { IfErr result (λ remainder. IsNoRange text.now remainder.now ⊎ LacksComma text.now remainder.now) }

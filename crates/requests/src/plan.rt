@@ -17,7 +17,7 @@ pub struct Plan<'a> {
     pub rule: Text<'a>,
 }
 
-/// The soups of a seed whose numbers are in a range, or in one of the ranges of a list.
+/// Soups of a seed: those whose number is in a range, or in one of the ranges of a list.
 ///
 /// The texts haven't been parsed yet.
 #[derive(Drop)]

@@ -6,7 +6,7 @@
 //!
 //! ```text
 //! generation     0       101            202      303
-//! is kept        list    board          board    board
+//! kept as        list    board          board    board
 //! board shows            100, 1 ahead   202      302, 1 ahead
 //! ```
 //!
@@ -126,7 +126,8 @@ impl Evolution {
     }
 }
 
-/// Advances a pattern that is a list by `generations`, on the spare board if that board has room for the pattern.
+/// Advances a pattern by `generations`. The pattern is given as a list, and is laid on the spare board if that board
+/// has room for it.
 fn from_list(
     alloc: Global,
     rule: &Rule,

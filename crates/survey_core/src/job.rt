@@ -6,7 +6,7 @@ use crate::profile::Profile;
 use crate::seed::Seed;
 use plane_core::plane::rule::Rule;
 
-/// What a census counts: the soups of a seed, run under a rule, with a profile that says when they have settled.
+/// What a census surveys: the soups of a seed, run under a rule, with a profile that says when they have settled.
 #[derive(Clone, Copy, Debug, PartialEq, Eq)]
 pub struct Job {
     pub seed: Seed,

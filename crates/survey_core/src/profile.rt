@@ -1,4 +1,4 @@
-//! When a pattern counts as settled: four numbers of generations.
+//! Profiles: four numbers of generations that decide when a pattern counts as settled.
 ghost use Rattle.std.specs.Prelude.{◌≡◌};
 ghost use Rattle.survey_core.specs.Profiles.{IsProfile, is_from_to, profile_of, standard};
 
@@ -37,7 +37,7 @@ impl fmt::Debug for ProfileError {
     }
 }
 
-/// When a pattern counts as settled, in four numbers of generations.
+/// Four numbers of generations that decide when a pattern counts as settled.
 ///
 /// The checkpoints of a pattern are the generations 0, `stride`, twice `stride` and so on, up to `limit`. The pattern
 /// settles at the first checkpoint at which each of its clusters recurs within `period` generations, and no cluster

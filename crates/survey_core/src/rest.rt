@@ -1,6 +1,6 @@
-//! A pattern is at rest if each of its clusters recurs, and if the clusters, each run alone, are the whole pattern in
-//! every generation up to the horizon. Two blinkers with two empty rows between them show why the second condition is
-//! needed:
+//! A pattern is at rest if each of its clusters recurs, and if the clusters, each run alone, together are the whole
+//! pattern in every generation up to the horizon. Two blinkers with two empty rows between them show why the second
+//! condition is needed:
 //!
 //! ```text
 //! generation 0    generation 1    generation 2,    generation 2,
@@ -14,12 +14,13 @@
 //! ```
 //!
 //! At nearly all checkpoints the pattern isn't at rest, mostly because some cluster doesn't recur. So the first test is
-//! whether each cluster recurs, and it gives the envelope of each cluster. The envelopes show which clusters may come
-//! near each other. These clusters form a group, and each group is run by itself. The clusters of a group are advanced
-//! one generation at a time: until one influences another, until all of them are the same as at the start, so that
-//! nothing new can follow, or until the horizon. For a cluster that is the same as at the start, the next generation is
-//! known. While the clusters of a group are more than two cells apart, they evolve together as they do alone. If they
-//! are closer, the whole group is advanced too, and compared with the union of its clusters.
+//! whether each cluster recurs. This test also gives each cluster's envelope, a box around all its phases. The
+//! envelopes show which clusters may come near each other. These clusters form a group, and each group is run by
+//! itself. The clusters of a group are advanced one generation at a time: until one influences another, until all of
+//! them are the same as at the start, so that nothing new can follow, or until the horizon. For a cluster that is the
+//! same as at the start, the next generation is known. While the clusters of a group are more than two cells apart,
+//! they evolve together as they do alone. If they are closer, the whole group is advanced too, and compared with the
+//! union of its clusters.
 
 ghost use Rattle.std.specs.Prelude.{◌≡◌, ◌<◌, ◌≤◌, ◌↔◌, ℕ, All, IfNone, IfOk, IfSome, IsTrue, length, map};
 ghost use Rattle.std.specs.Prelude.{◌==◌, OnOk, filter, true};

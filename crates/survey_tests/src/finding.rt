@@ -23,7 +23,7 @@ fn drawn(alloc: Global, picture: &str) -> Result<Pattern, PlaintextError>
     Ok(pattern)
 }
 
-/// Returns a profile with this period and horizon whose only checkpoint is generation 0.
+/// Returns a profile with this period and this horizon. Its only checkpoint is generation 0.
 fn at_once(period: u32, horizon: u32) -> Result<Profile, Fail> {
     Ok(Profile::new(period, horizon, 1, 0)?)
 }
@@ -49,7 +49,7 @@ fn rests(alloc: Global, picture: &str, profile: Profile, good: bool) -> Result<b
 
 const GLIDER: &str = ".O.\n..O\nOOO";
 
-// A spaceship leaves its place, and an oscillator doesn't.
+// The empty pattern and a blinker stay for good. A glider doesn't, since it leaves its place.
 #[test]
 fn tells_what_stays_for_good(rt: HostRuntime) -> Result<(), Fail> {
     let profile = Profile::standard();
@@ -122,7 +122,7 @@ fn of_soup(alloc: Global, profile: Profile, number: u64) -> Result<Finding, Fail
     Ok(survey(alloc, &job, number)?)
 }
 
-// The findings were computed by a program in another language, which was written only from the definitions.
+// The expected findings are from a program in another language. That program was written only from the definitions.
 #[test]
 fn surveys_soups(rt: HostRuntime) -> Result<(), Fail> {
     let profile = Profile::standard();

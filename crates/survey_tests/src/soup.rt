@@ -1,4 +1,4 @@
-//! Tests that known digests give the right soups, and that a seed is formatted as the text that it was parsed from.
+//! Tests of the soups of three digests, and a test that a seed is formatted as the text from which it was parsed.
 use plane_core::plane::pattern::Pattern;
 use std::test::Fail;
 use survey_core::seed::Seed;

@@ -141,7 +141,7 @@ fn cheap_job(seed: Seed) -> Option<Job> {
     })
 }
 
-/// Returns the reports of worker 1 on the soups from `from` to below `to`.
+/// Returns the reports of worker 1 on the soups `from` to `to` - 1.
 fn reports(alloc: Global, job: &Job, from: u32, to: u32) -> Result<Vec<Report>, OutOfMemory> {
     let mut reports = Vec::new(alloc);
     for number in from..to {
@@ -201,7 +201,7 @@ fn offer_reports(rt: &HostRuntime, job: Job, count: u32) -> io::Result<()> {
     println!(rt; "{} {}", haul.taken().len(), taken.as_micros())
 }
 
-/// Does what `timing offers` does if `offered`, and otherwise what `timing reports` does, with N = `count`.
+/// Runs the command `timing offers` if `offered`, and otherwise `timing reports`. N is `count`.
 fn time_reports(rt: &HostRuntime, offered: bool, count: u32) -> io::Result<()> {
     let job = Seed::new("").ok().and_then(cheap_job);
     match job {

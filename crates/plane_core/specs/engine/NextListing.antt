@@ -1,5 +1,5 @@
--- How the next generation of a board is made in windows, and its cells are listed. Column u and row v of a board count
--- from its first column and row.
+-- How the next generation of a board is made in windows, and how its live cells are listed. Column u and row v of a
+-- board count from its first column and row.
 use Rattle.std.specs.Prelude.{◌≡◌, ◌==◌, ◌+◌, ◌/◌, ◌<◌, ◌≤◌, ℕ, ◌+ℤ◌, ◌<ℤ◌, pos, All, Any, List, slice_index, true}
 use Rattle.std.specs.Int.{bit_at}
 use Rattle.plane_core.specs.declared.engine.frame.Frame.{Frame}

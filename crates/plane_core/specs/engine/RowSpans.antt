@@ -34,12 +34,12 @@ HoldCovered at spans places = (s r i : ℕ) → s < at.word_columns → r < at.r
 abbrev pub AreWidened : List RowSpan → List RowSpan → Type 0
 AreWidened old new = (s r : ℕ) → IsInSpan old s r → IsInSpan new s r
 
--- the spans of a board that shows these cells: one for each word column, with the rows of all its live cells
+-- the spans of a board that shows these cells: one for each word column, with every row in which it has a live cell
 pub record AreSpans (at : Frame) (cells : List Cell) (spans : List RowSpan) : Type 0 where
   pub word_columns : length spans ≡ at.word_columns
   pub live : LieInSpans at spans cells
 
--- only word columns in this range have rows in their spans
+-- only the word columns in the range `word_columns` have rows in their spans
 abbrev pub LieInWordColumns : Frame → List RowSpan → RowSpan → Type 0
 LieInWordColumns at spans word_columns = (s r : ℕ) → s < at.word_columns → IsInSpan spans s r → HasRow word_columns s
 

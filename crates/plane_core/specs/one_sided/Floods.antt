@@ -15,7 +15,7 @@ pub record AreNear (reach a b : ℕ) : Type 0 where
 abbrev pub AreLinked : ℤ → ℤ → Cell → List Cell → List ℕ → Type 0
 AreLinked left top start cells flood = (r i : ℕ) → bit_in flood r i ≡ 1 → Linked cells start (cell_at (left +ℤ pos i) (top +ℤ pos r))
 
--- the flood has grown: it keeps its bits, and if all old bits were linked to a start, all new bits are
+-- the flood has grown: it keeps its bits, and if all old bits are linked to a start cell, all new bits are linked to it
 pub record HasGrown (rows old new : List ℕ) : Type 0 where
   pub kept : (r i : ℕ) → bit_in old r i ≡ 1 → bit_in new r i ≡ 1
   pub linked : (cells : List Cell) (start : Cell) (left top : ℤ) → ShowsInRows left top rows cells → AreLinked left top start cells old

@@ -24,7 +24,7 @@ pub record IsRule (rule : Numbers) : Type 0 where
   pub births : length rule.births ≡ 8
   pub survivals : length rule.survivals ≡ 9
 
--- the numbers for which the table answers true, ascending, as digits (`0` is byte 48); its first answer is for n
+-- the numbers for which the table answers true, ascending, as digits (`0` is byte 48); the first answer is for n
 unfoldable pub digits : ℕ → List Bool → List ℕ
 digits n [] = []
 digits n (true ∷ more) = (48 + n) ∷ digits (n + 1) more

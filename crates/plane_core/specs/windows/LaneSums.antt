@@ -1,4 +1,4 @@
--- Vectors of four words, one in each lane, and sums of live cells, whose binary digits are such vectors.
+-- Vectors of four words, one in each lane, and sums of live cells, with a vector for each binary digit.
 use Rattle.std.specs.Prelude.{◌≡◌, ◌==◌, ◌+◌, ◌*◌, ◌<◌, ℕ, List, slice_index}
 use Rattle.std.specs.Int.{bit_at}
 use Rattle.plane_core.specs.declared.windows.lane_sums.RowSums.{RowSums}
@@ -20,7 +20,7 @@ sum_of s j i = bit_of s.ones j i + 2 * bit_of s.twos j i
 abbrev pub total_of : Total → ℕ → ℕ → ℕ
 total_of t j i = bit_of t.ones j i + 2 * bit_of t.twos j i + 4 * bit_of t.fours j i + 8 * bit_of t.eights j i
 
--- the number of live cells in columns i - 1, i and i + 1 of a row, which is one word
+-- the number of live cells in columns i - 1, i and i + 1 of a row that consists of one word
 abbrev pub row_sum : ℕ → ℕ → ℕ
 row_sum word i = west_of 0 word i + bit_at word i + east_of word 0 i
 

@@ -36,8 +36,8 @@ IsNextRow rule above here below next =
 abbrev pub IsNextWindow : Numbers → ℕ → List (List ℕ) → List (List ℕ) → Type 0
 IsNextWindow rule n x y = (r : ℕ) → r < 4 * n → IsNextRow rule (row_above n x r) (row_at n x r) (row_below n x r) (row_at n y r)
 
--- Vector k of a window was advanced by one generation, using the sums of the rows above, here and below. The sums below
--- are those of the next vector.
+-- Vector k of a window was advanced by one generation, using the sums of its own rows (`here`), of the rows above them
+-- (`up`) and of the rows below them (`below`). The rows below are those of vector k + 1.
 pub record IsVectorMade (rule : Numbers) (k : ℕ) (up : Sum) (here below : RowSums) (old new : List (List ℕ)) : Type 0 where
   pub next : List ℕ
   pub is : new ≡ set old k next

@@ -12,10 +12,10 @@
 //! is a cluster.
 //!
 //! The earlier cells near a cell are in its own row or in the two rows above. The places of the two rows above are
-//! found once for each row, so that only columns are compared. If a cell in the rows above is too far to the left, it
-//! is skipped for the rest of the row. In its own row, a cell is joined with the cell just before it, if the two are
-//! near. The cell before has already been joined with each earlier cell that is near both. So in the rows above, there
-//! is usually at most one cell left to join.
+//! found once for each row, so that only columns are compared. If a cell in the rows above is too far to the left of
+//! one cell, it is also too far from the later cells of the row, so it is skipped from then on. In its own row, a cell
+//! is joined with the cell just before it, if the two are near. The cell before has already been joined with each
+//! earlier cell that is near both. So in the rows above, there is usually at most one cell left to join.
 ghost use Rattle.std.specs.Prelude.{◌≡◌, ◌≢◌, ◌+◌, ◌<◌, ◌<ℤ◌, ◌≤◌, ◌≤ℤ◌, ◌-◌, ℕ, ℤ, true, IfOk, List, length, nat_le};
 ghost use Rattle.std.specs.declared.cmp.Ordering.TheVariants.{Less};
 ghost use Rattle.plane_core.specs.plane.Cells.{IsPattern, cell_cmp, king_distance, on_plane};
@@ -30,7 +30,8 @@ use crate::plane::coordinate::{along, apart};
 use memory::OutOfMemory;
 use std::alloc::Global;
 
-/// Places from `from` to before `end`, whose cells are in one row. Earlier cells of the row are too far to the left.
+/// Places from `from` to before `end`, whose cells are in one row. Earlier cells of the row are too far to the left to
+/// be joined.
 #[derive(Clone, Copy)]
 struct RowPlaces {
     from: usize,
@@ -192,8 +193,8 @@ fn join_before(cells: &[Cell], parents: &mut [usize], place: usize) -> i32
 }
 
 /// Joins `place` with the places of `row` whose cells are in the columns from `from` to `to`, both included, and not to
-/// the left of column `fresh`. `from` and `to` are in that row, and all cells between them are near. Returns the first
-/// place of the row whose cell isn't to the left of `from`, or `row.end` if there is none.
+/// the left of column `fresh`. `from` and `to` are in that row, and all cells between them are near the cell at
+/// `place`. Returns the first place of the row whose cell isn't to the left of `from`, or `row.end` if there is none.
 #[inline(always)]
 fn join_row(
     cells: &[Cell],

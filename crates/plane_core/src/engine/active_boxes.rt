@@ -40,8 +40,8 @@ pub(crate) fn put_in_boxes(cells: &[Cell], boxes: &mut Vec<Bounds>) -> Result<()
 }
 
 /// Puts a part of a pattern, which is given by its bounds, into a box. The last sixteen boxes are tried, beginning with
-/// the last. As soon as a box is near the part, it is widened so that it contains the part. If no box is near, the part
-/// becomes a new box. If memory runs out, the boxes contain at least what they contained before.
+/// the last. The first one that is found near the part is widened so that it contains the part. If no box is near, the
+/// part becomes a new box. If memory runs out, the boxes contain at least what they contained before.
 pub(crate) fn put_in_box(part: Bounds, boxes: &mut Vec<Bounds>) -> Result<(), OutOfMemory>
     ensures wider { AreWider boxes.old.items boxes.new.items }
     ensures held { OnOk result ((c : Cell) → IsWithin part c → IsInOne boxes.new.items c) }

@@ -119,8 +119,8 @@ fn absorbed(rectangles: &mut Vec<Bounds>, rectangle: Bounds, slack: u64) -> Boun
 }
 
 /// Returns how much more a union may cost than its two rectangles, in rows. The result grows with the number of boxes.
-/// If there are many boxes, the pattern is dense, and rectangles that overlap without being united would grow into each
-/// other from leap to leap, so that more and more windows run the same cells.
+/// If there are many boxes, the pattern is dense. Rectangles that overlap without being united would then grow into
+/// each other from leap to leap, and more and more windows would run the same cells.
 fn slack(boxes: usize) -> u64 {
     (boxes as u64 / 8).saturating_mul(4).min(MOST_SLACK)
 }
@@ -142,8 +142,8 @@ fn pays(one: Bounds, other: Bounds, slack: u64) -> bool {
 }
 
 /// Returns the approximate cost, in rows, of running the windows that cover the rectangle. A window has about 12 rows
-/// more than it covers, and each window costs as much as 8 more rows. No branch depends on the rectangle. The product
-/// is far below 2^64, so it doesn't wrap around.
+/// more than it covers, and a fixed cost that equals the cost of 8 rows. No branch depends on the rectangle. The
+/// product is far below 2^64, so it doesn't wrap around.
 #[inline(always)]
 fn cost_of(rectangle: Bounds) -> u64 {
     let across = rectangle.left.abs_diff(rectangle.right) / INNER_COLUMNS + 1;

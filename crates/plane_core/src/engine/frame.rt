@@ -34,8 +34,8 @@ pub(crate) struct Frame {
     pub(crate) rows: usize,
 }
 
-/// The margin of a board: the number of columns and rows on each side of the cells that the board's pattern may reach.
-/// Windows extend at most 36 columns or rows past these cells.
+/// The number of columns and rows that a board has on each side, beyond the cells that its pattern may reach. Windows
+/// extend at most 36 columns or rows beyond these cells.
 const BOARD_MARGIN: u32 = 40;
 
 /// The fewest columns and rows on each side of a pattern that is shown in the middle of a board.

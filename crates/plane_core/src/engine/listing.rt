@@ -1,9 +1,9 @@
 //! Lists the cells of a board in order: row by row, and each row from the left.
 //!
-//! The rows are read in bands of eight. Bands above all spans, or below all spans, are skipped. Most word columns have
-//! no live cell in a band. Then either the word column's span doesn't reach the band, or one test shows that the eight
-//! words are 0. In each band, the word columns from the first to the last one with a live cell are read. They are in
-//! brackets here:
+//! The rows are read in bands of eight. Each word column has a span: the rows that may have a live cell. Bands above
+//! all spans, or below all spans, are skipped. Most word columns have no live cell in a band. Then either the span
+//! doesn't reach the band, or one test shows that the eight words are 0. In each band, the word columns from the first
+//! to the last one with a live cell are read. They are in brackets here:
 //!
 //! ```text
 //! word column   0     1     2     3     4

@@ -35,7 +35,7 @@ use std::simd::u64x4;
 /// The largest distance from the origin that a side of a pattern's box may have: far from the edge of the plane.
 const INLAND: u32 = 900_000;
 
-/// The number of cells for which there is room from the start when a pattern is listed.
+/// The number of cells for which the list of a window's pattern has room from the start.
 const ROOM: usize = 20;
 
 /// The first column and row of a window.

@@ -1,4 +1,5 @@
-//! A one-sided test that a cluster, run alone, gets a live cell that the whole pattern doesn't have in that generation:
+//! A one-sided test that a cluster diverges: in some generation, the cluster, run alone, has a live cell that the whole
+//! pattern doesn't have:
 //!
 //! ```text
 //! the whole            in generation 3      a cluster alone,

@@ -1,4 +1,5 @@
-//! Rejects a checkpoint of a board early: a pattern at rest has no cluster that diverges from it or never recurs.
+//! Shows early, without examining all clusters, that the pattern of a board isn't at rest. It is enough that one
+//! cluster diverges from the pattern or never recurs.
 //!
 //! Active boxes are tried one after another, and in the view of each, one cluster is tested:
 //!

@@ -1,4 +1,4 @@
-//! Grows a cluster of a window of 64 rows from one of its cells:
+//! Grows a cluster from one of its cells, in a window of 64 rows:
 //!
 //! ```text
 //! . O . . O      . O . . O      . 2 . . O     S is the start. Cells within 2 of it are found next, then cells within 2

@@ -1,5 +1,5 @@
-//! One-sided tests on a small pattern, which is run alone in windows of at most 64 by 64 cells. A few operations per
-//! vector show that the pattern never recurs, or that it isn't at rest. `true` is a proof, and `false` says nothing.
+//! One-sided tests that a small pattern never recurs, or that it isn't at rest. The pattern is run alone in windows of
+//! at most 64 by 64 cells, so a test takes little time. `true` is a proof, and `false` says nothing.
 ghost use Rattle.std.specs.Prelude.{◌≡◌, ◌≤◌, ℕ, IsTrue, false};
 ghost use Rattle.plane_core.specs.plane.Generations.{NeverRecurs, after, touches_edge};
 ghost use Rattle.plane_core.specs.one_sided.RestlessClusters.{HasRestlessCluster};

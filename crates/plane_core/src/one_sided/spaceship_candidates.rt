@@ -76,7 +76,7 @@ impl Board {
 }
 
 /// Checks whether the box is ahead of all others in some diagonal direction. If it isn't, no cluster in the box can be
-/// ahead of the rest of the pattern before the clusters ahead of the box have been removed.
+/// ahead of the rest of the pattern until other clusters have been removed.
 fn leads_somewhere(boxes: &[Bounds], bounds: Bounds) -> bool {
     let mut right_down = true;
     let mut right_up = true;
@@ -104,7 +104,7 @@ fn leads_somewhere(boxes: &[Bounds], bounds: Bounds) -> bool {
     true
 }
 
-/// Grows clusters from the cells of a view that change, and appends the small clusters that aren't in the list yet. A
+/// Grows clusters from the changing cells of a view, and appends the small clusters that aren't in the list yet. A
 /// cluster may be in the list already, because two boxes may be near each other. The cells of each cluster that is
 /// grown are removed from `changing`.
 fn add_grown(

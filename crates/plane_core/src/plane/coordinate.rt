@@ -1,5 +1,5 @@
-//! The arithmetic of coordinates. Each call limits the size of its arguments, so that nothing overflows. A coordinate
-//! is within the bound if its absolute value is at most 1,000,000.
+//! The arithmetic of coordinates. Each function limits the size of its arguments, so that nothing overflows. A
+//! coordinate is within the bound if its absolute value is at most 1,000,000.
 ghost use Rattle.std.specs.Prelude.{◌≡◌, ◌+◌, ◌≤◌, ◌+ℤ◌, ◌-ℤ◌, neg_ℤ, pos};
 ghost use Rattle.std.specs.Prelude.{unsigned_abs};
 ghost use Rattle.plane_core.specs.plane.Cells.{distance, plane_bound};
@@ -14,8 +14,8 @@ pub fn stepped(at: i32, step: i32) -> i32
     at + step
 }
 
-/// Returns the coordinate `cells` cells to the right of `from`, or below it. `from` is within the bound, and `cells` is
-/// at most [`BOUND`]. The result may be past the bound.
+/// Returns the coordinate that is `cells` cells to the right of `from`, or below it. `from` is within the bound, and
+/// `cells` is at most [`BOUND`]. The result may be past the bound.
 pub fn along(from: i32, cells: u32) -> i32
     requires from { unsigned_abs from ≤ plane_bound }
     requires cells { cells ≤ plane_bound }
@@ -24,8 +24,8 @@ pub fn along(from: i32, cells: u32) -> i32
     from + cells as i32
 }
 
-/// Returns the coordinate `cells` cells to the left of `from`, or above it. `from` is within the bound, and `cells` is
-/// at most [`BOUND`]. The result may be past the bound.
+/// Returns the coordinate that is `cells` cells to the left of `from`, or above it. `from` is within the bound, and
+/// `cells` is at most [`BOUND`]. The result may be past the bound.
 pub(crate) fn back(from: i32, cells: u32) -> i32
     requires from { unsigned_abs from ≤ plane_bound }
     requires cells { cells ≤ plane_bound }

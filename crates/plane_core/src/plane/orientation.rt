@@ -92,8 +92,8 @@ impl Orientation {
 /// The laws of the eight orientations: they are the symmetry group of the square.
 ///
 /// Their product is associative, `Same` is its identity, and each orientation has an inverse. Different orientations
-/// are different maps. Turning a pattern by one orientation and then by another is turning it by their product. The
-/// image of a pattern doesn't depend on where the pattern is.
+/// are different maps. Turning a pattern by one orientation and then by another gives the same image as turning it by
+/// their product. The image of a pattern doesn't depend on where the pattern is.
 pub fn square_group()
     ensures associative { ProductAssociates }
     ensures identity { SameIsIdentity }

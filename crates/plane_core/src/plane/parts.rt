@@ -1,7 +1,7 @@
-//! Cuts a pattern into two parts, each of which can be run by itself. The parts are so far apart that they don't meet
-//! in the generations of the run.
+//! Finds where a pattern can be cut into two parts, each of which can be run by itself. The parts are so far apart that
+//! they don't meet in the generations of the run.
 //!
-//! Cells are listed row by row, so a cut between two rows is a place in the list, where a cell is far enough below the
+//! Cells are listed row by row, so a cut between two rows is a place in the list where a cell is far enough below the
 //! cell before it. If there is no such place, columns and rows are exchanged, and the pattern is cut between two of its
 //! columns. Each part is cut again. So a spaceship that is far from the rest of a pattern is run by itself.
 ghost use Rattle.std.specs.Prelude.{◌<◌, IfSome, OnSome};

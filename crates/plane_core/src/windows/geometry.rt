@@ -1,4 +1,4 @@
-//! The geometry of windows.
+//! The sizes of a window, which is a piece of the plane, and of its margin:
 //!
 //! ```text
 //! column 0   4                    60  64
@@ -18,18 +18,18 @@ pub(crate) const COLUMNS: usize = 64;
 /// outside of the window is taken for dead.
 pub(crate) const MARGIN: usize = 4;
 
-/// The number of columns of a window that are right after four generations.
+/// The number of columns of a window that are surely correct after four generations.
 pub(crate) const INNER_COLUMNS: usize = COLUMNS - 2 * MARGIN;
 
 /// The mask of the inner columns: a 1 for each of columns 4 to 59.
 pub(crate) const INNER_COLUMN_MASK: u64 = 0x0fff_ffff_ffff_fff0;
 
-/// The smallest number of rows of the windows in which leaps are run.
+/// The smallest number of rows of a window in which a leap (up to four generations) is run.
 pub(crate) const LEAST_ROWS: usize = 20;
 
-/// The largest number of rows of the windows in which leaps are run. Larger windows would lead to larger active boxes,
-/// of which a larger part would be at rest.
+/// The largest number of rows of a window in which a leap is run. After a leap, each window in which something still
+/// changes has one active box. In a larger window, a larger part of this box would be at rest.
 pub(crate) const MOST_ROWS: usize = 56;
 
-/// The largest number of rows that are right after four generations, in a window in which leaps are run.
+/// The number of rows that are surely correct after four generations, in the largest window in which a leap is run.
 pub(crate) const MOST_INNER_ROWS: usize = MOST_ROWS - 2 * MARGIN;

@@ -1,4 +1,4 @@
-//! Sums over four words at once: a vector has a word in each of its four lanes.
+//! Sums of live cells, computed for all bits of four words at once: a vector has a word in each of its four lanes.
 //!
 //! The cells are added in binary, and each binary digit of the sums is a vector, so that one operation works on 256
 //! cells:
@@ -38,7 +38,7 @@ pub(crate) struct Total {
     pub(crate) eights: u64x4,
 }
 
-/// Returns the sum of three bits, for each bit of four words.
+/// Adds three vectors bit by bit: each sum is the number of 1s at one place of `a`, `b` and `c`.
 #[inline(always)]
 #[tactic(auto, using(crate::proofs::lemmas::windows::LaneLemmas::lane_adder))]
 pub(crate) fn added(a: u64x4, b: u64x4, c: u64x4) -> Sum

@@ -99,7 +99,7 @@ pub(crate) fn packed<const R: usize, const N: usize>(rows: &[u64; R]) -> [u64x4;
     window
 }
 
-/// Stores the rows of four vectors of a window, from vector `k` on, at their places in `rows`.
+/// Stores the rows of the vectors `k` to `k` + 3 of a window at their places in `rows`.
 #[inline(always)]
 fn unpack_four<const N: usize>(window: &[u64x4; N], rows: &mut [u64], k: usize)
     requires vectors { k + 4 ≤ N }

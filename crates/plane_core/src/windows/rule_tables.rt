@@ -1,5 +1,5 @@
-//! A rule as operations on words: which cells are alive next, depending on the number of live cells in their
-//! neighbourhoods.
+//! A rule as operations on words, which compute the cells that are alive next. The total of a cell is the number of
+//! live cells in its neighbourhood, including the cell itself.
 //!
 //! For each total from 0 to 9, words of equal bits give the answers (whether a cell is alive next) for dead and live
 //! cells. The binary digits of the total choose between these answers. So no branch depends on a cell or on the rule:
@@ -45,15 +45,15 @@ impl CellLogic for Life {
 
     #[inline(always)]
     fn next_cells(&self, up: Sum, here: RowSums, down: Sum, now: u64x4) -> u64x4 {
-        // A cell is alive next if it has three live neighbours, or if it is alive and has two. The number of live
-        // neighbours is two or three if and only if exactly one of the four digits that count as 2 is 1.
+        // A cell is alive next if it has three live neighbours, or if it is alive and has two. Four binary digits
+        // have the weight 2. The number of live neighbours is two or three exactly if just one of these digits is 1.
         let low = added(up.ones, down.ones, here.beside.ones);
         only_one(up.twos, down.twos, here.beside.twos, low.twos) & (low.ones | now)
     }
 }
 
-/// The answers of any rule, as words of equal bits: for each total from 0 to 9, the answer for a dead cell, and whether
-/// the answer for a live cell differs.
+/// The answers of a rule, as words of equal bits. For each total (the number of live cells in a neighbourhood, 0 to 9),
+/// there is the answer for a dead cell, and whether the answer for a live cell differs.
 #[derive(Clone, Copy)]
 pub(crate) struct RuleTables {
     rule: Rule,
@@ -83,7 +83,7 @@ impl RuleTables {
         }
     }
 
-    /// Returns which cells are alive next if the total is `n`.
+    /// Returns which cells are alive next if the total of each is `n`.
     #[inline(always)]
     fn at_one(&self, n: usize, now: u64x4) -> u64x4
         requires { n ≤ 9 }
@@ -93,7 +93,7 @@ impl RuleTables {
         u64x4::splat(self.dead[n]) ^ (u64x4::splat(self.change[n]) & now)
     }
 
-    /// Returns which cells are alive next if the total is `n`, plus 1 where `ones` has a 1.
+    /// Returns which cells are alive next. The total of a cell is `n`, plus 1 if its bit of `ones` is 1.
     #[inline(always)]
     fn at_two(&self, n: usize, ones: u64x4, now: u64x4) -> u64x4
         requires { n ≤ 8 }
@@ -103,8 +103,8 @@ impl RuleTables {
         choice(ones, self.at_one(n + 1, now), self.at_one(n, now))
     }
 
-    /// Returns which cells are alive next if the total is `n`, plus 1 where `ones` has a 1, and plus 2 where `twos` has
-    /// a 1.
+    /// Returns which cells are alive next. The total of a cell is `n`, plus 1 if its bit of `ones` is 1, and plus 2 if
+    /// its bit of `twos` is 1.
     #[inline(always)]
     fn at_four(&self, n: usize, ones: u64x4, twos: u64x4, now: u64x4) -> u64x4
         requires { n ≤ 6 }

@@ -13,7 +13,7 @@
 //! ```
 //!
 //! Everything around the window is taken for dead. So cells of the window may become wrong, and with each generation,
-//! such cells reach one cell further inside.
+//! wrong cells reach one cell further inside.
 ghost use Rattle.std.specs.Prelude.{◌≡◌, ◌+◌, ◌<◌, [], slice_index_or};
 ghost use Rattle.plane_core.specs.windows.LaneSums.{AreBeside};
 ghost use Rattle.plane_core.specs.windows.RuleLogic.{rule_of};

@@ -2,9 +2,9 @@
 //! with a live cell, and whether the rim is clear. Two windows can also be compared.
 //!
 //! ```text
-//! . . . . . . .     row 1, the first with a live cell
-//! . . O O . . .
-//! . . . O . . .     columns 2 and 3
+//! . . . . . . .
+//! . . O O . . .     row 1 is the first with a live cell
+//! . . . O . . .     columns 2 and 3 have live cells
 //! . . . . . . .     the rim is clear
 //! ```
 ghost use Rattle.std.specs.Prelude.{◌≡◌, ◌*◌, ◌<◌, ◌≤◌, ℕ, IfSome, IsTrue, max};
@@ -89,7 +89,7 @@ pub(crate) fn are_alike<const N: usize>(one: &[u64x4; N], other: &[u64x4; N]) ->
     in_any_lane(differ) == 0
 }
 
-/// Returns `marks` with a 1 added wherever `a` and `b` differ.
+/// Returns `marks`, in which each bit is set to 1 where `a` and `b` differ.
 #[inline(always)]
 fn marked(marks: u64x4, a: u64x4, b: u64x4) -> u64x4
     ensures before { (j i : ℕ) → j < 4 → bit_of result j i ≡ 0 → bit_of marks j i ≡ 0 }

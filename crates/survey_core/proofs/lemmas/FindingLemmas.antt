@@ -1,4 +1,4 @@
--- From one checkpoint to the next, and the finding of a pattern.
+-- Which generations are checkpoints, and how the checkpoints at which a pattern is at rest determine its finding.
 use Rattle.std.proofs.Common.{◌≡◌, ◌∙◌, ap, sym, subst, subst₂, inl, inr, ◌⊎◌, ℕ, zero, suc, ◌+◌, ◌-◌, ◌*◌, ◌<◌, ◌≤◌, add-zero, add-one, eq-or-lt_of_le}
 use Rattle.std.proofs.Common.{List, arith}
 use Rattle.std.proofs.Math.Nat.{lt_of_mul-lt-mul_right, mul-lt-mul_of_pos_right, suc-mul, zero-mul}

@@ -45,7 +45,8 @@ pub live_cells_dead : (digest : List ℕ) (n : ℕ) → is_alive_at digest n ≡
 live_cells_dead digest n dead =
     one_more digest n ∙ ap (λ (b : Bool). live_in_square digest n ++ map square_cell (cond b (n ∷ []) [])) dead ∙ append-nil (live_in_square digest n)
 
--- the cell of one more place is stored after the live cells so far, and counted if it is alive
+-- storing the cell at place n after the live cells at the first n places, and counting it if it is alive, gives the
+-- live cells at the first n + 1 places
 pub one_more_place : (digest : List ℕ) (n count added : ℕ) (cells : List Cell) (cell : Cell) (alive : Bool) → count < length cells
     → alive ≡ is_alive_at digest n → (alive ≡ true → added ≡ 1) → (alive ≡ false → added ≡ 0) → cell ≡ square_cell n
     → take count cells ≡ live_in_square digest n → (added ≤ 1) × (take (count + added) (set cells count cell) ≡ live_in_square digest (n + 1))

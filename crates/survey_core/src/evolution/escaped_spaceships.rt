@@ -2,14 +2,16 @@
 //!
 //! ```text
 //! O O . . . . . . .     The depth of a cell is the sum of its column and its row. In two generations, the greatest
-//! . O O . . . . . .     depth of the rest grows by at most 1, and that of a glider grows by 1: in four generations,
-//! . . . . . O . . .     it moves one cell right and one cell down. So a glider whose bounding box begins seven deeper
-//! . . . . . . O . .     than the deepest cell of the rest is never caught. The same holds in the three other diagonal
-//! . . . . O O O . .     directions.
+//! . O O . . . . . .     depth of the rest grows by at most 1. On average, the depth of a glider grows by 1 in two
+//! . . . . . . . . .     generations, since in four generations the glider moves one cell right and one cell down.
+//! . . . . . . . . .     If the glider's bounding box begins at least seven deeper than the deepest cell of the rest,
+//! . . . . . . . O .     as here (depths 10 and 3), the rest never catches the glider. The same holds in the three
+//! . . . . . . . . O     other diagonal directions.
+//! . . . . . . O O O
 //! ```
 //!
-//! A spaceship is kept as it was when it was removed, with the time of the removal. For a later time, it is displaced
-//! by the same vector for each whole period, and run for the remaining generations.
+//! A spaceship is kept as it was when it was removed, with the time of the removal. For a later time, its cells are
+//! moved by its displacement once for each whole period, and run for the remaining generations.
 
 ghost use Rattle.std.specs.Prelude.{◌≡◌, ◌≢◌, ◌+◌, ◌≤◌, ◌^◌, [], IfOk, IfSome, IsTrue, true, unsigned_abs};
 ghost use Rattle.std.specs.Prelude.{◌+ℤ◌, ◌*ℤ◌, ◌≤ℤ◌, pos};
@@ -39,8 +41,8 @@ use plane_core::plane::rule::Rule;
 use plane_core::plane::transform::PlaceError;
 use std::alloc::Global;
 
-/// A part of a board whose shape the memo doesn't know is skipped if a test shows that the part doesn't recur within
-/// this many generations. Nearly all spaceships that soups of Life leave recur within four generations.
+/// If the memo doesn't know the shape of a part of a board, and a test shows that the part doesn't recur within this
+/// many generations, the part is skipped. Nearly all spaceships that soups of Life leave recur within four generations.
 const SHORT: u32 = 8;
 
 /// A spaceship that was removed from a board.
@@ -113,9 +115,10 @@ pub(crate) fn spaceship_of(
 }
 
 /// Guesses whether a part of a board isn't a spaceship: the guess is `true` if the memo doesn't know the part's shape
-/// and a cheap test shows that the part doesn't recur within `SHORT` generations. This guess is wrong for a spaceship
-/// with a longer period, which then stays on the board. The guess saves time, since few changing clusters are
-/// spaceships. The shapes that the memo knows are mostly spaceships that aren't ahead yet, so they aren't tested.
+/// and a cheap test shows that the part doesn't recur within `SHORT` generations, or within `limit` if that is less.
+/// This guess is wrong for a spaceship whose period is over `SHORT`, which then stays on the board. The guess saves
+/// time, since few changing clusters are spaceships. The shapes that the memo knows are mostly spaceships that aren't
+/// ahead yet, so they aren't tested.
 fn is_unlikely(rule: &Rule, limit: u32, part: &Pattern, memo: &Memo) -> bool {
     !memo.knows(rule, limit, part) && part.surely_changes(rule, limit.min(SHORT))
 }

@@ -91,7 +91,7 @@ pub(crate) fn stay_apart(horizon: u32, one: &EnvelopeBounds, other: &EnvelopeBou
 }
 
 /// Returns `true` only if both patterns recur in place, and at least two empty columns or rows lie between their boxes.
-/// This is so for nearly all pairs, and for most of them one comparison of two rows shows it.
+/// For nearly all pairs the result is `true`, and for most of these a single comparison of two row numbers shows it.
 fn are_still_and_apart(one: &EnvelopeBounds, other: &EnvelopeBounds) -> bool
     ensures { IsTrue result → (horizon : ℕ) → StayApart horizon one.now other.now }
 {
@@ -164,7 +164,7 @@ fn is_still(envelope: &EnvelopeBounds) -> bool
 }
 
 /// Returns `true` only if at least two empty columns or rows lie between the boxes in each of the first `cycles`
-/// cycles. Once the boxes have such a gap that no later cycle narrows, later cycles aren't tested.
+/// cycles. Once there is a gap that no later cycle narrows, later cycles aren't tested.
 // This isn't inlined, because it would take registers that the caller's loop over pairs needs.
 #[inline(never)]
 fn are_clear_for(one: &EnvelopeBounds, other: &EnvelopeBounds, cycles: u32) -> bool
@@ -230,7 +230,8 @@ pub(crate) fn difference(one: i32, other: i32) -> i64
     i64::from(other) - i64::from(one)
 }
 
-/// For each side of a box: whether another box lies beyond this side, with at least two empty columns or rows between.
+/// For each side of a box: whether another box lies beyond this side, with at least two empty columns or rows between
+/// the boxes.
 #[derive(Clone, Copy)]
 struct Gaps {
     right: bool,
@@ -240,7 +241,7 @@ struct Gaps {
 }
 
 impl Gaps {
-    /// Returns beyond which sides of `one` the box `other` lies, if `other` is moved by `offset`.
+    /// Returns the sides of `one` beyond which `other` lies after a move by `offset`.
     fn between(one: Bounds, other: Bounds, offset: Offset) -> Gaps
         requires across { unsigned_abs offset.x ≤ 2 ^ 46 }
         requires down { unsigned_abs offset.y ≤ 2 ^ 46 }

@@ -13,8 +13,8 @@
 //! cluster recurs like the shape and has the shape's apgcode, and its envelope is that of the shape, displaced.
 //! Otherwise the cluster is run and named, and what is found replaces the entry.
 //!
-//! Which slot is chosen and what is kept can't make a finding wrong: if the memo forgets a shape, a survey only takes
-//! longer.
+//! The choice of the slot and of what is kept can't make a finding wrong: if the memo forgets a shape, a survey only
+//! takes longer.
 
 ghost use Rattle.std.specs.Prelude.{◌≡◌, ◌≢◌, ◌++◌, ◌+ℤ◌, ◌≤◌, [], All, IfNone, IfOk, IfSome, IsTrue, List, length, take, true};
 ghost use Rattle.plane_core.specs.declared.plane.cell.Cell.{Cell};

@@ -1,7 +1,8 @@
 //! How far the pattern of a board reaches in a diagonal direction, if some of its cells are ignored.
 //!
-//! The depth of a cell says how far it is in the direction. In each word column, only the rows of its span are read,
-//! from the outermost row inwards, and only as long as a row could have a cell that is deeper than the deepest so far:
+//! The depth of a cell says how far it is in the direction. In each word column, only the rows that may have a live
+//! cell are read, from the outermost row inwards, and only as long as a row could have a cell that is deeper than the
+//! deepest so far:
 //!
 //! ```text
 //! . . . . . . . O
@@ -120,8 +121,9 @@ fn rows_to_see(
     count.min(outermost.abs_diff(deepest) as usize)
 }
 
-/// Returns the first number of steps inwards, from `from` on, that leads to a row of the word column with a live cell.
-/// If there is no such number below `end`, the result is `end` or more.
+/// Finds the next row of the word column that has a live cell, beginning with the row that is `from` steps inwards.
+/// Returns how many steps inwards the found row is. If there is no such row before step `end`, the result is `end` or
+/// more.
 fn next_live(
     at: Frame,
     words: &[u64],

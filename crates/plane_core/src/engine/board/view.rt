@@ -29,8 +29,8 @@ pub(crate) struct View {
 }
 
 impl Board {
-    /// Returns the view around the middle of the box, or `None` if the view isn't completely on the board, or the board
-    /// has no word column to its right.
+    /// Returns the view around the middle of the box. Returns `None` if the view isn't completely on the board, or if
+    /// the board has no word column to the right of the one in which the view begins.
     pub(crate) fn view(&self, bounds: Bounds) -> Option<View>
         ensures frame { IfSome result (λ view. IsViewFrame view.at) }
         ensures shown { IfSome result

@@ -8,7 +8,7 @@ use Rattle.survey_core.specs.UnderWay.{survey_reach}
 use Rattle.survey_core.proofs.lemmas.evolution.EvolutionLemmas.{in_parts}
 use Rattle.survey_core.proofs.evolution.on_board.Goals as goal
 
--- n is the sum of its even part and its remainder
+-- n is the sum of n - n % 2, which is even, and n % 2
 both_parts : (n : ℕ) → (n - n % 2) + n % 2 ≡ n
 both_parts n = omega arith
 
@@ -27,7 +27,7 @@ rest_few n made few = omega arith
 at_most_one : (n : ℕ) → n % 2 ≤ 1
 at_most_one n = omega arith
 
--- the case of a board that was advanced by the whole even part of the generations
+-- the case of a board that was advanced by all n - n % 2 generations, to a time that isn't past `LATEST_TIME`
 pub returns-then-time-le-LATEST_TIME-clause-kept : goal.returns-then-time-le-LATEST_TIME-clause-kept
 returns-then-time-le-LATEST_TIME-clause-kept c =
     let n = c.args.generations in

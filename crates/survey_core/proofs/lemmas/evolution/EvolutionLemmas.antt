@@ -1,4 +1,4 @@
--- A pattern that goes on from checkpoint to checkpoint.
+-- A pattern that evolves from checkpoint to checkpoint: it stays near the origin, and a still pattern remains still.
 use Rattle.std.proofs.Common.{◌≡◌, ◌∙◌, ◌+◌, ◌-◌, ◌<◌, ◌≤◌, ◌⊎◌, ℕ, true, List, ap, arith, inl, inr, sym}
 use Rattle.plane_core.specs.declared.plane.cell.Cell.{Cell}
 use Rattle.plane_core.specs.plane.Generations.{after, lies_within}

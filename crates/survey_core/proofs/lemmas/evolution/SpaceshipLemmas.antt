@@ -265,7 +265,7 @@ pub right_turned : (o : Orientation) (b : Bounds) (s : ℤ) (c : Cell) → (o �
 right_turned o b s c (inl is) e w = subst (λ (p : Orientation). s ≤ℤ depth (turned_cell p c)) (sym is) (omega (arith, ints, e, w.right, w.top))
 right_turned o b s c (inr is) e w = subst (λ (p : Orientation). s ≤ℤ depth (turned_cell p c)) (sym is) (omega (arith, ints, e, w.right, w.top))
 
--- a small sum is unchanged by the conversion to a 64-bit word and back
+-- a sum of at most 2^33 in absolute value is unchanged by the conversion to a 64-bit word and back
 pub is_told : (s : ℤ) → unsigned_abs s ≤ 2 ^ 33 → to_z w64 (of_z w64 s) ≡ s
 is_told s small = to_z-of_z w64 s (fits_signed_from_abs w64 s (omega (arith, small)))
 

@@ -140,8 +140,8 @@ split_later rule r t n most board b spaceships is even all same at early =
     off : AreOff rule (t + n) (after rule board n) spaceships
     off = subst (λ (k : ℕ). AreOff rule (t + k) (after rule board k) spaceships) twice (all_off_later rule t (n / 2) board spaceships is.off)
 
--- under a slow rule, a split pattern remains one if a spaceship that has small numbers and is ahead of the rest of the
--- board is removed
+-- under a slow rule, removing a spaceship from the board of a split pattern gives a split pattern, if the spaceship has
+-- small numbers and is ahead of the rest of the board
 pub split_more : (rule : Numbers) (t : ℕ) (board b : List Cell) (spaceships s : List Spaceship) (spaceship : Spaceship) → IsSplitAt rule t board spaceships
     → is_slow rule ≡ true
     → spaceship.since ≡ t → IsForemost rule board spaceship.recurrence spaceship.cells → HasSmallNumbers spaceship → b ≡ without board spaceship.cells → s ≡ spaceships ++ spaceship ∷ []

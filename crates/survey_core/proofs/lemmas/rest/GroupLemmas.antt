@@ -149,11 +149,11 @@ any_members p k (g ∷ gs) (part ∷ parts) same none =
 
 -- ---- cells near some part, and cells near none
 
--- no part, run alone up to generation g, is near the cell
+-- after g generations, no part, run alone, is near the cell
 abbrev pub NoneNear : Numbers → List (List Cell) → ℕ → Cell → Type 0
 NoneNear rule parts g c = All (λ part. IsFar c (after rule part g)) parts
 
--- some part, run alone up to generation g, is near the cell
+-- after g generations, some part, run alone, is near the cell
 pub record SomeNear (rule : Numbers) (parts : List (List Cell)) (g : ℕ) (c : Cell) : Type 0 where
   pub place : ℕ
   pub within : place < length parts
@@ -387,7 +387,7 @@ module _ (rule : Numbers) (cells : List Cell) (groups : List ℕ) (parts : List 
         (λ h below. keeps_adds rule cells parts h (whole h below)) g low)
         (members_pairs (LaterOff rule g) k groups parts (keeps_off rule cells parts g (whole g low)))
 
--- fewer than two parts keep apart
+-- if there are fewer than two parts, they keep apart
 pub alone_keeps : (rule : Numbers) (parts : List (List Cell)) (g : ℕ) → length parts < 2 → All InOrder parts → KeepApart rule (union_of parts) parts g
 alone_keeps rule [] g low order =
     keeps_from rule (union_of []) [] g (λ c. ap (λ (S : List Cell). has S c) (after-empty rule g)) (λ i j d lt there. absurd (omega arith))

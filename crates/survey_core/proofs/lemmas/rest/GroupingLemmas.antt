@@ -94,8 +94,8 @@ pub renamed_pair : (groups later : List ℕ) (from to i j : ℕ) → AreRenamed 
 renamed_pair groups later from to i j made low there one other =
     made i low ∙ renamed_from from to (get_or groups i 0) one ∙ sym (made j there ∙ renamed_to from to (get_or groups j 0) other)
 
--- if the pairs of places before `place` are right, and so are the pairs of `place` and an earlier place, then the pairs
--- of places up to `place` are right
+-- if `PairIsRight` holds for all pairs of places before `place`, and for `place` and each earlier place, it holds for
+-- all pairs of places up to `place`
 pub pairs_more : (horizon : ℕ) (envelopes : List EnvelopeBounds) (old new : List ℕ) (place : ℕ) → place < length envelopes → length old ≡ length envelopes
     → Coarser old new → ((i j : ℕ) → j < i → i < place → PairIsRight horizon envelopes old i j)
     → ((j : ℕ) → j < place → PairIsRight horizon envelopes new place j) → (i j : ℕ) → j < i → i < place + 1 → PairIsRight horizon envelopes new i j
@@ -121,7 +121,7 @@ numbered envelopes groups place there are = record {
   ];
 }
 
--- the pairs of earlier envelopes are still right after the envelope at `place` gets a group of its own
+-- giving the envelope at `place` a group of its own keeps `PairIsRight` true for all pairs of places before `place`
 pub numbered_pairs : (horizon : ℕ) (envelopes : List EnvelopeBounds) (groups : List ℕ) (place : ℕ)
     → ((i j : ℕ) → j < i → i < place → PairIsRight horizon envelopes groups i j)
     → (i j : ℕ) → j < i → i < place → PairIsRight horizon envelopes (set groups place place) i j
@@ -129,8 +129,8 @@ numbered_pairs horizon envelopes groups place before i j lt low d ne =
     before i j lt low d (λ same. ne (get_or-set_other groups place i place 0 (below_differs i place low) ∙ same
     ∙ sym (get_or-set_other groups place j place 0 (below_differs j place (omega (arith, lt, low))))))
 
--- if the pairs of `place` and a place before `other` are right, and so is the pair of `place` and `other`, then the
--- pairs of `place` and a place up to `other` are right
+-- if `PairIsRight` holds for `place` and each place before `other`, and for `place` and `other`, it holds for `place`
+-- and each place up to `other`
 pub places_more : (horizon : ℕ) (envelopes : List EnvelopeBounds) (old new : List ℕ) (place other : ℕ) → place < length envelopes → length old ≡ length envelopes
     → other < place → Coarser old new → ((j : ℕ) → j < other → PairIsRight horizon envelopes old place j) → PairIsRight horizon envelopes new place other
     → (j : ℕ) → j < other + 1 → PairIsRight horizon envelopes new place j
@@ -145,7 +145,7 @@ pub first_of : (envelopes : List EnvelopeBounds) (i : ℕ) → i < length envelo
 first_of [] i low = absurd (omega arith)
 first_of (s ∷ ss) i low = s
 
--- parts whose envelopes are in different groups stay apart, in either order
+-- parts whose envelopes are in different groups stay apart, whichever of the two parts comes first in the list
 pub groups_stay_apart : (rule : Numbers) (limit horizon : ℕ) (parts : List (List Cell)) (envelopes : List EnvelopeBounds) (groups : List ℕ)
     → AllPairs LieApart parts → AreEnvelopes rule limit parts envelopes → AreGroups horizon envelopes groups → GroupsStayApart rule groups parts horizon
 groups_stay_apart rule limit horizon parts envelopes groups apart are right i j d g one other ne low = go (nat_lt i j) refl

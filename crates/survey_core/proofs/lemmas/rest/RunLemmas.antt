@@ -75,8 +75,8 @@ latest_near rule g clusters list is low near =
     (All-map (λ (a : Alone). lies_within 999999 a.latest ≡ true) (alone_at rule g) clusters
     (λ k d there. within_later survey_reach 999999 rule (get_or clusters k d) g (omega arith) (near k d there)))
 
--- if part i is in group k, adding part i to the list of the group's parts among the first i parts gives the list for
--- the first i + 1 parts; each part is listed as a cluster that is run for 0 generations
+-- The list has the parts of group k among the first i parts, each as a cluster that is run for 0 generations. If part i
+-- is in group k, adding part i to the list gives the list for the first i + 1 parts.
 pub start_more : (rule : Numbers) (k : ℕ) (gs : List ℕ) (parts : List (List Cell)) (i : ℕ) (d : List Cell) (list : List Alone) (alone : Alone)
     → i < length parts → length gs ≡ length parts → get_or gs i 0 ≡ k → list ≡ map (alone_at rule 0) (members k (take i gs) (take i parts))
     → alone ≡ alone_at rule 0 (get_or parts i d) → list ++ alone ∷ [] ≡ map (alone_at rule 0) (members k (take (i + 1) gs) (take (i + 1) parts))

@@ -1,4 +1,4 @@
--- A fact about a shape, moved, holds for each pattern that the fact is about.
+-- A pattern that is a moved copy of a known shape has the shape's code, and the shape's envelope, moved likewise.
 use Rattle.std.proofs.Common.{◌≡◌, ◌∙◌, ◌+ℤ◌, Err, IfNone, IfOk, None, Ok, Option, Result, Some, refl, sym, subst, ℕ, ℤ, Bool, false, not, true, List, All, arith}
 use Rattle.std.proofs.lemmas.Int.{ints}
 use Rattle.std.proofs.lemmas.List.Elements.{All-map}

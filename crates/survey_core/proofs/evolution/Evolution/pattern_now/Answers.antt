@@ -8,7 +8,7 @@ use Rattle.survey_core.specs.evolution.Evolutions.{IsKept, kept}
 use Rattle.survey_core.specs.evolution.SplitPatterns.{whole_at, whole_of}
 use Rattle.survey_core.proofs.evolution.Evolution.pattern_now.Goals as goal
 
--- the case of a split pattern that is the pattern now
+-- the case in which `ahead` is 0: the pattern now is the whole split pattern
 pub returns-then-ahead-eq0 : goal.returns-then-ahead-eq0
 returns-then-ahead-eq0 c =
     let rule = c.args.rule.now in
@@ -18,7 +18,7 @@ returns-then-ahead-eq0 c =
     (ap (whole_at rule split.time split.board.cells) c.as_slice-spaceships.ensures.value ∙ sym (after-none rule (whole_of rule split))
     ∙ ap (after rule (whole_of rule split)) none ∙ ap (kept rule) (sym c.in-Shown.is)) c.whole.ensures
 
--- the case of a split pattern that is one generation behind
+-- the case in which `ahead` is 1: the pattern now is the next generation of the whole split pattern
 pub returns-else-ahead-eq0 : goal.returns-else-ahead-eq0
 returns-else-ahead-eq0 c =
     let rule = c.args.rule.now in

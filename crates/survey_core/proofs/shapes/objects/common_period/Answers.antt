@@ -3,7 +3,7 @@ use Rattle.survey_core.specs.shapes.Objects.{IsMultiple, period_in}
 use Rattle.survey_core.proofs.lemmas.shapes.ObjectLemmas.{common_before, least_more, multiple_of_least}
 use Rattle.survey_core.proofs.shapes.objects.common_period.Goals as goal
 
--- the case in which the periods of the objects so far and of the next object have no common multiple up to `most`
+-- the case in which the periods of the first i objects and of object i have no common multiple up to `most`
 pub returns-in_default-clause-none : goal.returns-in_default-clause-none
 returns-in_default-clause-none c = λ m common.
     let objects = c.args.objects.now in

@@ -27,7 +27,7 @@ count_cluster-requires-clause-near c =
     subst (λ (cluster : List Cell). lies_within survey_reach cluster ≡ true) (sym c.cluster-item.is)
     (c.requires.near c.loop-cluster.cluster-index c.cluster-item.result c.loop-cluster-test.true)
 
--- so far, fewer objects have been counted than there are clusters
+-- before each iteration, fewer objects have been counted than there are clusters
 pub count_cluster-requires-clause-few : goal.count_cluster-requires-clause-few
 count_cluster-requires-clause-few c = omega (arith, c.loop-cluster.invariant.5, c.loop-cluster-test.true)
 
