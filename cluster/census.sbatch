@@ -10,6 +10,6 @@
 # usage: cluster/census.sbatch PART FOLDER TOTAL SIZE [further words, such as --seed x]
 #
 # PART is the path of cluster/part or cluster/take-part. It is an argument because Slurm runs a copy
-# of this file, which can't find them.
+# of this file, and the copy can't find the other files of this folder.
 set -euo pipefail
 exec "$1" "$2" "$3" "$4" "$SLURM_ARRAY_TASK_ID" "${@:5}"

@@ -2,15 +2,15 @@
 # What the recipes share: how they read their arguments, and how they keep the file `job`. That file says which census
 # the lines or hauls in its folder belong to.
 #
-# A recipe sets `here` to the folder that it is in, loads this file, and then calls `read_folder`, `read_words` and
-# `keep_job`. A recipe for Slurm calls `read_array` before `keep_job`.
+# A recipe sets `here` to the folder that it is in, loads this file, and then calls `read_folder`. A recipe that runs
+# parts then calls `read_words` and `keep_job`. A recipe for Slurm calls `read_array` between these two.
 
 # The programs of this repository, or of the installation that the recipes belong to.
 programs=$here/../bin
 [[ -d $programs ]] || programs=$here/../../../bin
 census=${CENSUS:-$programs/census}
-# The further arguments of a recipe are tried in this call, which runs no soup. The recipes that take hauls set another
-# call.
+# The further arguments of a recipe are tried in this call of `census`, which runs no soup. The recipes that take hauls
+# set another call.
 tried=(work --count 0 --worker 1)
 
 # Prints one line that says why nothing is done, and ends the script.
@@ -59,7 +59,7 @@ read_words() {
     "$census" "${tried[@]}" "$@" > /dev/null || exit
 }
 
-# Ends the script before it makes a file, if there are more parts than Slurm allows tasks in an array job.
+# Ends the script if there are more parts than Slurm allows tasks in an array job. No file has been made by then.
 read_array() {
     local most
     most=$(scontrol show config 2> /dev/null | sed -n 's/^MaxArraySize *= *//p')

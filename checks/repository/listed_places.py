@@ -3,9 +3,9 @@ places.md.
 
 A contract says what a call returns, but not that it ends soon, that it leaks nothing, or that a
 sleeping thread is woken. So these places are listed, each with a reason: loops that may not end and
-numbers of 2^32 or more, which could be the bound of a loop; the code that makes witnesses of
-failures; the steps on memory that threads share, in the order of the source; the fields that a
-hand-written `drop` doesn't drop; and the lines of `main`.
+numbers of 2^32 or more, which could be the bound of a loop; the code that makes a witness of a
+failure, such as an `OutOfMemory`; the steps on memory that threads share, in the order of the
+source; the fields that a hand-written `drop` doesn't drop; and the lines of `main`.
 """
 
 from __future__ import annotations
@@ -91,7 +91,8 @@ def witnesses_in(file: File) -> Iterator[Token]:
 
 # ---- Threads
 
-# The calls of the crate `handover` that are steps on shared memory, or that wait or wake.
+# The calls in the crate `handover` that are steps on shared memory, that wait, or that wake a
+# thread.
 CALLS = {
     "load",
     "store",
@@ -156,8 +157,8 @@ def written_drops(code: Code) -> Iterator[tuple[int, Code]]:
 
 
 def fields_of_drop(body: Code) -> list[list[Token]] | None:
-    """Returns the parts of the pattern with which a `drop` destructures `self`, or `None` if its
-    body doesn't begin with such a `let`.
+    """Returns the parts of the `let` pattern with which a `drop` destructures `self`, or `None` if
+    the body doesn't begin with such a `let`.
     """
     if body[:1] != ["let"] or "{" not in body or body[:3][2:] != ["{"]:
         return None
@@ -174,8 +175,8 @@ def fields_of_drop(body: Code) -> list[list[Token]] | None:
 
 
 def fault_of_drop(body: Code) -> str:
-    """Returns what is wrong with the body of a hand-written `drop`. It must destructure `self`, and
-    then drop each field that the pattern binds, once and in order.
+    """Returns what is wrong with the body of a hand-written `drop`, or an empty text. The body must
+    destructure `self`, and then drop each field that the pattern binds, once and in order.
     """
     fields = fields_of_drop(body)
     if fields is None or any(len(field) != 1 and field[1:] != [":", "_"] for field in fields):
@@ -198,8 +199,8 @@ def left_in(file: File) -> Iterator[Token]:
 
 
 def lines_of_main(file: File) -> Iterator[Token]:
-    """Yields the names in the functions of the program's main file, so that each line of these
-    functions has to be listed."""
+    """Yields each word in the functions of the program's main file, so that each line with a word
+    has to be listed."""
     if file.name == "census/main.rt":
         start = file.code.index(Token("fn"))
         yield from (token for token in file.code[start:] if re.match(r"\w", token))
@@ -217,7 +218,7 @@ SEARCHES = {
 
 
 def places_in(file: File) -> Iterator[Place]:
-    """Yields the places of a file that have to be listed: each line once under a heading."""
+    """Yields the places of a file that must be listed: each line at most once under a heading."""
     for heading, search in SEARCHES.items():
         last = -1
         for token in search(file):
@@ -260,7 +261,7 @@ def difference(file: str, found: list[str], listed: list[str]) -> str:
 
 
 def compare_places(files: Iterable[File], count: Count) -> None:
-    """Compares what is found with places.md."""
+    """Compares the places in the files with the rows of places.md. Each row needs a reason."""
     found = by_file(place for file in files for place in places_in(file))
     rows = list(listed_places())
     for place, reason in rows:

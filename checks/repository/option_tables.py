@@ -19,8 +19,8 @@ FILES = {"PATH", "PROGRAM"}
 
 @dataclass(frozen=True)
 class Option:
-    """An option, or a positional argument if `flag` is false. An option without a `value` takes no
-    value.
+    """An option, or a positional argument if `flag` is false. `value` is the placeholder for its
+    value, or empty if the option takes no value.
     """
 
     name: str

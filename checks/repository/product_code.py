@@ -65,7 +65,7 @@ def file_of(name: str, source: str) -> File:
 
 
 def product() -> Iterator[File]:
-    """Yields each file of the crates, except those of tests."""
+    """Yields each source file of each crate that isn't a crate of tests."""
     for path in sorted(TOP.glob("crates/*/src/**/*.rt")):
         if not path.relative_to(TOP).parts[1].endswith("_tests"):
             name = path.relative_to(TOP / "crates").as_posix().replace("/src/", "/")

@@ -113,8 +113,7 @@ class Children:
             self.running.remove(process)
 
     def heed(self, stopping: SignalHandler) -> None:
-        """Passes signals to the work `stopping` from now on. This work ends by itself after a
-        signal."""
+        """Passes signals to `stopping` from now on. This work ends by itself after a signal."""
         self.stopping = stopping
 
     @contextmanager

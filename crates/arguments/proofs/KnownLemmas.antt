@@ -139,9 +139,9 @@ so {X} {b} {x} {y} same holds = same_Some x y (rw holds at same)
 abbrev pub takes_name : Text → Rule → Bool
 takes_name name a = not (is_some a.index) && has_long a name
 
--- Facts about one argument of a command: how the walk goes on from a place (after a flag, after `--name=value`, after
--- `--name` before a value, after this value, and after a positional value), how a value that is held is settled, and
--- what a request takes from the default.
+-- Facts about one argument of a command: the effect of a flag, of `--name=value`, of `--name` before a value, of this
+-- value, and of a positional value; how a value that is held is settled; whether the argument is positional; that no
+-- other argument of the command has its name; that its limit is below 2^64; and what a request takes from its default.
 pub record ParameterFacts : Type 0 where
   pub flagged : Held → ℕ → Option Met
   pub attached : Held → ℕ → Text → Option Met

@@ -30,7 +30,7 @@ settling s h = (settle_fault s.rules s.args_override_self h, settled s.rules h)
 abbrev pub end_faults : Shape → Kinds × Held → Kinds
 end_faults s p = or_else p.0 (or_else (defaults_fault p.1.rows s.rules) (check_fault s (fold with_default p.1.rows s.rules) false))
 
--- all faults of a command's arguments, given the result of the walk over them
+-- all faults of a command's arguments, given the result of the walk over these arguments
 abbrev pub faults_by : Shape → Kinds × Walk → Kinds
 faults_by s r = or_else r.0 (end_faults s (settling s r.1.held))
 
@@ -64,7 +64,7 @@ or_else_nil kinds = grind arith
 
 -- ---- rows
 
--- if no row has the id, the missing rows are put at the end
+-- if no row has the id, the rows `missing` are put at the end
 pub at_row_none : (id : Text) (change : Row → List Row) (missing rows : List Row) → has_row id rows ≡ false → at_row id change missing rows ≡ rows ++ missing
 at_row_none id change missing [] none = refl
 at_row_none id change missing (r ∷ rs) none = grind (arith, at_row_none id change missing rs)

@@ -21,7 +21,7 @@ request_in found =
     else if bytes_eq found.0 (codes "gather") then gather_request found.1
     else None
 
--- the request, or `None` if `clap` has found a fault; asking for help counts as one
+-- the request, or `None` if `clap` has found a fault; asking for help counts as a fault
 abbrev pub unless_faulty : Kinds → Option Request → Option Request
 unless_faulty [] request = request
 unless_faulty (kind ∷ kinds) request = None

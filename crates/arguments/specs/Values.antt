@@ -34,7 +34,7 @@ number_by kind.Flag id rows = None
 number_by (kind.Number least most) id rows = option_and_then (at_least least) (number_up_to most id rows)
 number_by (kind.OptionalNumber least most) id rows = option_and_then (at_least least) (number_up_to most id rows)
 
--- the number that was found for an argument
+-- the number that was found for an argument, if it is in the argument's range
 abbrev pub number_found : Entry → List Row → Option ℕ
 number_found entry rows = number_by entry.kind entry.name rows
 

@@ -159,8 +159,8 @@ pub(crate) fn run_request<'a>(found: &ArgMatches<'a>) -> Option<Request<'a>>
     })
 }
 
-/// Returns what `run` prints up to generation `last`, or `None` if the options contradict each other: they ask for
-/// sizes from a generation after `last`, or for both sizes and coordinates.
+/// Returns what `run` prints if it ends at generation `last`, or `None` if the options contradict each other: they ask
+/// for sizes from a generation after `last`, or for both sizes and coordinates.
 fn run_form_in(found: &ArgMatches<'_>, last: u64) -> Option<RunForm>
     ensures form { result ≡ run_form (form_in (rows_of (found_of found.now))) last
         (number_found sizes (rows_of (found_of found.now))) }
@@ -209,7 +209,7 @@ pub(crate) fn name_request<'a>(found: &ArgMatches<'a>) -> Option<Request<'a>>
     Some(Request::Name { profile, rule })
 }
 
-/// Returns the request of `show`, or `None` if its value is missing.
+/// Returns the request of `show`, or `None` if the code is missing.
 pub(crate) fn show_request<'a>(found: &ArgMatches<'a>) -> Option<Request<'a>>
     ensures { result ≡ show_request (rows_of (found_of found.now)) }
 {

@@ -9,8 +9,8 @@ use crate::options::{Parameter, ValueKind};
 use clap::ArgMatches;
 use requests::plan::Text;
 
-/// Returns the number that was found for the argument of a row. Returns `None` if no number was found, if it is out of
-/// the row's range, or if the row's kind isn't a number.
+/// Returns the number that was found for the argument of a row. Returns `None` if no number was found, if the number is
+/// out of the row's range, or if the row's kind isn't a number.
 pub fn number_found(found: &ArgMatches<'_>, row: &Parameter) -> Option<u64>
     ensures number { result ≡ number_found (entry_of row.now) (rows_of (found_of found.now)) }
     ensures range { IfSome result (IsInRange row.now.kind) }

@@ -129,7 +129,7 @@ right_of arguments reader before after errors missing request done asked =
     let same : done.request ≡ request = let both = sym done.asked ∙ asked in cc in
     subst (λ (r : Request). right_for r done.bytes (Ok done.made)) same done.right
 
--- if what `take` made is right, with or without report lines, its text is the right text
+-- if what `take` made is right for a plan, with or without report lines, the text in it is right for the plan
 take_right_of : (plan : Plan) (workers : ℕ) (from : Option ℕ) (bytes : List ℕ) (made : Made) → (take_behaviour_from plan workers from).right bytes (Ok made)
     → take_right plan (Ok made.text)
 take_right_of plan workers None bytes made right = right.0

@@ -33,9 +33,9 @@ pub record HasTextAndLine (errors : Stream) (text line : List ℕ) : Type 0 wher
   pub whole : Appends errors.before so_far text
   pub last : HasLine (record { before = so_far; after = errors.after; failed = errors.failed }) line
 
--- What the arguments ask for was done: the text is right for this input, and was added to the writer completely.
--- `missing` is the number of missing soups, which is 0 except for `gather`. Standard error has the diagnostics of
--- `gather` about lines and missing soups, or the report lines of `take` about late soups.
+-- What the arguments ask for was done: the text is right for the request and this input, and was added to the writer
+-- completely. `missing` is the number of missing soups, which is 0 except for `gather`. Standard error has the
+-- diagnostics of `gather` about lines and missing soups, or the report lines of `take` about late soups.
 pub record IsDone (arguments : List Text) (reader before after : Option (List ℕ)) (errors : Stream) (missing : ℕ) : Type 0 where
   pub request : Request
   pub asked : asked_by arguments ≡ Some request

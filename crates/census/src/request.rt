@@ -106,8 +106,8 @@ fn end_without_memory<E: Write>(error: &clap::Error, errors: &mut Out<E>) -> Sta
 /// Does what a request asks for, and returns the status.
 ///
 /// Each number of the request has to be in its range, and no earlier write to either writer may have failed. Nothing of
-/// the input is read if the request doesn't need it, or if its rule, profile, seed or set is refused. The machine's
-/// observer receives the progress, and nothing else depends on the observer.
+/// the input is read if the request doesn't need the input, or if the request's rule, profile, seed or set is refused.
+/// The machine's observer receives the progress, and nothing else depends on the observer.
 ///
 /// # Errors
 ///

@@ -1,4 +1,4 @@
--- A pattern moved to the corner, cell by cell.
+-- Which cells a pattern has after it is moved, in particular to the corner (0, 0).
 use Rattle.std.proofs.Common.{◌≡◌, ◌==◌, ℕ, ℤ, zero, suc, pos, neg_ℤ, ◌+ℤ◌, ◌<◌, ◌||◌, Bool, List, [], ◌∷◌, Some, arith, refl, ap, sym, ◌∙◌, if◌then◌else◌, slice_index}
 use Rattle.std.specs.Int.{bit_at}
 use Rattle.std.proofs.lemmas.Nat.Bits.{bit_at-lt}

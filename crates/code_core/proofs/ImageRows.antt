@@ -261,7 +261,7 @@ near_right a b c low high small = omega (arith, ints)
 same_number : (m n : ℕ) → pos m ≡ pos n → n < 40 → m < 64
 same_number m n same low = omega (arith, ints)
 
--- the image of each cell of a small pattern is in the first 64 columns and the first 64 rows
+-- if a pattern has at most 40 columns and 40 rows, the image of each cell is in the first 64 columns and 64 rows
 pub place_low : (o : Orientation) (b : Bounds) (c : Cell) (column row : ℕ) → IsWithin b c → distance b.left b.right < 40 → distance b.top b.bottom < 40
     → cell_at (pos column) (pos row) ≡ image_cell o b c → (column < 64) × (row < 64)
 place_low o b c column row w wide high is = go o is
@@ -331,7 +331,7 @@ image_shown o b rows cs k is all shown r i low near =
 from_zero : (n : ℕ) → distance (pos 0) (pos n) ≡ n
 from_zero n = omega (arith, ints)
 
--- if columns and rows are exchanged, a small box at the corner stays small, and a large one stays large
+-- a box at the corner fits into 40 by 40 cells if and only if the box with columns and rows exchanged does
 fits_to : (m n : ℕ) → fits_forty_square (record { left = pos 0; top = pos 0; right = pos m; bottom = pos n })
     ≡ fits_forty_square (record { left = pos 0; top = pos 0; right = pos n; bottom = pos m })
 fits_to m n = and_swap (nat_lt (distance (pos 0) (pos m)) 40) (nat_lt (distance (pos 0) (pos n)) 40)
@@ -342,7 +342,7 @@ fits_same b = ap2 (from_zero (distance b.left b.right)) (from_zero (distance b.t
     ap2 : {m n p q : ℕ} → m ≡ p → n ≡ q → (nat_lt m 40 && nat_lt n 40) ≡ (nat_lt p 40 && nat_lt q 40)
     ap2 s t = λ i. nat_lt (s i) 40 && nat_lt (t i) 40
 
--- an image is small if and only if the pattern is
+-- an image fits into 40 by 40 cells if and only if the pattern does
 pub fits-image : (o : Orientation) (b : Bounds) → fits_forty_square (image_box o b) ≡ fits_forty_square b
 fits-image Same b = fits_same b
 fits-image Quarter b = fits_to (distance b.top b.bottom) (distance b.left b.right) ∙ fits_same b
@@ -363,7 +363,7 @@ unfolding text
 text_by_box cells b fits box small =
     ap (boxed_text cells) box ∙ ap (λ (yes : Bool). cond yes (Some (spelled_in (at_corner cells) b)) None) small
 
--- the image of a small pattern is small
+-- if a pattern fits into 40 by 40 cells, so does its image
 pub image_is_small : (o : Orientation) (b ib : Bounds) → ib ≡ image_box o b → fits_forty_square b ≡ true
     → (distance ib.left ib.right < 40) × (distance ib.top ib.bottom < 40)
 image_is_small o b ib is small =
@@ -375,7 +375,7 @@ image_at_corner : (o : Orientation) (cs : List Cell) (b : Bounds) → box_of (tu
 unfolding turned
 image_at_corner o cs b is = box_at_corner (image o cs) b is
 
--- the text that was written for the rows of a small pattern's image is the text of the image
+-- if a pattern fits into 40 by 40 cells, the text that was written for the rows of its image is the image's text
 pub image_written : (o : Orientation) (cs : List Cell) (b ib : Bounds) (rows bytes : List ℕ) → ib ≡ image_box o b → box_of cs ≡ Some b
     → fits_forty_square b ≡ true → ShowsInAllRows (pos 0) (pos 0) rows (turned o cs)
     → ((cells : List Cell) → IsBoxed ib rows cells → bytes ≡ spelled_in (at_corner cells) ib) → Some bytes ≡ text (turned o cs)
@@ -392,7 +392,7 @@ image_written o cs b ib rows bytes is box small shown told =
     from_corner : ShowsInAllRows ib.left ib.top rows (turned o cs)
     from_corner = rw (corner.0, corner.1) shown
 
--- the image of a large pattern has no text
+-- if a pattern doesn't fit into 40 by 40 cells, its image has no text
 pub no_text_of_image : (o : Orientation) (cs : List Cell) (b : Bounds) → box_of cs ≡ Some b → fits_forty_square b ≡ false → text (turned o cs) ≡ None
 no_text_of_image o cs b is large = text_by_box (turned o cs) (image_box o b) false (box_of-image o cs b is) (fits-image o b ∙ large)
 

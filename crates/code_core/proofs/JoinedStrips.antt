@@ -1,4 +1,4 @@
--- The text of a pattern, strip by strip.
+-- The text of a pattern, put together strip by strip: a strip is five rows, and a `z` separates two strips.
 use Rattle.std.proofs.Common.{◌≡◌, ℕ, zero, suc, ◌+◌, ◌<◌, ◌≤◌, ◌/◌, ◌==◌, List, [], ◌∷◌, ◌++◌, map, arith, false, true, append-nil, if◌then◌else◌, refl, ap, sym, ◌∙◌}
 use Rattle.std.specs.List.{flat_map, range_with_len}
 use Rattle.std.proofs.lemmas.Bool.Decides.{nat_tests}

@@ -1,4 +1,5 @@
--- The least of some texts, found from one group of texts after another.
+-- The least text of several groups of texts, found group by group. There is a group for each orientation of a phase, or
+-- for each phase of a pattern.
 use Rattle.std.proofs.Common.{◌≡◌, ◌≢◌, ◌∙◌, sym, ap, refl, subst, ℕ, ◌+◌, ◌<◌, ◌≤◌, List, [], length, get_or, Option, None, Some, arith}
 use Rattle.std.proofs.Common.{eq-or-lt_of_le, inl, inr, ◌⊎◌, Ordering, Less, Equal, Greater, is_le, IsTrue}
 use Rattle.std.proofs.lemmas.Cmp.{nat_cmp_total, nat_list_cmp_total, on_total, then_total}

@@ -120,7 +120,8 @@ unless_empty-some tokens each h = unless_empty-set_of (cells_from 0 0 tokens) (l
 pub unless_empty-none : (tokens : List Token) → list_any is_column tokens ≡ false → unless_empty (token_cells tokens) ≡ Err Empty
 unless_empty-none tokens h = ap (λ (cells : List Cell). unless_empty (set_of cells)) (cells_from-none tokens 0 0 h)
 
--- the cells of tokens are those of the first token, followed by those of the others, which begin where the first ends
+-- the cells of a list of tokens are the cells of the first token, followed by the cells of the other tokens from the
+-- place where the first token ends
 pub cells_from-column : (cells more : List Cell) (k x value : ℕ) (token : Token) (tokens : List Token) → token ≡ Column value
     → more ≡ cells ++ lit_cells k x value → more ++ cells_from k (x + 1) tokens ≡ cells ++ cells_from k x (token ∷ tokens)
 unfolding cells_from
@@ -134,7 +135,7 @@ pub cells_from-next_strip : (k x : ℕ) (token : Token) (tokens : List Token) �
 unfolding cells_from
 cells_from-next_strip k x token tokens e = rw e refl
 
--- the live cells in the first n rows of a column with this value, which is column x of strip k
+-- the live cells in the first n rows of column x of strip k, if this column has the given value
 unfoldable pub lit_above : ℕ → ℕ → ℕ → ℕ → List Cell
 lit_above n k x value = map (λ i. cell_at (pos x) (pos (5 * k + i))) (filter (is_lit value) (range_with_len 0 n))
 

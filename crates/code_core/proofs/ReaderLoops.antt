@@ -1,4 +1,5 @@
--- The invariants of the two loops that go through a text token by token, and their consequences when a loop ends.
+-- The invariants of the two loops in `reader.rt` that go through a text token by token, and what follows from them when
+-- a loop ends.
 use Rattle.std.proofs.Common.{◌≡◌, ◌<◌, ◌≤◌, ◌+◌, ◌-◌, ◌*◌, ℕ, Bool, true, false, ◌||◌, List, [], ◌∷◌, ◌++◌, length, refl, sym, ◌∙◌, ap, arith}
 use Rattle.std.proofs.Common.{append_assoc, append-nil, length-append, Some, None, Result, Ok, Err}
 use Rattle.std.specs.List.{All, list_all, list_any, flat_map}
@@ -87,7 +88,8 @@ pub Passed_cells : (text remainder : List ℕ) (has_cell : Bool) (place : ℕ) �
     → result_err (wechsler_pattern text) ≡ None
 Passed_cells text remainder has_cell place p e some = rw (Passed_spells text remainder has_cell place p e, unless_empty-some p.tokens p.each (sym p.columns ∙ some)) refl
 
--- if a text begins with a token, the tokens that spell the text are this token, then tokens that spell the remainder
+-- if a text begins with a token, the tokens that spell the text are this token, followed by tokens that spell the
+-- remainder
 pub record TokensAfter (token : Token) (after : List ℕ) (tokens : List Token) : Type 0 where
   pub more : List Token
   pub spells : Spells more after

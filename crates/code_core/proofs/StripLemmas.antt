@@ -57,7 +57,7 @@ one_more_empty : (n : ℕ) (values : List ℕ) → replicate n 0 ++ 0 ∷ values
 one_more_empty zero values = refl
 one_more_empty (suc n) values = ap (λ vs. 0 ∷ vs) (one_more_empty n values)
 
--- if first a is written and then b, c = a ++ b is written
+-- if a is written, and then b is written, then a ++ b, which is c, has been written
 pub written_on : {T E : Type 0} (r : Result T E) (old middle new a b c : List ℕ) → middle ≡ old ++ a → c ≡ a ++ b → OnOk r (new ≡ middle ++ b)
     → OnOk r (new ≡ old ++ c)
 written_on (Ok x) old middle new a b c e f h = h ∙ ap (λ t. t ++ b) e ∙ append_assoc old a b ∙ ap (λ t. old ++ t) (sym f)
@@ -98,7 +98,7 @@ remainder_text-end cells width k gap x h =
     ap (λ n. spelled (strip_tokens (replicate gap 0 ++ map (column cells k) (range_with_len x n)))) e
     ∙ ap (λ vs. spelled (strip_tokens vs)) (append-nil (replicate gap 0)) ∙ ap spelled (strip_tokens-empty gap)
 
--- the loop's step at a column with a live cell: the gap and the column are written
+-- the step of the loop in `push_strip` (`wechsler.rt`) at a column with a live cell: the gap and the column are written
 pub strip_more-live : (cells : List Cell) (width k gap x value : ℕ) (whole text new : List ℕ) → x < width → 1 ≤ value → value ≡ column cells k x
     → text ++ remainder_text cells width k gap x ≡ whole → new ≡ text ++ spelled (strip_tokens (replicate gap 0 ++ value ∷ []))
     → new ++ remainder_text cells width k 0 (x + 1) ≡ whole
@@ -107,13 +107,13 @@ strip_more-live cells width k gap x value whole text new h some is so_far e =
     ap (λ t. t ++ remainder) e ∙ append_assoc text (spelled (strip_tokens (replicate gap 0 ++ value ∷ []))) remainder
     ∙ ap (λ t. text ++ t) (sym (remainder_text-live cells width k gap x value h some is)) ∙ so_far
 
--- the loop's step at an empty column: the gap grows by 1, and nothing is written
+-- the step of this loop at an empty column: the gap grows by 1, and nothing is written
 pub strip_more-empty : (cells : List Cell) (width k gap x value : ℕ) (whole text : List ℕ) → x < width → value ≡ 0 → value ≡ column cells k x
     → text ++ remainder_text cells width k gap x ≡ whole → text ++ remainder_text cells width k (gap + 1) (x + 1) ≡ whole
 strip_more-empty cells width k gap x value whole text h none is so_far =
     ap (λ t. text ++ t) (sym (remainder_text-empty cells width k gap x value h none is)) ∙ so_far
 
--- when the loop ends, the text of the strip has been written
+-- when this loop ends, the text of the strip has been written
 pub strip_done : (cells : List Cell) (width k gap x : ℕ) (start text : List ℕ) → width ≤ x
     → text ++ remainder_text cells width k gap x ≡ start ++ remainder_text cells width k 0 0 → text ≡ start ++ spelled (strip_tokens (strip cells width k))
 strip_done cells width k gap x start text h so_far =

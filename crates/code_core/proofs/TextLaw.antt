@@ -115,7 +115,7 @@ small_sides b small =
 abbrev corner_tokens : List Cell → Bounds → List Token
 corner_tokens cells b = tokens_of (at_corner cells) (distance b.left b.right) (distance b.top b.bottom)
 
--- a pattern with a text has a small box, and its tokens spell the text
+-- the box of a pattern with a text has at most 40 columns and 40 rows, and the pattern's tokens spell the text
 boxed : (cells : List Cell) (t : List ℕ) → text cells ≡ Some t
     → (b : Bounds) × (box_of cells ≡ Some b) × (fits_forty_square b ≡ true) × (spelled (corner_tokens cells b) ≡ t)
 unfolding text

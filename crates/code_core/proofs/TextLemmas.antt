@@ -1,4 +1,5 @@
--- The tokens of a pattern's text: each token is lawful, and the text is short and consists of characters.
+-- The tokens of a pattern's text: each token is lawful (`IsToken`), and the text has at most 327 bytes, each of which
+-- is a character.
 use Rattle.std.proofs.Common.{ℕ, zero, suc, ◌+◌, ◌*◌, ◌-◌, ◌/◌, ◌≤◌, ◌<◌, Bool, true, false, List, [], ◌∷◌, ◌∙◌, ◌≡◌, cond, length, map, get_or}
 use Rattle.std.proofs.Common.{refl, arith}
 use Rattle.std.specs.List.{All, list_all, range_with_len}

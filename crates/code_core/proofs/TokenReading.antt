@@ -30,7 +30,8 @@ pub character_value-character : (v : ℕ) → v ≤ 35 → character_value (char
 unfolding character character_value
 character_value-character v h = grind (arith, nat_tests)
 
--- the token of one character, and the token of `y` (121) and a character: their spellings, and that they are lawful
+-- the spelling of the token of one character, and of the token of `y` (121) and a character; both tokens are lawful
+-- (`IsToken`)
 pub spelling-single : (b : ℕ) → is_character b ≡ true → (b == 121) ≡ false → spelling (single b) ≡ b ∷ []
 unfolding single gap_text
 spelling-single b h many = go (b == 48) refl (b == 119) refl (b == 120) refl (b == 122) refl
@@ -231,7 +232,8 @@ pub tokens_at-short_run : (place : ℕ) (remainder : List ℕ) → has_character
 tokens_at-short_run place [] h = tokens_at-end place
 tokens_at-short_run place (c ∷ remainder) h = tokens_at-short place c remainder h
 
--- the text begins with a byte that isn't a character, or (`IsShort`) with a `y` (121) that no character follows
+-- the text begins with a byte that isn't a character (`IsBad`), or with a `y` (121) and no character after it
+-- (`IsShort`)
 abbrev pub IsBad : List ℕ → Type 0
 IsBad [] = ⊥
 IsBad (b ∷ remainder) = is_character b ≡ false

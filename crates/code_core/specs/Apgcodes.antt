@@ -27,7 +27,7 @@ ending (Some t) = codes "_" ++ t
 unfoldable pub code_text : Kind → ℕ → Option (List ℕ) → List ℕ
 code_text kind number text = opening text ++ (letter kind ++ (decimal number ++ ending text))
 
--- the part of an apgcode after `x` or `ov_`, which begins with the letter of the kind
+-- an apgcode from the letter of its kind on, without the `x` or `ov_` before this letter
 abbrev pub from_letter : List ℕ → List ℕ
 from_letter code = if starts_with nat_eq code (codes "ov_") then drop 3 code else drop 1 code
 

@@ -1,4 +1,4 @@
--- Columns of five cells and their values, and the cells that tokens stand for.
+-- The values of columns of five cells, and the cells that the tokens of an extended Wechsler text stand for.
 use Rattle.std.specs.Prelude.{◌≡◌, ◌==◌, ◌+◌, ◌*◌, ◌/◌, ◌%◌, ◌^◌, ℕ, pos, Bool, List, [], ◌∷◌, ◌++◌, Some, map, filter, if◌then◌else◌}
 use Rattle.std.specs.List.{range_with_len}
 use Rattle.plane_core.specs.declared.plane.cell.Cell.{Cell}

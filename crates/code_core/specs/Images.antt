@@ -1,4 +1,4 @@
--- The image of a small pattern in an orientation: its box and its cells, both counted from the corner of the image.
+-- The box and the cells of a pattern's image in an orientation, with the top left corner of the image at (0, 0).
 use Rattle.std.specs.Prelude.{ℤ, pos}
 use Rattle.plane_core.specs.declared.plane.bounds.Bounds.{Bounds}
 use Rattle.plane_core.specs.declared.plane.cell.Cell.{Cell}

@@ -1,4 +1,4 @@
--- Where the first fault of a text is, and that the text of a pattern can be read back.
+-- The place of a text's first fault, the messages of faults, and the law that the text of a pattern can be read back.
 use Rattle.std.specs.Prelude.{◌≡◌, ◌+◌, ◌<◌, ◌++◌, ℕ, false, List, codes, decimal, length, take, Some, Ok, slice_index}
 use Rattle.plane_core.specs.declared.plane.cell.Cell.{Cell}
 use Rattle.plane_core.specs.plane.Bounds.{at_corner}

@@ -44,8 +44,8 @@ pub record SearchEnds {X : Type 0} (IsFound : X → Type 0) (rule : Numbers) (ce
 unfoldable pub phases : Numbers → List Cell → ℕ → List (List Cell)
 phases rule cells n = map (after rule cells) (range_with_len 0 n)
 
--- The state of the search for a recurrence of a pattern: it hasn't recurred up to generation n, and no generation
--- before n touches the edge. `before` has the generations before n, and `last` is generation n.
+-- The state of the search for a recurrence of a pattern: the pattern hasn't recurred up to generation n, and no
+-- generation before n touches the edge. `before` has the generations before n, and `last` is generation n.
 pub record Follows (rule : Numbers) (cells : List Cell) (n : ℕ) (before : List (List Cell)) (last : List Cell) : Type 0 where
   pub earlier : before ≡ phases rule cells n
   pub latest : last ≡ after rule cells n

@@ -11,8 +11,8 @@ use Rattle.code_core.specs.declared.reader.Token.TheVariants.{Column, Gap, NextS
 use Rattle.code_core.specs.Columns.{token_cells, column}
 use Rattle.code_core.specs.Tokens.{Spells, is_character, spelling}
 
--- The tokens of a strip with one more column before them, which has this value. An empty column lengthens the gap that
--- follows it, is a new gap if another token follows, and is left out if no token follows.
+-- The tokens of a strip, with a column of this value added before them. An empty column lengthens the gap that follows
+-- it, is a new gap if another token follows, and is left out if no token follows.
 abbrev pub before : ℕ → List Token → List Token
 before zero [] = []
 before zero (Gap n ∷ tokens) = Gap (n + 1) ∷ tokens
@@ -43,7 +43,7 @@ tokens_of cells right bottom = joined_strips (map (λ k. strip_tokens (strip cel
 abbrev pub fits_forty_square : Bounds → Bool
 fits_forty_square b = nat_lt (distance b.left b.right) 40 && nat_lt (distance b.top b.bottom) 40
 
--- the text of a pattern with this box, if it has a box and the box isn't too large
+-- the text of a pattern whose box is given; `None` if there is no box or the box is too large
 abbrev pub boxed_text : List Cell → Option Bounds → Option (List ℕ)
 boxed_text cells None = None
 boxed_text cells (Some b) =

@@ -1,5 +1,6 @@
-//! The images of a small pattern in the eight orientations, as rows of bits. The place of a cell's image follows from
-//! the cell's distances from the sides of the pattern's box, so no list of the image's cells is made:
+//! The images of a pattern in the eight orientations, as rows of bits. The pattern's box has at most 40 columns and 40
+//! rows. The place of a cell's image follows from the cell's distances from the sides of this box, so no list of the
+//! image's cells is made:
 //!
 //! ```text
 //! pattern      distances of one cell from       its image

@@ -1,4 +1,4 @@
-//! Names a pattern, in two steps. First the pattern is followed until it recurs, which gives its kind, its number and
+//! Names a pattern, in two steps. First the pattern is followed until it recurs, which gives its kind, its period and
 //! its phases. Then the texts of all phases in the eight orientations are compared, and the apgcode ends with the least
 //! one. A shorter text is less than a longer one, and texts of the same length are in ASCII order.
 //!

@@ -58,8 +58,8 @@ impl Recurrence {
     }
 }
 
-/// The most live cells of a pattern whose generations are kept from the start. A larger pattern is first followed
-/// without keeping its generations, to find out whether it recurs.
+/// The largest number of live cells of a pattern whose generations are kept from the start. A pattern with more live
+/// cells is first followed without keeping its generations, to find out whether it recurs.
 const MOST_KEPT: usize = 4096;
 
 /// A pattern that recurs: its phases, beginning with the pattern itself, and how it recurs.

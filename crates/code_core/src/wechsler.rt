@@ -46,8 +46,8 @@ const STRIP: u32 = 5;
 ///
 /// The box is divided from the top into strips of five rows, whose texts are separated by `z`. A strip is written
 /// column by column from the left. A column with a live cell is one character, `1` to `9` or `a` to `v`, for its value
-/// 1 to 31. The value is the sum of its live cells, where the top cell counts 1 and those below it 2, 4, 8 and 16. A
-/// run of empty columns is left out at a strip's end. Elsewhere, a run of 1, 2 or 3 columns is `0`, `w` or `x`. A
+/// 1 to 31. The value is the sum of the column's live cells, where the top cell counts 1 and those below it 2, 4, 8 and
+/// 16. A run of empty columns is left out at a strip's end. Elsewhere, a run of 1, 2 or 3 columns is `0`, `w` or `x`. A
 /// longer run is `y` and another character: `0` to `9` for 4 to 13 columns, or `a` to `z` for 14 to 39.
 ///
 /// # Errors

@@ -1,4 +1,4 @@
-//! Tests of `gather`.
+//! Tests of how the command `gather` uses its streams.
 
 use crate::setup::plan_of;
 use crate::streams::{
@@ -97,8 +97,8 @@ fn left_by_writes(alloc: Global, errors: FaultyWriter) -> Left {
     )
 }
 
-// If a line about a report line can't be written, the command ends. A failure to write the line about missing soups
-// changes nothing.
+// If a line about a report line can't be written, the command ends. If the line about missing soups can't be written,
+// the haul and the status are the same as without this failure.
 #[test]
 fn ends_if_a_line_is_not_told(rt: HostRuntime) {
     for bad in [1, 26, TOLD_OF_LINES] {

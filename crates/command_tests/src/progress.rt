@@ -85,7 +85,7 @@ fn tells_and_wipes_its_line(rt: HostRuntime) {
     assert!(rt; screen.as_slice() == TOLD);
 }
 
-/// Returns what a progress line writes. `is_shown` says whether it is shown without being asked for, and `is_asked`
+/// Returns what a progress line writes. `is_shown` says whether the line is shown in any case, and `is_asked` says
 /// whether it is asked for.
 fn told(rt: &impl AllocGlobal, is_shown: bool, is_asked: bool) -> Vec<u8> {
     let mut screen = Vec::new(rt.alloc());

@@ -1,4 +1,4 @@
-//! Tests of `take` with the report lines of late soups.
+//! Tests of `take --report-from`, which also writes the report lines of late soups.
 
 use crate::progress::line_on;
 use crate::setup::{machine_of, plan_of};

@@ -1,4 +1,4 @@
-//! Tests of `take`.
+//! Tests of the command `take` with a progress line, and with a gate that stops workers.
 
 ghost use Rattle.haul_core.specs.Reports.{IsWorker};
 

@@ -1,4 +1,4 @@
-//! Tests of `work`.
+//! Tests that the command `work` flushes each line before it begins the next line.
 
 use crate::setup::plan_of;
 use commands::work::do_work;

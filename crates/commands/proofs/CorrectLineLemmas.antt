@@ -23,7 +23,7 @@ use Rattle.haul_core.proofs.OneClaim.{one_claim}
 use Rattle.haul_core.proofs.SpaceLemmas.{no_claim}
 use Rattle.commands.specs.declared.line_fault.LineFault.{LineFault}
 use Rattle.commands.specs.declared.line_fault.LineFault.TheVariants.{BadLine, Disagrees, Double, OtherJob, OutOfRange, UnknownWorker}
-use Rattle.commands.specs.GatheredLines.{Claims, ComesOf, Faulty, Front, Gathered, IsChecked, IsLookedAt, Next, Offered, Start, Whole}
+use Rattle.commands.specs.GatheredLines.{Claims, ComesOf, Faulty, Prefix, Gathered, IsChecked, IsExamined, Next, Offered, Start, Whole}
 use Rattle.commands.specs.Gathering.{IsGathered, IsHaulOver, gather_opens}
 use Rattle.commands.specs.SoupSets.{job_named}
 use Rattle.requests.specs.declared.plan.Plan.{Plan}
@@ -63,9 +63,9 @@ no_fault terms n line (UnknownWorker worker) correct bad = bad
 no_fault terms n line (OutOfRange number) correct bad = bad
 no_fault terms n line (Double number worker) correct bad = bad
 
-not_faulty : (terms : Terms) (n : ℕ) (line : List ℕ) (fault : LineFault) → IsCorrectFor terms.job terms.workers n line → IsLookedAt terms.job line (Err fault) → ⊥
+not_faulty : (terms : Terms) (n : ℕ) (line : List ℕ) (fault : LineFault) → IsCorrectFor terms.job terms.workers n line → IsExamined terms.job line (Err fault) → ⊥
 not_faulty terms n line fault correct (Whole short checked) = no_fault terms n line fault correct checked
-not_faulty terms n line (BadLine p) correct (Front place long fault) =
+not_faulty terms n line (BadLine p) correct (Prefix place long fault) =
     let short : length line ≤ 2 ^ 24 = correct.short in
     omega (arith, long, short)
 
@@ -80,7 +80,7 @@ same_jobs claim job report confirmed =
     (jobs_decide job report.job).1 (sym (own ∙ wanted))
 
 offered_lawful : (terms : Terms) (n : ℕ) (line : List ℕ) (report : Reported) → is_in terms.ranges n ≡ true → IsCorrectFor terms.job terms.workers n line
-    → IsLookedAt terms.job line (Ok report) → IsLawfulFor terms n report
+    → IsExamined terms.job line (Ok report) → IsLawfulFor terms n report
 offered_lawful terms n line report within correct (Whole short checked) =
     let same : checked.0 ≡ correct.claim = same_claim line checked.0 correct.claim checked.1 correct.claims in
     let mine : claim_of checked.0.version report ≡ checked.0 = checked.2.same_claim in
@@ -98,7 +98,7 @@ offered_lawful terms n line report within correct (Whole short checked) =
     )
 
 -- a line with a report of a known worker is correct for the report's number
-correct_line : (terms : Terms) (line : List ℕ) (report : Reported) → IsLookedAt terms.job line (Ok report) → report.worker ≤ terms.workers
+correct_line : (terms : Terms) (line : List ℕ) (report : Reported) → IsExamined terms.job line (Ok report) → report.worker ≤ terms.workers
     → IsCorrectFor terms.job terms.workers report.number line
 correct_line terms line report (Whole short checked) known =
     record { short = short; claim = checked.0; claims = checked.1; report = report; confirmed = checked.2; known = known; number = refl }
@@ -145,7 +145,7 @@ offers-closed (r ∷ reports) = ap (λ (more : List Reported). r ∷ more) (offe
 
 -- the line has a report that is lawful for the number
 abbrev pub IsOfLawful : Terms → ℕ → List ℕ → Type 0
-IsOfLawful terms n line = (report : Reported) × IsLookedAt terms.job line (Ok report) × IsLawfulFor terms n report
+IsOfLawful terms n line = (report : Reported) × IsExamined terms.job line (Ok report) × IsLawfulFor terms n report
 
 -- Each arrival offers a report. Each lawful report comes from a line, and each number of the set that has a correct
 -- line has a lawful report.

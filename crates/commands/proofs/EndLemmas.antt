@@ -54,7 +54,7 @@ list_hides plan workers bytes job named listed (ReadFailed error) is = absurd is
 list_hides plan workers bytes job named listed TooLong is = tt
 list_hides plan workers bytes job named listed (WriteFailed error) is = absurd is
 
--- if the job is refused and nothing was written, the complaint about the job is a right end of `gather`
+-- if the job is refused and nothing was written, the complaint about the job is a correct end of `gather`
 gathers_job : (plan : Plan) (workers : ℕ) (bytes : List ℕ) (reader : Option (List ℕ)) (complaint : Complaint)
     (output errors : Stream) → job_named plan ≡ Err complaint → IsSilent output errors
     → Reaches (gather_behaviour plan workers) reader bytes (Err complaint) output errors
@@ -64,8 +64,8 @@ gathers_job plan workers bytes reader (ReadFailed error) output errors named sil
 gathers_job plan workers bytes reader TooLong output errors named silent = absurd (job_refused plan TooLong named)
 gathers_job plan workers bytes reader (WriteFailed error) output errors named silent = absurd (job_refused plan (WriteFailed error) named)
 
--- if the job is valid and nothing was written, a refusal of the set is a right end of `gather`, and so is out of memory
--- if the set's range list is valid
+-- if the job is valid and nothing was written, a refusal of the set is a correct end of `gather`; running out of memory
+-- is a correct end if the set's range list is valid
 gathers_set : (plan : Plan) (workers : ℕ) (bytes : List ℕ) (reader : Option (List ℕ)) (job : Job)
     (complaint : Complaint) (output errors : Stream) → job_named plan ≡ Ok job → StopsSet plan.set complaint → IsSilent output errors
     → Reaches (gather_behaviour plan workers) reader bytes (Err complaint) output errors
@@ -80,7 +80,7 @@ gathers_set plan workers bytes reader job (ReadFailed error) output errors named
 gathers_set plan workers bytes reader job TooLong output errors named stops silent = absurd stops
 gathers_set plan workers bytes reader job (WriteFailed error) output errors named stops silent = absurd stops
 
--- if a complaint ended `gather` before a haul was opened, and nothing was written, the complaint is a right end
+-- if a complaint ended `gather` before a haul was opened, and nothing was written, the complaint is a correct end
 pub gathers_opening : (plan : Plan) (workers : ℕ) (bytes : List ℕ) (reader : Option (List ℕ)) (complaint : Complaint)
     (output errors : Stream) → StopsOpening plan complaint → IsSilent output errors
     → Reaches (gather_behaviour plan workers) reader bytes (Err complaint) output errors
@@ -118,7 +118,7 @@ is_gathered terms held closed census n reader left errors all same kept took clo
       missing_is = many ∙ ap (λ (t : Terms). length (missing_of t.ranges held.taken)) same;
     }
 
--- once a haul is open, the only complaint that can be right is `TooLong`, which can't be found without memory
+-- once a haul is open, the only complaint that can be correct is `TooLong`, which can't be found without memory
 long_hides : (terms : Terms) (bytes : List ℕ) → NeedsMemoryAlone (gathered_right terms bytes)
 long_hides terms bytes (Refused refusal) is = absurd is
 long_hides terms bytes (Memory error) is = absurd is
@@ -126,7 +126,7 @@ long_hides terms bytes (ReadFailed error) is = absurd is
 long_hides terms bytes TooLong is = tt
 long_hides terms bytes (WriteFailed error) is = absurd is
 
--- if memory runs out after some lines, and no write failed, this is a right end of `gather`
+-- if memory runs out after some lines, and no write failed, this is a correct end of `gather`
 gathers_memory : (terms : Terms) (bytes : List ℕ) (reader : Option (List ℕ)) (output errors : Stream) → HasBegun terms reader errors.before errors.after
     → Has output [] → errors.failed ≡ false → Reaches (haul_behaviour terms) reader bytes (Err (Memory out_of_memory)) output errors
 gathers_memory terms bytes reader output errors begun nothing fine = record {
@@ -136,7 +136,7 @@ gathers_memory terms bytes reader output errors begun nothing fine = record {
   fine = fine;
 }
 
--- a complaint that ends the gathering of lines is a right end of `gather` for the input `bytes`; if the complaint is
+-- a complaint that ends the gathering of lines is a correct end of `gather` for the input `bytes`; if the complaint is
 -- `TooLong`, there must be more than 2^32 bytes
 gathers_on : (terms : Terms) (bytes : List ℕ) (reader left : Option (List ℕ)) (complaint : Complaint) (output errors : Stream)
     → (complaint ≡ TooLong → 2 ^ 32 < length bytes)
@@ -154,7 +154,7 @@ gathers_on terms bytes reader left TooLong output errors long ends nothing = (
 gathers_on terms bytes reader left (WriteFailed error) output errors long ends nothing =
     inr (record { cut = ends; nothing = nothing })
 
--- a complaint that ends the gathering of lines is a right end of `gather` for some bytes that may be its input
+-- a complaint that ends the gathering of lines is a correct end of `gather` for some bytes that may be its input
 pub gathers_lines : (terms : Terms) (reader left : Option (List ℕ)) (complaint : Complaint) (output errors : Stream)
     → EndsLines terms reader left errors complaint → Has output []
     → (bytes : List ℕ) × IsInput reader bytes × Reaches (haul_behaviour terms) reader bytes (Err complaint) output errors
@@ -172,7 +172,7 @@ gathers_lines terms (Some all) left complaint output errors ends nothing = (
       (λ is. let long = subst (EndsLines terms (Some all) left errors) is ends in long.2) ends nothing,
 )
 
--- if all lines were gathered, each way in which the haul is finished is a right end of `gather`
+-- if all lines were gathered, each way in which the haul is finished is a correct end of `gather`
 pub gathers_haul : (terms : Terms) (held closed : Held) (reader left : Option (List ℕ)) (outcome : Outcome) (output errors : Stream)
     → (all : HasGatheredShort reader left errors held) → held.terms ≡ terms → closed.terms ≡ held.terms
     → closed.taken ≡ held.taken
@@ -232,7 +232,7 @@ opens_over plan workers job terms others named over same =
     let other : IsHaulOver plan.set workers job others = subst (IsHaulOver plan.set workers job) (sym same) over in
     rw named other
 
--- an end that is right for an open haul is right for the plan
+-- an end that is correct for an open haul is correct for the plan
 pub gathers_over : (plan : Plan) (workers : ℕ) (bytes : List ℕ) (reader : Option (List ℕ)) (job : Job) (terms : Terms)
     (outcome : Outcome) (output errors : Stream) → job_named plan ≡ Ok job → IsHaulOver plan.set workers job terms
     → Reaches (haul_behaviour terms) reader bytes outcome output errors

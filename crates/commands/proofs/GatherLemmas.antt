@@ -36,17 +36,17 @@ use Rattle.commands.specs.GatherSteps.{EndsLine, EndsLines, EndsNext, HasGathere
 use Rattle.commands.specs.LinesSoFar.{AreAllEnded, HasBegunUpTo, HasCome, HasComeBy, most_ahead}
 use Rattle.commands.specs.Lines.{HasReadLine, HasReadPart, IsLongerThan, IsOneLine, MayEnd, input_lines, piece_end, with_end}
 use Rattle.commands.proofs.LineLemmas.{after_read, all_lines, all_read, bare_part, ended_more, first_lines, lines_and, lines_bare, lines_ended, long_read, part_lines, with_ahead}
-use Rattle.commands.specs.GatheredLines.{Faulty, Front, Gathered, IsChecked, IsPrefixFault, IsLookedAt, IsWrong, ComesOf, Next, Offered, Start, Whole, offer_fault, fault_lines}
+use Rattle.commands.specs.GatheredLines.{Faulty, Prefix, Gathered, IsChecked, IsPrefixFault, IsExamined, IsWrong, ComesOf, Next, Offered, Start, Whole, offer_fault, fault_lines}
 
 -- a line causes no arrival if it is bad, is of another job, or disagrees with the finding of its soup
-pub faulty : {terms : Terms} {line : List ℕ} {fault : LineFault} {held : Held} (arrivals : List Arrival) → IsLookedAt terms.job line (Err fault)
+pub faulty : {terms : Terms} {line : List ℕ} {fault : LineFault} {held : Held} (arrivals : List Arrival) → IsExamined terms.job line (Err fault)
     → StandsFor arrivals held → (arrived : List Arrival) × ComesOf terms arrivals line arrived (Some fault) × StandsFor (arrivals ++ arrived) held
 faulty {fault} {held} arrivals is stands =
     let P : List Arrival → Type 0 = λ l. StandsFor l held in
     ([], Faulty fault is, subst P (sym (append-nil arrivals)) stands)
 
 -- a report that the haul takes is the arrival of its line, which has no fault
-pub taken : {terms : Terms} {line : List ℕ} {held : Held} (arrivals : List Arrival) (report : Reported) → IsLookedAt terms.job line (Ok report)
+pub taken : {terms : Terms} {line : List ℕ} {held : Held} (arrivals : List Arrival) (report : Reported) → IsExamined terms.job line (Ok report)
     → IsReply None (refusal_of terms arrivals report) → StandsFor (arrivals ++ Offer report ∷ []) held
     → (arrived : List Arrival) × ComesOf terms arrivals line arrived None × StandsFor (arrivals ++ arrived) held
 taken {terms} {line} arrivals report is (inl reply) stands =
@@ -54,25 +54,25 @@ taken {terms} {line} arrivals report is (inl reply) stands =
     (Offer report ∷ [], subst P (sym (ap (offer_fault report) reply)) (Offered report is), stands)
 taken arrivals report is (inr reply) stands = absurd (cc (reply.0))
 
--- a report that the haul refuses is also the arrival of its line, and `offer_fault` gives the line's fault; the reason
--- of the refusal isn't out of memory
+-- if the haul refuses a report, and not because memory ran out, the report is also the arrival of its line, and
+-- `offer_fault` gives the line's fault
 pub refused : {terms : Terms} {line : List ℕ} {held : Held} (arrivals : List Arrival) (report : Reported) (reason : OfferError) (fault : Option LineFault)
-    → IsLookedAt terms.job line (Ok report) → IsReply (Some reason) (refusal_of terms arrivals report) → reason ≢ offer_error.Memory out_of_memory
+    → IsExamined terms.job line (Ok report) → IsReply (Some reason) (refusal_of terms arrivals report) → reason ≢ offer_error.Memory out_of_memory
     → fault ≡ offer_fault report (Some reason) → StandsFor (arrivals ++ Offer report ∷ []) held
     → (arrived : List Arrival) × ComesOf terms arrivals line arrived fault × StandsFor (arrivals ++ arrived) held
-refused {terms} {line} arrivals report reason fault is (inl reply) memory diagnostics stands =
+refused {terms} {line} arrivals report reason fault is (inl reply) memory fault_is stands =
     let P : Option LineFault → Type 0 = λ fault. ComesOf terms arrivals line (Offer report ∷ []) fault in
-    (Offer report ∷ [], subst P (sym (diagnostics ∙ ap (offer_fault report) reply)) (Offered report is), stands)
-refused arrivals report reason fault is (inr reply) memory diagnostics stands = absurd (memory cc)
+    (Offer report ∷ [], subst P (sym (fault_is ∙ ap (offer_fault report) reply)) (Offered report is), stands)
+refused arrivals report reason fault is (inr reply) memory fault_is stands = absurd (memory cc)
 
--- `refused` if the fault is the result of a call, which may fail
+-- the lemma `refused` for the result of a call that returns the fault or fails
 pub refused_told : {E : Type 0} (terms : Terms) (line : List ℕ) (held : Held) (arrivals : List Arrival) (report : Reported) (reason : OfferError)
-    (result : Result (Option LineFault) E) → IsLookedAt terms.job line (Ok report) → IsReply (Some reason) (refusal_of terms arrivals report)
+    (result : Result (Option LineFault) E) → IsExamined terms.job line (Ok report) → IsReply (Some reason) (refusal_of terms arrivals report)
     → IfOk result (λ _. reason ≢ offer_error.Memory out_of_memory) → IfOk result (λ fault. fault ≡ offer_fault report (Some reason))
     → (reason ≢ offer_error.Memory out_of_memory → StandsFor (arrivals ++ Offer report ∷ []) held)
     → IfOk result (λ fault. (arrived : List Arrival) × ComesOf terms arrivals line arrived fault × StandsFor (arrivals ++ arrived) held)
-refused_told terms line held arrivals report reason (Ok fault) is reply memory diagnostics stands = refused arrivals report reason fault is reply memory diagnostics (stands memory)
-refused_told terms line held arrivals report reason (Err e) is reply memory diagnostics stands = tt
+refused_told terms line held arrivals report reason (Ok fault) is reply memory fault_is stands = refused arrivals report reason fault is reply memory fault_is (stands memory)
+refused_told terms line held arrivals report reason (Err e) is reply memory fault_is stands = tt
 
 -- if a claim disagrees with a finding of its soup, the claim is wrong, since a soup has only one finding
 pub wrong : FindingsAreDetermined → (claim : Claimed) (found : Finding) → IsFoundFor claim found → ¬ Agrees claim found → IsWrong claim
@@ -234,7 +234,7 @@ begun_part way held terms new complaint gathered same part =
     (begun_and way held terms new (part.line ++ piece_end part.end) gathered same part.consumed
     (part_lines part.line part.end part.one)).0
 
--- `begun_part` after a failed read; all lines with a line feed were gathered
+-- after a failed read, `HasBegunUpTo` holds, and all lines with a line feed were gathered
 begun_cut : (way : Passage) (held : Held) (terms : Terms) (new : Option (List ℕ)) (error : ReadError) → HasGatheredLines way held
     → held.terms ≡ terms → HasReadPart way.left new (ReadFailed error)
     → (begun : HasBegunUpTo terms way.reader new way.errors.before way.errors.after) × AreAllEnded begun.read begun.lines
@@ -299,7 +299,7 @@ many_lines way held gathered many =
     long_read (2 ^ 32) way.reader way.left gathered.read gathered.consumed
     (omega (arith, spelled, count, many, bytes_of_lines gathered.lines))
 
--- if the number of bytes used or ahead is at most `most`, no more than `most` bytes were read
+-- if the gathered lines and the bytes ahead are at most `most` bytes together, at most `most` bytes were read
 pub read_so_far : (most : ℕ) (reader left : Option (List ℕ)) (ahead : List ℕ) (errors : Stream) (count size : ℕ) (held : Held)
     → HasGatheredLines (passage reader (prepend_known ahead left) errors count size) held → size + length ahead ≤ most
     → HasReadAtMost most reader left
@@ -314,7 +314,7 @@ pub read_further : (room most : ℕ) (reader left new : Option (List ℕ)) (erro
 read_further room most reader left new errors count size held gathered few more =
     let size_is = gathered.size_is in after_read room most reader left new gathered.read gathered.consumed (omega (arith, size_is, few)) more
 
--- if reading a line fails, nothing is written
+-- if reading a line fails, and nothing is written, `EndsNext` holds
 pub next_unread : {V : Type 0} (room : ℕ) (left : Option (List ℕ)) (old : Output V) (fault : InputError)
     → (fault ≡ input_error.TooLong → IsLongerThan room left) → EndsNext room left old old (input_complaint fault)
 next_unread room left old (input_error.Unreadable failed) long = refl
@@ -373,23 +373,23 @@ lines_ended_by contents room reader left now first count size held terms old new
 
 -- if at most 2^24 bytes of a line are kept, the whole line is kept and examined
 pub looked_whole : {outcome : Result Reported LineFault} (job : Job) (kept line : List ℕ) → kept ≡ take (2 ^ 24 + 1) line → length kept ≤ 2 ^ 24
-    → IsChecked job kept outcome → IsLookedAt job line outcome
+    → IsChecked job kept outcome → IsExamined job line outcome
 looked_whole {outcome} job kept line is short checked =
     let long = ap length is ∙ length-take (2 ^ 24 + 1) line in
     let fits : length line ≤ 2 ^ 24 = omega (arith, long, short) in
     let same : kept ≡ line = is ∙ take_all (2 ^ 24 + 1) line (omega (arith, fits)) in
     Whole fits (subst (λ (l : List ℕ). IsChecked job l outcome) same checked)
 
--- `looked_whole` if the outcome is the result of a call, which may fail
+-- the lemma `looked_whole` for the result of a call that returns the outcome or fails
 pub ok_whole : {E : Type 0} (job : Job) (kept line : List ℕ) (result : Result (Result Reported LineFault) E) → kept ≡ take (2 ^ 24 + 1) line
-    → length kept ≤ 2 ^ 24 → IfOk result (IsChecked job kept) → IfOk result (IsLookedAt job line)
+    → length kept ≤ 2 ^ 24 → IfOk result (IsChecked job kept) → IfOk result (IsExamined job line)
 ok_whole job kept line (Ok outcome) is short checked = looked_whole job kept line is short checked
 ok_whole job kept line (Err e) is short checked = tt
 
 -- if more than 2^24 bytes of a line are kept, only the first 2^24 are examined, and the line is bad
 pub looked_prefix : (job : Job) (kept line : List ℕ) (place : ℕ) → kept ≡ take (2 ^ 24 + 1) line → 2 ^ 24 < length kept
-    → IsPrefixFault (take (2 ^ 24) kept) place → IsLookedAt job line (Err (BadLine place))
+    → IsPrefixFault (take (2 ^ 24) kept) place → IsExamined job line (Err (BadLine place))
 looked_prefix job kept line place is long fault =
     let size = ap length is ∙ length-take (2 ^ 24 + 1) line in
     let same : take (2 ^ 24) kept ≡ take (2 ^ 24) line = ap (take (2 ^ 24)) is ∙ take-take (2 ^ 24) (2 ^ 24 + 1) line (omega arith) in
-    Front place (omega (arith, size, long)) (subst (λ (l : List ℕ). IsPrefixFault l place) same fault)
+    Prefix place (omega (arith, size, long)) (subst (λ (l : List ℕ). IsPrefixFault l place) same fault)

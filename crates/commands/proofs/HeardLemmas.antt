@@ -1,4 +1,4 @@
--- The reports that an observer was handed are right for the plan.
+-- The reports that an observer was handed are correct reports on soups of the plan (`AreReportsOf`).
 use Rattle.std.proofs.Common.{◌≡◌, ◌∙◌, ◌≤◌, ◌++◌, ℕ, All, Bool, List, [], ◌∷◌, Option, ap, arith, cond, false, map, nat_eq, refl, subst, sym, true, true≢false, ⊎_elim}
 use Rattle.std.specs.Prelude.{count_by}
 use Rattle.haul_core.specs.Books.{Held, Terms, entry}
@@ -41,7 +41,7 @@ module _ {lets : ℕ → ℕ → Type 0} {V : Type 0} {contents : V → Option (
   pub reports_within : All (λ (r : Reported). is_in is.opened.over.ranges r.number ≡ true) h.reports
   reports_within k d lt = in_set is.opened.over.ranges opened.terms.ranges opened.taken _ is.opened.over.form (h.missing k d lt)
 
-  -- the reports are right for the plan
+  -- `AreReportsOf` holds for the reports
   abbrev pub reports_of_plan : AreReportsOf plan workers h.reports
   reports_of_plan = record {
     job = is.job;

@@ -1,4 +1,4 @@
--- Lemmas about `PutsReports` for a single report.
+-- What is written for a single report (`PutsReports`): its line, if the report is late and no write has failed.
 use Rattle.std.proofs.Common.{◌≡◌, ◌∙◌, ◌∷◌, ℕ, All, Bool, List, [], Ok, Err, Option, Result, ap, append-nil, false, refl, subst, sym, true, true≢false}
 use Rattle.std.specs.Prelude.{if◌then◌else◌}
 use Rattle.std.specs.Io.KnownBytes.{Appends}

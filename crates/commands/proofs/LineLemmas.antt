@@ -89,7 +89,7 @@ first_line (x ∷ xs) more one =
     let remainder = input_lines ((xs ++ 10 ∷ []) ++ more) in
     ap (λ b. cond b ([] ∷ remainder) (begun_with x remainder)) miss ∙ ap (begun_with x) (first_line xs more (All-tail IsNotFeed x xs one))
 
--- `first_line` for several lines
+-- the lemma `first_line` for several lines
 ended_lines : (lines : List (List ℕ)) (more : List ℕ) → All IsOneLine lines → input_lines (flat_map (with_end Feed) lines ++ more) ≡ lines ++ input_lines more
 ended_lines [] more whole = refl
 ended_lines (line ∷ lines) more whole =
@@ -189,7 +189,7 @@ pub part_of_line : (room : ℕ) (old new : Option (List ℕ)) (kept : List ℕ) 
 part_of_line room old new kept read complaint is cut =
     record { line = is.line; end = Some read.end; one = is.one; consumed = is.consumed; cut = cut }
 
--- ---- the bytes that are ahead, and those that a reader has left
+-- ---- the bytes that were read ahead, and the bytes that are left in the input
 
 -- an input at its end has nothing left, whatever was known before
 spent : (old new : Option (List ℕ)) → IsAtEnd new → IsSpent old new
@@ -215,7 +215,7 @@ piece_taken old left ahead shown next read same piece kept is end =
 
 -- ---- how much was read
 
--- if the number of bytes used or ahead is at most `most`, no more than `most` bytes were read
+-- if the bytes used and the bytes ahead are at most `most` together, at most `most` bytes were read
 pub with_ahead : (most : ℕ) (old left : Option (List ℕ)) (read ahead : List ℕ) → Consumes old (prepend_known ahead left) read
     → length read + length ahead ≤ most → HasReadAtMost most old left
 with_ahead most old left read ahead consumed few =
@@ -232,7 +232,7 @@ pub little : (room once size : ℕ) (old left : Option (List ℕ)) (read ahead :
 little room once size old left read ahead consumed is short few =
     with_ahead (room + once) old left read ahead consumed (omega (arith, is, short, few))
 
--- `little` after a piece of `more` bytes was taken from the bytes that were ahead
+-- the lemma `little` after a piece of `more` bytes was taken from the bytes that were ahead
 pub little_more : (room once size more : ℕ) (old left : Option (List ℕ)) (read ahead : List ℕ) → Consumes old (prepend_known ahead left) read
     → size + more ≡ length read → size ≤ room → more + length ahead ≤ once → HasReadAtMost (room + once) old left
 little_more room once size more old left read ahead consumed is short few =

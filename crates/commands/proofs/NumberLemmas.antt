@@ -14,11 +14,11 @@ range_push : (a n : ℕ) → range_with_len a (suc n) ≡ range_with_len a n ++ 
 range_push a zero = ap (λ (k : ℕ). k ∷ []) (sym (add-zero a))
 range_push a (suc n) = ap (λ (more : List ℕ). a ∷ more) (range_push (a + 1) n ∙ ap (λ (k : ℕ). range_with_len (a + 1) n ++ k ∷ []) (omega arith))
 
--- a range with one more number has the same numbers and then that number
+-- a range of n + 1 numbers consists of its first n numbers, followed by its last number j
 pub range_more : (a n j : ℕ) → a + n ≡ j → range_with_len a (n + 1) ≡ range_with_len a n ++ j ∷ []
 range_more a n j e = ap (range_with_len a) (add-one n) ∙ range_push a n ∙ ap (λ (k : ℕ). range_with_len a n ++ k ∷ []) e
 
--- ---- the numbers of ranges lie in them
+-- ---- the numbers of ranges lie in the ranges
 
 numbers_between : (low high a k : ℕ) → low ≤ a → a + k ≤ high → All (λ n. (low ≤ n) × (n < high)) (range_with_len a k)
 numbers_between low high a zero begin end_ = All-nil (λ n. (low ≤ n) × (n < high))

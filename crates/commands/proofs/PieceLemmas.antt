@@ -1,4 +1,4 @@
--- The piece of a line at the beginning of some bytes.
+-- The piece of a line at the beginning of some bytes: it goes up to the first line feed, or has all bytes.
 use Rattle.std.proofs.Common.{◌≡◌, ◌≢◌, ◌<◌, ◌≤◌, ◌+◌, ◌∙◌, ◌++◌, ◌==◌, ℕ, zero, suc, false, true}
 use Rattle.std.proofs.Common.{List, [], ◌∷◌, Some, None, ap, append-nil, arith, get_or, length, refl, sym, take}
 use Rattle.std.proofs.lemmas.Bool.{eqb-false, eqb-true}

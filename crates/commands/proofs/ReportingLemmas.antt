@@ -1,4 +1,4 @@
--- Lemmas about `take --report-from`: each way in which it ends is right.
+-- Lemmas about `take --report-from`: each way in which the command ends is correct.
 use Rattle.std.proofs.Common.{◌≡◌, ◌≢◌, ◌∙◌, ◌↔◌, ℕ, Bool, List, [], None, Option, Result, Ok, Err, inl, inr, false, length, refl, subst, sym}
 use Rattle.std.specs.Prelude.{IfErr, IfOk, MatchResult, OnOk}
 use Rattle.memory.specs.Witness.{out_of_memory}
@@ -31,7 +31,7 @@ use Rattle.commands.proofs.HeardLemmas.{reports_of_plan, reports_on_all}
 use Rattle.commands.proofs.TakeLemmas.{Stops_memory, complete_right, not_done, prints_right, right_given}
 
 -- if a complaint stops the command before a haul is open, and nothing was written to either stream, the complaint is a
--- right end of the command
+-- correct end of the command
 pub reporting_stops : (plan : Plan) (workers from : ℕ) (reader : Option (List ℕ)) (bytes : List ℕ) (complaint : Complaint) (output errors : Stream)
     → Stops (take_right plan) complaint → Has output [] → IsUntouched errors
     → Reaches (reporting_behaviour plan workers from) reader bytes (Err complaint) output errors
@@ -57,7 +57,7 @@ module _ {V : Type 0} {contents : V → Option (List ℕ)} {plan : Plan} {worker
   told_so_far fine =
       record { reports = h.heard.reports; are = reports_of_plan is h.heard; written = (h.heard.heard.whole fine).1 }
 
-  -- out of memory is a right end if no write has failed
+  -- running out of memory is a correct end of the command if no write has failed
   lacks : (reader : Option (List ℕ)) (bytes : List ℕ) (output : Stream) → Has output [] → new.failed ≡ false
       → ReachesReporting reader bytes (Err (Memory out_of_memory)) output
   lacks reader bytes output nothing fine = record {
@@ -67,7 +67,7 @@ module _ {V : Type 0} {contents : V → Option (List ℕ)} {plan : Plan} {worker
     fine = fine;
   }
 
-  -- a complaint that stops the crew is a right end of the command
+  -- a complaint that stops the crew is a correct end of the command
   pub reporting_gives_up : (reader : Option (List ℕ)) (bytes : List ℕ) (complaint : Complaint) (output : Stream) → StopsReporting new.failed complaint
       → Has output [] → ReachesReporting reader bytes (Err complaint) output
   reporting_gives_up reader bytes (Memory error) output fine nothing = lacks reader bytes output nothing fine
@@ -80,7 +80,7 @@ module _ {V : Type 0} {contents : V → Option (List ℕ)} {plan : Plan} {worker
   reporting_gives_up reader bytes (ReadFailed error) output stops nothing = absurd stops
   reporting_gives_up reader bytes TooLong output stops nothing = absurd stops
 
-  -- if nothing stopped the crew, each way in which writing the haul text ends is a right end of the command
+  -- if nothing stopped the crew, each way in which writing the haul text ends is a correct end of the command
   finishes : (reader : Option (List ℕ)) (bytes : List ℕ) (outcome : Outcome) (output : Stream)
       → (new.failed ≡ false) × IsComplete held.terms.ranges held.taken × AreAll held.terms.ranges (numbers_in held.taken)
       → (length (missing_of held.terms.ranges held.taken) ≡ 0) ↔ IsComplete held.terms.ranges held.taken → Finishes held outcome output
@@ -131,7 +131,7 @@ module _ {V : Type 0} {contents : V → Option (List ℕ)} {plan : Plan} {worker
       go (Err TooLong) not = absurd not
       go (Err (Refused refusal)) not = absurd not
 
--- once the haul is open, each way in which the command ends is right
+-- once the haul is open, each way in which the command ends is correct
 pub reporting_ends : {V : Type 0} {contents : V → Option (List ℕ)} {plan : Plan} {workers from : ℕ} {opened held : Held} {old new : Output V}
     (taken : Result (Unit {0}) Complaint) (is : IsOpenedFor plan workers opened) (h : HasReportedBy contents workers from opened held old new taken)
     (reader : Option (List ℕ)) (bytes : List ℕ) (outcome : Outcome) (output : Stream)
@@ -188,7 +188,7 @@ heard_as hears others turn h = record {
   added = h.added;
 }
 
--- `heard_as` for both ways in which a crew ends
+-- the lemma `heard_as` for both ways in which a crew ends
 pub heard_by_both : {E : Type 0} (lets : ℕ → ℕ → Type 0) (workers : ℕ) (old : Held) (hears others : List Reported → Type 0)
     → ((reports : List Reported) → hears reports → others reports) → (ended : Result Held (Held × E))
     → MatchResult ended (λ done. HasHeardCrew lets workers old done hears) (λ back. HasHeardCrew lets workers old back.0 hears)

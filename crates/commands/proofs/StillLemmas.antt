@@ -25,8 +25,8 @@ reports_accepted P job worker numbers r output puts = never_refused P r (go r pu
     go : (r : TextOutcome) → Puts (reports_on job worker numbers) r output
         → IfErr r (λ complaint. status_of complaint ≢ Refused)
     go (Ok a) is = tt
-    go (Err (complaint.Memory error)) is = λ diagnostics. cc
-    go (Err (complaint.WriteFailed error)) is = λ diagnostics. cc
+    go (Err (complaint.Memory error)) is = λ is_refused. cc
+    go (Err (complaint.WriteFailed error)) is = λ is_refused. cc
     go (Err (complaint.ReadFailed error)) is = absurd is
     go (Err complaint.TooLong) is = absurd is
     go (Err (complaint.Refused refusal)) is = absurd is

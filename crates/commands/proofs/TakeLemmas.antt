@@ -1,4 +1,4 @@
--- Lemmas about `take`: each way in which it ends is right.
+-- Lemmas about `take`: each way in which the command ends is correct.
 use Rattle.std.proofs.Common.{◌≡◌, ◌≢◌, ◌∙◌, ◌≤◌, ◌⊎◌, ◌↔◌, ℕ, zero, suc, Bool, true, false, cond, inl, inr, nat_eq, nat_le, not, length}
 use Rattle.std.proofs.Common.{List, [], Option, Result, Ok, Err, All, ap, sym, subst, refl, arith}
 use Rattle.std.specs.Prelude.{Contains, IfErr, IfOk}
@@ -61,9 +61,9 @@ use Rattle.commands.proofs.NumberLemmas.{numbers_within}
 
 -- if a set's range list is valid, finding a refusal of the set needs memory
 refused_needs_memory : (set : SoupSet) (refusal : Refusal) → IsListText set.also → IsRefused set refusal → NeedsMemory (Refused refusal)
-refused_needs_memory set refusal list (Bad_list not_list place fault diagnostics) = absurd (not_list list)
-refused_needs_memory set refusal list (Too_large ranges named large diagnostics) = subst (λ (r : Refusal). NeedsMemory (Refused r)) (sym diagnostics) tt
-refused_needs_memory set refusal list (Overlapping ranges named small overlap diagnostics) = subst (λ (r : Refusal). NeedsMemory (Refused r)) (sym diagnostics) tt
+refused_needs_memory set refusal list (Bad_list not_list place fault refusal_is) = absurd (not_list list)
+refused_needs_memory set refusal list (Too_large ranges named large refusal_is) = subst (λ (r : Refusal). NeedsMemory (Refused r)) (sym refusal_is) tt
+refused_needs_memory set refusal list (Overlapping ranges named small overlap refusal_is) = subst (λ (r : Refusal). NeedsMemory (Refused r)) (sym refusal_is) tt
 
 needs_memory : (set : SoupSet) (tells : List Range → List ℕ → Type 0) (complaint : Complaint) → IsListText set.also
     → IsRightForSet set tells (Err complaint) → NeedsMemory complaint
@@ -93,7 +93,7 @@ Stops_list set text (list_error.BadList place) is complete fault memory =
     Bad_list not_list place (subst (λ (t : List ℕ). IsFirstListFault t place) is (fault place refl)) refl
 Stops_list set text (list_error.Memory refused) is complete fault memory = subst IsListText is (memory refl)
 
--- if a complaint stops a command, the command ends with this complaint, and nothing was written to the output
+-- if a complaint stops a command, and nothing was written to the output, the command may end with this complaint
 pub Reaches_stopped : (right : Right) (complaint : Complaint) (output : Stream) → Stops right complaint → Has output []
     → ReachesText false false right (Err complaint) output
 Reaches_stopped right (Refused refusal) output stops nothing = (stops, nothing)
@@ -190,7 +190,7 @@ pub not_opened : (plan : Plan) (job : Job) → job_named plan ≡ Ok job
 not_opened plan job named (Ok held) stops = tt
 not_opened plan job named (Err complaint) stops = inr (job, named, stops)
 
--- an answer that is right for the plan's job is right for the plan
+-- a text that is correct for the plan's job is correct for the plan
 pub right_given : (plan : Plan) (next : Job → Right) (job : Job) (text : List ℕ)
     → job_named plan ≡ Ok job → next job (Ok text) → IsRightGiven (job_named plan) next (Ok text)
 right_given plan next job text named right = rw named right
@@ -239,7 +239,7 @@ counted_by job set opened held census open_ h is =
     subst (λ (j : Job). IsCensus j opened.terms.ranges (numbers_in held.taken) census) open_.job_is
     (subst (λ (t : Terms). IsCensus t.job t.ranges (numbers_in held.taken) census) h.terms is)
 
--- if all soups were taken, the haul text is right
+-- if all soups were taken, the haul text is correct
 pub complete_right : {workers : ℕ} (job : Job) (set : SoupSet) (opened held : Held) (census : Census) → IsOpened job set workers opened
     → HasTakenMore opened held → AreAll held.terms.ranges (numbers_in held.taken)
     → IsCensus held.terms.job held.terms.ranges (numbers_in held.taken) census → IsRightForSet set (TellsAll job) (Ok (haul_text census))
@@ -260,11 +260,12 @@ complete_right job set opened held census open_ h all is = record {
   };
 }
 
--- which texts are right if numbers are missing: the gate may have stopped a worker, and the text tells what was taken
+-- which texts are correct if soups are missing: the gate may have stopped a worker, and the text has the census of the
+-- soups that were taken
 abbrev stopped_text : (may_stop lets : ℕ → ℕ → Type 0) → (workers missing : ℕ) → Job → List Range → List ℕ → Type 0
 stopped_text may_stop lets workers missing job ranges text = MayStop may_stop ranges × TellsTaken lets workers job ranges missing text
 
--- if numbers are missing, and the gate may have stopped a worker, the haul text of what was taken is right
+-- if soups are missing, and the gate may have stopped a worker, the haul text of the soups that were taken is correct
 pub stopped_told : (may_stop lets : ℕ → ℕ → Type 0) (workers : ℕ) (job : Job) (set : SoupSet) (opened held : Held) (census : Census) (missing : ℕ)
     → IsOpened job set workers opened → HasTakenMore opened held → All (λ t. is_in held.terms.ranges t.1 ≡ true) held.taken
     → IsDistinct nat_eq (numbers_in held.taken) → All (IsLetIn lets workers) held.taken → missing ≡ length (missing_of held.terms.ranges held.taken)
@@ -295,7 +296,7 @@ stopped_told may_stop lets workers job set opened held census missing open_ h wi
   );
 }
 
--- the haul text of what was taken is right, whether or not numbers are missing
+-- the haul text of the soups that were taken is correct, whether or not soups are missing
 taken_told : (may_stop lets : ℕ → ℕ → Type 0) (workers : ℕ) (plan : Plan) (held : Held) (census : Census)
     (missing : ℕ) → IsTaken may_stop lets plan workers held → missing ≡ length (missing_of held.terms.ranges held.taken)
     → (missing ≡ 0) ↔ IsComplete held.terms.ranges held.taken → IsCensusOf held census
@@ -316,7 +317,7 @@ taken_told may_stop lets workers plan held census missing h many none is = go mi
 
 -- ---- how `take` ends
 
--- if a complaint stops a command, the command ends with this complaint, and nothing was written to the output
+-- if a complaint stops `take`, and nothing was written to either stream, `take` may end with this complaint
 pub take_stops : (may_stop lets : ℕ → ℕ → Type 0) (workers : ℕ) (plan : Plan) (reader : Option (List ℕ)) (bytes : List ℕ)
     (complaint : Complaint) (output errors : Stream) → Stops (take_right plan) complaint → Has output [] → IsUntouched errors
     → Reaches (gated_behaviour may_stop lets plan workers) reader bytes (Err complaint) output errors
@@ -328,7 +329,7 @@ take_stops may_stop lets workers plan reader bytes (ReadFailed error) output err
 take_stops may_stop lets workers plan reader bytes TooLong output errors stops nothing still = absurd stops
 take_stops may_stop lets workers plan reader bytes (WriteFailed error) output errors stops nothing still = absurd stops
 
--- each way in which writing the haul text ends is a right end of `take`
+-- each way in which writing the haul text ends is a correct end of `take`
 take_finishes : (may_stop lets : ℕ → ℕ → Type 0) (workers : ℕ) (plan : Plan) (reader : Option (List ℕ))
     (bytes : List ℕ) (held : Held) (outcome : Outcome) (output errors : Stream) → IsTaken may_stop lets plan workers held
     → (length (missing_of held.terms.ranges held.taken) ≡ 0) ↔ IsComplete held.terms.ranges held.taken → Finishes held outcome output → IsUntouched errors
@@ -364,7 +365,7 @@ take_finishes may_stop lets workers plan reader bytes held (Err (ReadFailed erro
 take_finishes may_stop lets workers plan reader bytes held (Err TooLong) output errors h none not still = absurd not
 take_finishes may_stop lets workers plan reader bytes held (Err (Refused refusal)) output errors h none not still = absurd not
 
--- once its haul is open, each way in which `take` ends is right
+-- once its haul is open, each way in which `take` ends is correct
 pub take_ends : (may_stop lets : ℕ → ℕ → Type 0) (workers : ℕ) (plan : Plan)
     (reader : Option (List ℕ)) (bytes : List ℕ) (opened held : Held) (taken : Result (Unit {0}) Complaint) (outcome : Outcome) (output errors : Stream)
     → IsOpenedFor plan workers opened → HasTakenMore opened held → All (λ t. is_in held.terms.ranges t.1 ≡ true) held.taken
@@ -389,20 +390,20 @@ take_ends may_stop lets workers plan reader bytes opened held (Err complaint) ou
     subst (λ (o : Outcome). Reaches (gated_behaviour may_stop lets plan workers) reader bytes o output errors) (sym (gives_up.0 ∙ ap Err memory))
     (take_stops may_stop lets workers plan reader bytes (Memory out_of_memory) output errors (Stops_memory plan opened is) gives_up.1 still)
 
--- out of memory isn't a refusal
+-- the complaint that memory ran out isn't a refusal
 pub memory_accepted : (taken : Result (Unit {0}) Complaint) → IfErr taken (λ complaint. complaint ≡ Memory out_of_memory)
     → IfErr taken (λ complaint. status_of complaint ≢ statuses.Refused)
 memory_accepted (Ok u) memory = tt
 memory_accepted (Err complaint) memory = λ refused. let bad : statuses.Memory ≡ statuses.Refused = sym (ap status_of memory) ∙ refused in cc
 
--- if a gate stops no worker, no text with missing soups is right
+-- if a gate stops no worker, no text with missing soups is correct
 never_right : (may_stop lets : ℕ → ℕ → Type 0) (workers : ℕ) (plan : Plan) (missing : ℕ) (text : List ℕ)
     → ((worker n : ℕ) → may_stop worker n → ⊥) → stopped_right may_stop lets plan workers missing (Ok text) → ⊥
 never_right may_stop lets workers plan missing text never = go (job_named plan)
   where
     go : (r : Result Job Complaint)
         → IsRightGiven r (λ job. IsRightForSet plan.set (stopped_text may_stop lets workers missing job)) (Ok text) → ⊥
-    go (Ok job) diagnostics = let stops = diagnostics.is_text.0 in never stops.0 stops.1 stops.3
+    go (Ok job) is = let stops = is.is_text.0 in never stops.0 stops.1 stops.3
     go (Err complaint) is = cc
 
 -- if a gate stops no worker, `take` makes only the haul text of the complete haul
@@ -457,7 +458,7 @@ never_stopped may_stop lets workers plan reader bytes status output errors never
 
 -- ---- what `take` prints
 
--- if a text that is right for a plan was printed, the census of the plan's job over the plan's set was printed
+-- if a text that is correct for a plan was printed, the census of the plan's job over the plan's set was printed
 pub prints_right : (plan : Plan) (text : List ℕ) (before after : Option (List ℕ)) → take_right plan (Ok text)
     → Appends before after text → PrintsCensus plan before after
 prints_right plan text before after right grown = go (job_named plan) refl right

@@ -1,4 +1,4 @@
--- Lemmas about `work`: the lines of reports are written one after another, and they are the only right text.
+-- Lemmas about `work`: the lines of reports are written one after another, and they are the only correct text.
 use Rattle.std.proofs.Common.{◌≡◌, ◌∙◌, ◌+◌, ◌-◌, ◌<◌, ◌≤◌, ◌++◌, ℕ, zero, suc, Bool, true, false, List, [], ◌∷◌, Option, Ok, Err, flat_map, refl, sym, ap, ap₂}
 use Rattle.std.proofs.Common.{IfErr, length, take, drop, get_or, inr, subst, arith, append_assoc, append-nil, add-zero, zero-add}
 use Rattle.std.proofs.lemmas.List.{take-append-drop, take_more}
@@ -70,7 +70,7 @@ puts_one job worker n report output is wrote fine = record {
 -- `Puts` holds if one number is wanted, writing the report on it failed, and a prefix of the report was written
 pub puts_failed : (job : Job) (worker n : ℕ) (report : Reported) (output : Stream) (error : WriteError) → IsReportOn job worker n report → HasPrefix output (report_text report)
     → output.failed ≡ true → Puts (reports_on job worker (n ∷ [])) (Err (WriteFailed error)) output
-puts_failed job worker n report output error is wrote diagnostics = (
+puts_failed job worker n report output error is wrote has_failed = (
   record {
     done = n ∷ [];
     more = [];
@@ -79,10 +79,11 @@ puts_failed job worker n report output error is wrote diagnostics = (
     each = (is, tt);
     is_written = subst (HasPrefix output) (sym (append-nil (report_text report))) wrote;
   },
-  diagnostics,
+  has_failed,
 )
 
--- if the reports on `ns` were written, and then `Puts` holds for those on `ms`, it holds for those on `ns ++ ms`
+-- if the reports on `ns` were written, and then `Puts` holds for the reports on `ms`, `Puts` holds for the reports on
+-- `ns ++ ms`
 pub puts_then : (job : Job) (worker : ℕ) (ns ms : List ℕ) (outcome : TextOutcome) (x y z : Option (List ℕ)) (was failed : Bool)
     → Puts (reports_on job worker ns) (Ok tt) (over x y was) → Puts (reports_on job worker ms) outcome (over y z failed)
     → Puts (reports_on job worker (ns ++ ms)) outcome (over x z failed)
@@ -102,7 +103,7 @@ puts_then job worker ns ms (Err (Memory error)) x y z was failed one two = recor
   is_written = subst (Appends x z) (sym (lines-append one.reports two.reports))
       (Appends-append x y z (flat_map report_text one.reports) (flat_map report_text two.reports) one.is_written two.is_written);
 }
-puts_then job worker ns ms (Err (WriteFailed error)) x y z was failed one (two, diagnostics) = (
+puts_then job worker ns ms (Err (WriteFailed error)) x y z was failed one (two, has_failed) = (
   record {
     done = ns ++ two.done;
     more = two.more;
@@ -112,7 +113,7 @@ puts_then job worker ns ms (Err (WriteFailed error)) x y z was failed one (two, 
     is_written = subst (HasPrefix (over x z failed)) (sym (lines-append one.reports two.reports))
         (AppendsPrefix-append x y z (flat_map report_text one.reports) (flat_map report_text two.reports) one.is_written two.is_written);
   },
-  diagnostics,
+  has_failed,
 )
 puts_then job worker ns ms (Err (ReadFailed error)) x y z was failed one two = absurd two
 puts_then job worker ns ms (Err TooLong) x y z was failed one two = absurd two
@@ -130,7 +131,7 @@ puts_stops job worker ns ms (Memory error) output h = record {
   each = h.each;
   is_written = h.is_written;
 }
-puts_stops job worker ns ms (WriteFailed error) output (h, diagnostics) = (
+puts_stops job worker ns ms (WriteFailed error) output (h, has_failed) = (
   record {
     done = h.done;
     more = h.more ++ ms;
@@ -139,7 +140,7 @@ puts_stops job worker ns ms (WriteFailed error) output (h, diagnostics) = (
     each = h.each;
     is_written = h.is_written;
   },
-  diagnostics,
+  has_failed,
 )
 puts_stops job worker ns ms (ReadFailed error) output h = absurd h
 puts_stops job worker ns ms TooLong output h = absurd h
@@ -155,7 +156,7 @@ range_split a (suc n) k =
     ap (range_with_len a) here
     ∙ ap (λ (more : List ℕ). a ∷ more) (range_split (a + 1) n k ∙ ap (λ (m : ℕ). range_with_len (a + 1) n ++ range_with_len m k) there)
 
--- `puts_then` for one more number of a range
+-- the lemma `puts_then` for one more number of a range
 pub puts_next : (job : Job) (worker first number : ℕ) (outcome : TextOutcome) (x y z : Option (List ℕ)) (was failed : Bool) → first ≤ number
     → Puts (reports_on job worker (range_with_len first (number - first))) (Ok tt) (over x y was)
     → Puts (reports_on job worker (number ∷ [])) outcome (over y z failed)
@@ -177,7 +178,7 @@ puts_short job worker first number count complaint output low high h =
     (sym (range_split first k (count - k)) ∙ ap (range_with_len first) whole)
     (puts_stops job worker (range_with_len first k) (range_with_len (first + k) (count - k)) complaint output h)
 
--- `puts_then` for one more range
+-- the lemma `puts_then` for one more range
 pub puts_more : (job : Job) (worker : ℕ) (ranges : List Range) (i : ℕ) (d : Range) (outcome : TextOutcome) (x y z : Option (List ℕ)) (was failed : Bool)
     → i < length ranges → Puts (reports_on job worker (numbers_of (take i ranges))) (Ok tt) (over x y was)
     → Puts (reports_on job worker (numbers_of_range (get_or ranges i d))) outcome (over y z failed)
@@ -198,7 +199,7 @@ puts_early job worker ranges k complaint output h =
     (sym (flat_map-append numbers_of_range (take k ranges) (drop k ranges)) ∙ ap numbers_of (take-append-drop k ranges))
     (puts_stops job worker (numbers_of (take k ranges)) (numbers_of (drop k ranges)) complaint output h)
 
--- ---- there is only one right text
+-- ---- there is only one correct text
 
 -- two reports of a worker on one soup are equal
 same_report : FindingsAreDetermined → (job : Job) (worker n : ℕ) (r s : Reported) → IsReportOn job worker n r → IsReportOn job worker n s → r ≡ s
@@ -229,7 +230,7 @@ first_reports determined job worker (n ∷ done) more (r ∷ rs) (s ∷ all) eac
 record AreLines (job : Job) (worker : ℕ) (numbers : List ℕ) (answer : Answer) : Type 0 where
   pub reports : List Reported
   pub each : AreReportsOn job worker numbers reports
-  pub diagnostics : answer ≡ Ok (flat_map report_text reports)
+  pub answer_is : answer ≡ Ok (flat_map report_text reports)
 
 only_text : OneNormalForm → (job : Job) (worker : ℕ) (set : SoupSet) (normal : List Range) → AreNormalRanges set normal → (answer : Answer)
     → IsRightForSet set (TellsReports job worker) answer → AreLines job worker (numbers_of normal) answer
@@ -242,20 +243,20 @@ only_text one_form job worker set normal over (Ok text) is =
     record {
       reports = tells.reports;
       each = subst (λ (rs : List Range). AreReportsOn job worker (numbers_of rs) tells.reports) forms tells.each;
-      diagnostics = ap Ok tells.text_is;
+      answer_is = ap Ok tells.text_is;
     }
-only_text one_form job worker set normal over (Err (Refused refusal)) (Bad_list not_list place fault diagnostics) = absurd (not_list
+only_text one_form job worker set normal over (Err (Refused refusal)) (Bad_list not_list place fault is_refused) = absurd (not_list
     (listed set over.ranges over.named))
-only_text one_form job worker set normal over (Err (Refused refusal)) (Too_large ranges named large diagnostics) =
+only_text one_form job worker set normal over (Err (Refused refusal)) (Too_large ranges named large is_refused) =
     absurd (large (subst AreSmall (sym (over.only ranges named)) over.small))
-only_text one_form job worker set normal over (Err (Refused refusal)) (Overlapping ranges named small overlap diagnostics) =
+only_text one_form job worker set normal over (Err (Refused refusal)) (Overlapping ranges named small overlap is_refused) =
     absurd (over.apart (subst Overlap (over.only ranges named) overlap))
 only_text one_form job worker set normal over (Err (Memory error)) is = absurd is
 only_text one_form job worker set normal over (Err (ReadFailed error)) is = absurd is
 only_text one_form job worker set normal over (Err TooLong) is = absurd is
 only_text one_form job worker set normal over (Err (WriteFailed error)) is = absurd is
 
--- if a prefix of the first reports' lines was written, it is a prefix of the right text
+-- if a prefix of the first reports' lines was written, this is a prefix of the correct text
 prefix_of : FindingsAreDetermined → (job : Job) (worker : ℕ) (numbers : List ℕ) (answer : Answer) (output : Stream) → AreLines job worker numbers answer
     → IsBegun (reports_on job worker numbers) (HasPrefix output) → HasPrefix output (output_text answer)
 prefix_of determined job worker numbers answer output tells begun =
@@ -263,7 +264,7 @@ prefix_of determined job worker numbers answer output tells begun =
     let remainder = first_reports determined job worker begun.done begun.more begun.reports tells.reports begun.each every in
     let lines : flat_map report_text tells.reports ≡ flat_map report_text begun.reports ++ flat_map report_text remainder.0 =
     ap (flat_map report_text) remainder.1 ∙ lines-append begun.reports remainder.0 in
-    let is : output_text answer ≡ flat_map report_text begun.reports ++ flat_map report_text remainder.0 = ap output_text tells.diagnostics ∙ lines in
+    let is : output_text answer ≡ flat_map report_text begun.reports ++ flat_map report_text remainder.0 = ap output_text tells.answer_is ∙ lines in
     subst (HasPrefix output) (sym is)
     (AppendsPrefix-longer output.before output.after (flat_map report_text begun.reports) (flat_map report_text remainder.0) begun.is_written)
 
@@ -280,7 +281,7 @@ begun_whole job worker numbers output begun = record {
   is_written = (flat_map report_text begun.reports, [], sym (append-nil (flat_map report_text begun.reports)), begun.is_written);
 }
 
--- each way in which the reports on a plan's soups end is a right end of `work`
+-- each way in which the reports on a plan's soups end is a correct end of `work`
 pub reaches_work : FindingsAreDetermined → OneNormalForm → (plan : Plan) (worker : ℕ) (job : Job) (normal : List Range)
     (outcome : TextOutcome) (output : Stream) → job_named plan ≡ Ok job → AreNormalRanges plan.set normal
     → Puts (reports_on job worker (numbers_of normal)) outcome output
@@ -295,29 +296,29 @@ reaches_work determined one_form plan worker job normal outcome output named ove
 
     never : (complaint : Complaint) → right (Err complaint) → ⊥
     never complaint is =
-        let diagnostics = (tells (Err complaint) is).diagnostics in
+        let refused = (tells (Err complaint) is).answer_is in
         cc
 
     go : (o : TextOutcome) → Puts (reports_on job worker (numbers_of normal)) o output
         → ReachesText false false right o output
     go (Ok u) put =
         let text : List ℕ = flat_map report_text put.reports in
-        let diagnostics : IsRightForSet plan.set (TellsReports job worker) (Ok text) = record {
+        let correct : IsRightForSet plan.set (TellsReports job worker) (Ok text) = record {
           ranges = over.ranges;
           named = over.named;
           small = over.small;
           apart = over.apart;
           is_text = record { normal = normal; form = over.form; reports = put.reports; each = put.each; text_is = refl };
         } in
-        ((text, rw named diagnostics, put.is_written), put.fine)
+        ((text, rw named correct, put.is_written), put.fine)
     go (Err (Memory error)) begun = (
       λ unread complaint is. absurd (never complaint is),
       λ answer is. prefix_of determined job worker (numbers_of normal) answer output (tells answer is)
           (begun_whole job worker (numbers_of normal) output begun),
     )
-    go (Err (WriteFailed error)) (begun, diagnostics) = (
+    go (Err (WriteFailed error)) (begun, has_failed) = (
       (never, λ text is. prefix_of determined job worker (numbers_of normal) (Ok text) output (tells (Ok text) is) begun),
-      diagnostics,
+      has_failed,
     )
     go (Err (ReadFailed error)) put = absurd put
     go (Err TooLong) put = absurd put

@@ -16,8 +16,8 @@ use Rattle.commands.specs.Gathering.{gather_opens, gather_right}
 use Rattle.commands.specs.GatheredLines.{Claims}
 use Rattle.commands.specs.Lines.{input_lines}
 
--- The line is correct for the soup with this number: it has at most 2^24 bytes, its claim about this soup of the job is
--- right, and the number of the claim's worker is at most `workers`.
+-- The line is correct for the soup with this number: it has at most 2^24 bytes, its claim is about this soup of the job
+-- and is correct, and the number of the claim's worker is at most `workers`.
 pub record IsCorrectFor (job : Job) (workers n : ℕ) (line : List ℕ) : Type 0 where
   pub short : length line ≤ 2 ^ 24
   pub claim : Claimed
@@ -31,8 +31,8 @@ pub record IsCorrectFor (job : Job) (workers n : ℕ) (line : List ℕ) : Type 0
 abbrev pub HasCorrectLine : Job → (workers : ℕ) → List ℕ → ℕ → Type 0
 HasCorrectLine job workers bytes n = Any (IsCorrectFor job workers n) (input_lines bytes)
 
--- The text is the haul text over the numbers of the set that have a correct line, each once. Nothing is missing if and
--- only if each number of the set has a correct line.
+-- The text is the haul text of the soups of the set that have a correct line, each counted once. No soup is missing if
+-- and only if each soup of the set has a correct line.
 pub record TakesCorrectLines (terms : Terms) (bytes : List ℕ) (made : Made) : Type 0 where
   pub numbers : List ℕ
   pub once : (n : ℕ) → count_by (nat_eq n) numbers ≤ 1
@@ -42,7 +42,7 @@ pub record TakesCorrectLines (terms : Terms) (bytes : List ℕ) (made : Made) : 
   pub text_is : made.text ≡ haul_text census
   pub whole : (made.missing ≡ 0) ↔ ((n : ℕ) → is_in terms.ranges n ≡ true → HasCorrectLine terms.job terms.workers bytes n)
 
--- `TakesCorrectLines` holds for a haul with the plan's set and job and this number of workers
+-- `TakesCorrectLines` holds for a haul with the plan's set, the plan's job and this number of workers
 pub record IsOfCorrectLines (plan : Plan) (workers : ℕ) (bytes : List ℕ) (made : Made) : Type 0 where
   pub terms : Terms
   pub opened : gather_opens plan workers terms

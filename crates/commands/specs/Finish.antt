@@ -10,7 +10,7 @@ use Rattle.pattern_commands.specs.declared.ending.complaint.Complaint.TheVariant
 use Rattle.pattern_commands.specs.Reached.{Outcome}
 use Rattle.pattern_commands.specs.Streams.{Stream, Has, HasPrefix}
 
--- the census of what a haul has taken
+-- the census of the soups that a haul has taken
 abbrev pub IsCensusOf : Held → Census → Type 0
 IsCensusOf held census = IsCensus held.terms.job held.terms.ranges (numbers_in held.taken) census
 

@@ -35,15 +35,15 @@ IsChecked job line (Err OtherJob) = (claim : Claimed) × Claims line claim × (s
 IsChecked job line (Err Disagrees) = (claim : Claimed) × Claims line claim × (same_job claim.job job ≡ true) × IsWrong claim
 IsChecked job line (Err _) = ⊥
 
--- A line that is longer than this prefix is bad at the first fault of the prefix, or at 2^24 if the prefix is a claim's
--- line.
+-- The place at which a line is bad if it begins with this prefix of 2^24 bytes and is longer: the first fault of the
+-- prefix, or 2^24 if the prefix is a claim's line.
 abbrev pub IsPrefixFault : List ℕ → ℕ → Type 0
 IsPrefixFault prefix place = IsFirstFaultOf prefix place ⊎ ((claim : Claimed) × Claims prefix claim × (place ≡ 2 ^ 24))
 
 -- A line of up to 2^24 bytes is examined completely. A longer one is bad, and only its first 2^24 bytes are examined.
-pub data IsLookedAt (job : Job) (line : List ℕ) : Result Reported LineFault → Type 0 where
-  Whole : {outcome : Result Reported LineFault} → length line ≤ 2 ^ 24 → IsChecked job line outcome → IsLookedAt job line outcome
-  Front : (place : ℕ) → 2 ^ 24 < length line → IsPrefixFault (take (2 ^ 24) line) place → IsLookedAt job line (Err (BadLine place))
+pub data IsExamined (job : Job) (line : List ℕ) : Result Reported LineFault → Type 0 where
+  Whole : {outcome : Result Reported LineFault} → length line ≤ 2 ^ 24 → IsChecked job line outcome → IsExamined job line outcome
+  Prefix : (place : ℕ) → 2 ^ 24 < length line → IsPrefixFault (take (2 ^ 24) line) place → IsExamined job line (Err (BadLine place))
 
 -- The fault of a report's line if the haul refuses the report for one of these three reasons, and otherwise `None`. The
 -- only other reasons are a closed haul, a report of another job, and out of memory.
@@ -56,8 +56,8 @@ offer_fault report _ = None
 -- The effect of a line on a haul that has had these arrivals before: the arrival that the line causes, if any, and the
 -- fault that is reported about the line, if any.
 pub data ComesOf (terms : Terms) (before : List Arrival) (line : List ℕ) : List Arrival → Option LineFault → Type 0 where
-  Faulty : (fault : LineFault) → IsLookedAt terms.job line (Err fault) → ComesOf terms before line [] (Some fault)
-  Offered : (report : Reported) → IsLookedAt terms.job line (Ok report)
+  Faulty : (fault : LineFault) → IsExamined terms.job line (Err fault) → ComesOf terms before line [] (Some fault)
+  Offered : (report : Reported) → IsExamined terms.job line (Ok report)
       → ComesOf terms before line (Offer report ∷ []) (offer_fault report (refusal_of terms before report))
 
 -- the text of a fault

@@ -19,7 +19,7 @@ use Rattle.commands.specs.GatheredLines.{Gathered}
 use Rattle.commands.specs.Lines.{input_lines}
 use Rattle.commands.specs.SoupSets.{AreRangesOf, IsRefused, job_named}
 
--- a haul over a set for a job and this many workers; the set's ranges are valid, and the haul has their normal form
+-- a haul over a set, for a job and this many workers; the haul's ranges are the normal form of the set's valid ranges
 pub record IsHaulOver (set : SoupSet) (workers : ℕ) (job : Job) (terms : Terms) : Type 0 where
   pub ranges : List Range
   pub named : AreRangesOf set ranges
@@ -50,7 +50,7 @@ pub record IsGathered (terms : Terms) (bytes : List ℕ) (gathering : Made) : Ty
   pub text_is : gathering.text ≡ haul_text census
   pub missing_is : gathering.missing ≡ length (missing_of terms.ranges taken)
 
--- the result of gathering an input in a haul whose terms `opens` allows
+-- the result of gathering an input in a haul; the haul's terms have the property `opens`
 pub record IsGathering (opens : Hauls) (bytes : List ℕ) (gathering : Made) : Type 0 where
   pub terms : Terms
   pub opened : opens terms

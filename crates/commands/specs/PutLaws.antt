@@ -1,5 +1,5 @@
--- Two laws of `PutsReports`: it holds for an empty list of reports, and if it holds for one list and then for another,
--- it holds for both lists joined.
+-- Two laws of `PutsReports`, which says what was written for a list of reports: it holds for an empty list, and if it
+-- holds for one list and then for another, it holds for both lists joined.
 use Rattle.std.proofs.Common.{◌≡◌, ◌++◌, ◌∙◌, ℕ, Bool, List, [], Option, ap, false, refl, subst, sym, true}
 use Rattle.std.proofs.KnownBytes.{Appends-nil}
 use Rattle.std.proofs.lemmas.Grind.{flat_map-append}

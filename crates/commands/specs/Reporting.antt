@@ -33,13 +33,13 @@ pub record TellsAllLate (plan : Plan) (workers from : ℕ) (text : List ℕ) : T
   pub all : AreAll are.ranges (map (λ r. r.number) reports)
   pub text_is : text ≡ late_lines from reports
 
--- report lines of late soups of a plan, at most one for each soup, were added completely
+-- report lines of late soups of a plan, at most one for each soup, were written completely to standard error
 pub record TellsLate (plan : Plan) (workers from : ℕ) (before after : Option (List ℕ)) : Type 0 where
   pub reports : List Reported
   pub are : AreReportsOf plan workers reports
   pub written : Appends before after (late_lines from reports)
 
--- report lines of late soups of a plan, at most one for each soup, were added, but the last line may be cut
+-- report lines of late soups of a plan, at most one for each soup, were written, but the last line may be incomplete
 pub record BreaksOffLate (plan : Plan) (workers from : ℕ) (errors : Stream) : Type 0 where
   pub reports : List Reported
   pub are : AreReportsOf plan workers reports

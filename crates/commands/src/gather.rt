@@ -27,7 +27,7 @@ ghost use Rattle.commands.specs.GatherSteps.{EndsLine, EndsLinesAt, EndsNext};
 ghost use Rattle.commands.specs.GatherSteps.{HasGatheredLines, HasGatheredShort, HasGatheredTo};
 ghost use Rattle.commands.specs.Lines.{HasReadPart};
 ghost use Rattle.commands.specs.LinesSoFar.{HasCome, HasComeBy, most_ahead};
-ghost use Rattle.commands.specs.GatheredLines.{IsChecked, IsPrefixFault, IsLookedAt, ComesOf, offer_fault};
+ghost use Rattle.commands.specs.GatheredLines.{IsChecked, IsPrefixFault, IsExamined, ComesOf, offer_fault};
 ghost use Rattle.haul_core.specs.declared.book.refused.OfferError.TheVariants as offer_error;
 
 use crate::finish::finish;
@@ -298,7 +298,7 @@ fn report_of(
     job: &Job,
     surveyor: &mut Surveyor,
 ) -> Result<Result<Report, LineFault>, OutOfMemory>
-    ensures { (line : List ℕ) → kept.now ≡ take (2 ^ 24 + 1) line → IfOk result (IsLookedAt job.now line) }
+    ensures { (line : List ℕ) → kept.now ≡ take (2 ^ 24 + 1) line → IfOk result (IsExamined job.now line) }
 {
     if kept.len() > LINE_LIMIT {
         let place = prefix_fault(alloc, &kept[..LINE_LIMIT])?;

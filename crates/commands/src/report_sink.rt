@@ -48,7 +48,7 @@ impl<'a> Gate for FaultGate<'a> {
     }
 }
 
-/// An observer that writes the line of each late report, and passes the progress on.
+/// An observer that writes the report line of each late soup, and passes the progress on to another observer.
 #[derive(Drop)]
 pub(crate) struct ReportSink<'a, 's, E: Write, H> {
     /// The generation from which soups count as late. A soup is late if its checkpoint is this generation or later, or

@@ -47,7 +47,7 @@ use std::thread::Threads;
 /// # Errors
 ///
 /// As for `do_take`, and `Failed` if a line can't be written. Then nothing is written to the output, and each worker
-/// surveys at most one more soup. If memory runs out, the lines so far are whole.
+/// surveys at most one more soup. If memory runs out, each line that was begun was written completely.
 pub fn do_take_reporting<W: Write, E: Write, T: Threads + Wait + Sync, H: ProgressObserver>(
     machine: &mut Machine<'_, T, E, H>,
     plan: &Plan<'_>,
@@ -95,8 +95,8 @@ fn print_reporting<W: Write, E: Write, T: Threads + Wait + Sync, H: ProgressObse
     finish_unless(taken, &mut haul, output)
 }
 
-/// Lets a crew take what is missing in an open haul, and writes the lines of late reports. Returns the haul, and `Ok`
-/// if it is to be printed, or why it isn't.
+/// Lets a crew take what is missing in an open haul, and writes the report lines of late soups. Returns the haul and a
+/// result: `Ok` if the haul is to be printed, and otherwise why it isn't.
 fn report_by_crew<E: Write, T: Threads + Wait + Sync, H: ProgressObserver>(
     machine: &mut Machine<'_, T, E, H>,
     haul: Haul,
@@ -117,8 +117,8 @@ fn report_by_crew<E: Write, T: Threads + Wait + Sync, H: ProgressObserver>(
     }
 }
 
-/// Lets a crew take what is missing in an open haul, and writes the lines of late reports. Returns what `take` returns,
-/// and the witness of the write that failed, if one failed. `has_failed` is set once a write has failed.
+/// Lets a crew take what is missing in an open haul, and writes the report lines of late soups. Returns what `take`
+/// returns, and the witness of the write that failed, if one failed. `has_failed` is set once a write has failed.
 fn take_reporting<E: Write, T: Threads + Wait + Sync, H: ProgressObserver>(
     machine: &mut Machine<'_, T, E, H>,
     haul: Haul,

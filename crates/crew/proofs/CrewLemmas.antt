@@ -1,4 +1,4 @@
--- Notes received one after another, and the reports in them offered to a haul.
+-- Facts about a collector, which receives notes one after another and offers the reports in them to a haul.
 use Rattle.std.proofs.Common.{◌≡◌, ◌<◌, ◌≤◌, ◌+◌, ◌-◌, ◌++◌, ◌⊎◌, ◌∙◌, ℕ, Bool, cond, true, false, true≢false, All, List, [], ◌∷◌, ap}
 use Rattle.std.proofs.Common.{append-nil, append_assoc, arith}
 use Rattle.std.proofs.Common.{◌&&◌, ◌||◌, ◌≢◌, inl, inr, if◌then◌else◌, map, nat_eq, nat_le, nat_lt, not, refl, subst, sym, ⊎_elim}

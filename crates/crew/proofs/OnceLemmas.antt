@@ -126,8 +126,8 @@ module _ {may_stop lets : ℕ → ℕ → Type 0} (shared : Shared) (got : List 
 
 -- ---- all workers
 
--- If the sum of `of` over the notes received from each worker is at most how often the worker drew `t`, the sum over
--- the notes from all these workers is at most how often they drew `t` together.
+-- Suppose that for each worker, the sum of `of` over the notes received from the worker is at most the number of times
+-- that the worker drew `t`. Then the same holds for all these workers together.
 pub of_workers : (of : Note → ℕ) (t : ℕ) (got : List (ℕ × Note)) (results : List WorkerResult) (first : ℕ)
     → map (λ s. s.sender.number) results ≡ range_with_len (first + 1) (length results)
     → All (λ s. sum_by of (notes_of s.sender.number got) ≤ count_by (nat_eq t) s.pass.numbers) results

@@ -429,7 +429,7 @@ module _ {may_stop lets : ℕ → ℕ → Type 0} (shared : Shared) (workers : �
       (subst (All P) (sym all_numbers) (range_within 1 workers workers (omega arith))) in
       subst (λ (o : Option ℕ). IfSome o P) (sym ran.stopped ∙ is) (of_first_stopped P ran.results (λ k d lt stopped. all k d lt))
 
-  -- if a worker was stopped, its gate may stop it at some missing number
+  -- if a worker was stopped, the gate may stop it at some missing number
   pub crew_stops : (worker : ℕ) → new.stopped ≡ Some worker → StopsAt may_stop (was_missing old.haul) worker
   crew_stops worker is =
       let P : ℕ → Type 0 = StopsAt may_stop (was_missing old.haul) in

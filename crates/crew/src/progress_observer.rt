@@ -6,11 +6,11 @@ use haul_core::report::Report;
 
 /// Callbacks that receive the progress of a haul, and the workers' reports.
 ///
-/// Contracts hold for any observer, so it can't change what a call promises to return or to write to its output. With
-/// [`hears`], an observer promises what it does with reports. The contract of `take` says which reports the observer
-/// has received.
+/// Contracts hold for any observer, so an observer can't change what a call promises to return or to write to its
+/// output. With [`hears`], an observer promises what it does with reports. The contract of `take` says which reports
+/// the observer has received.
 pub trait ProgressObserver {
-    /// Says that between two states of an observer, it has received these reports, in this order.
+    /// Says that an observer received these reports, in this order, between two of its states.
     ghost hears: { Self → List Reported → Self → Type 0 } = { λ _ _ _. ⊤ };
 
     /// Called before the first soup: `workers` workers are to complete a haul over `whole` soups.

@@ -16,10 +16,10 @@ use std::thread::Threads;
 use survey_core::job::Job;
 use survey_core::profile::Profile;
 
-/// What each call of the gate adds to the sum of its soup, besides the worker's number.
+/// What each call of a `Register` adds to the sum for a soup, besides the worker's number.
 const CALL: u64 = 1000;
 
-/// A gate that stops nobody. For each soup, it adds up `CALL` and the worker's number over all calls.
+/// A gate that stops nobody. It keeps a sum for each soup. Each call for the soup adds `CALL` and the worker's number.
 #[derive(Drop)]
 struct Register {
     sums: Vec<AtomicU64>,

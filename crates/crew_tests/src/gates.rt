@@ -1,4 +1,4 @@
-//! Tests crews under gates that stop workers, or hold them until other workers have come.
+//! Tests crews under gates that stop workers, or that hold workers until others have come to the gate.
 ghost use Rattle.std.specs.Prelude.{◌≡◌, ◌<◌, ◌≤◌, ◌⊎◌};
 
 use crate::left::{Left, go_on, left_by};
@@ -72,8 +72,8 @@ impl Gate for Lockstep {
 
     ghost lets = { λ _ worker number. Unit {0} };
 
-    // Numbers come in blocks of sixteen. A worker goes on only when sixteen workers have come with the numbers of its
-    // block.
+    // The soup numbers form blocks of sixteen: 0 to 15, 16 to 31, and so on. A worker goes on only when the gate has
+    // been asked about all numbers of the worker's block.
     fn before(&self, _worker: u8, number: u64) -> Result<(), Stop> {
         self.patience.come();
         let rounds = (number / 16).saturating_add(1);

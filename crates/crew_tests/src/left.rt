@@ -20,7 +20,7 @@ pub(crate) struct Left {
     pub(crate) missing: u64,
     /// The number of soups that the haul had taken from each worker. The index is the worker's number.
     pub(crate) counts: [u64; 17],
-    /// Whether another call, under a gate that stops nobody, completed the haul.
+    /// Whether another call of `take`, under a gate that stops nobody, completed the haul.
     pub(crate) completed: bool,
 }
 

@@ -25,7 +25,7 @@ fn gathered(alloc: Global, is_back: bool) -> Result<u64, Fail> {
     Ok(tickets.gather(passes))
 }
 
-// No clause says that numbers are also counted if the passes that drew them were dropped.
+// No contract says that numbers are also counted if the passes that drew them were dropped, so this test checks it.
 #[test]
 fn counts_what_was_drawn_by_passes_that_are_gone(rt: HostRuntime) -> Result<(), Fail> {
     assert!(rt; gathered(rt.alloc(), true)? == 2);
@@ -129,7 +129,7 @@ fn gathered_without_passes(alloc: Global, count: u64, draws: u32) -> Result<u64,
     Ok(tickets.gather(Vec::new(alloc)))
 }
 
-// No clause says how many numbers were drawn if no pass is handed back.
+// No contract says how many numbers were drawn if no pass is handed back, so this test checks it.
 #[test]
 fn opens_tickets_and_counts_what_was_drawn(rt: HostRuntime) -> Result<(), Fail> {
     for (count, passes, error) in NOT_OPENED {

@@ -33,7 +33,7 @@ is_none p q e = ap (λ (b : Bool). cond {A = ℕ} b 1 0) (ne_eqb p q e)
 off : false ≡ true → ⊥
 off e = true≢false (sym e)
 
--- a proposition that holds anyway holds if the option is `None`
+-- if `P` holds, `IfNone o P` holds for any option `o`
 pub if_none : {T : Type 0} (o : Option T) (P : Type 0) → P → IfNone o P
 if_none None P p = p
 if_none (Some x) P p = tt

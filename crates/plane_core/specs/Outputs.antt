@@ -11,8 +11,8 @@ pub record Output (V : Type 0) : Type 0 where
 abbrev pub AppendsPrefix : Option (List ℕ) → Option (List ℕ) → List ℕ → Type 0
 AppendsPrefix known_old known_new text = (prefix remainder : List ℕ) × (text ≡ prefix ++ remainder) × Appends known_old known_new prefix
 
--- A call wrote the whole text. Or it failed: it wrote a prefix of the text, and from then on the `Out` is marked as
--- failed. `contents` are the bytes that a writer holds, if they are known.
+-- A call wrote the whole text. Or it failed: it wrote a prefix of the text, and `new` is marked as failed. `contents`
+-- are the bytes that a writer holds, if they are known.
 pub record Writes {V E : Type 0} (contents : V → Option (List ℕ)) (old new : Output V) (result : Result (Unit {0}) E) (text : List ℕ) : Type 0 where
   pub remembers : new.failed ≡ is_err result
   pub whole : OnOk result (Appends (contents old.writer) (contents new.writer) text)

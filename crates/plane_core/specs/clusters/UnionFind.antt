@@ -60,8 +60,8 @@ abbrev pub IsFresh : List Cell → ℤ → ℕ → Type 0
 IsFresh cells column place = (k : ℕ) → k < place → (cell_of cells k).y <ℤ (cell_of cells place).y → (cell_of cells k).x <ℤ column
     → king_distance (cell_of cells k) (cell_of cells place) ≤ 2 → IsBridged cells k place
 
--- A range of places before `place` whose cells are in the row of `from`. Among the places before `place`, it omits only
--- cells of that row that come before `from`.
+-- A range of places before `place` whose cells are in the row of `from`. If the range omits a cell of this row at a
+-- place before `place`, the omitted cell comes before `from`.
 pub record IsRow (cells : List Cell) (row : RowPlaces) (place : ℕ) (from : Cell) : Type 0 where
   pub order : row.from ≤ row.end
   pub few : row.end ≤ place
@@ -94,8 +94,8 @@ pub record ArePutInClusters (cells : List Cell) (parents numbers : List ℕ) (cl
   pub linked : (j k : ℕ) → j < place → k < place → get_or numbers j 0 ≡ get_or numbers k 0 → Linked cells (cell_of cells j) (cell_of cells k)
   pub in_order : AllPairs FirstBefore clusters
 
--- in `parents`, each place before `place` has the number of its cluster, and each later place still leads to its parent
--- in the forest
+-- in `parents`, each place before `place` has the number of its cluster, and each place from `place` on still leads to
+-- its parent in the forest
 pub record IsGatheringCells (cells : List Cell) (parents : List ℕ) (clusters : List (List Cell)) (place : ℕ) : Type 0 where
   pub forest : List ℕ
   pub is_forest : IsForest cells forest

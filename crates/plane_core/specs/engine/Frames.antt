@@ -21,7 +21,7 @@ abbrev pub Shows : Frame → List ℕ → List Cell → Type 0
 Shows at words cells = (s r i : ℕ) → s < at.word_columns → r < at.rows → i < 64
     → has cells (board_cell at s r i) ≡ (bit_at (slice_index words (word_of at s r)) i == 1)
 
--- a frame: it begins within 2^21 of the origin, it isn't too large, and its rows are bands of eight
+-- a frame: it begins within 2^21 of the origin, and has at most 2^16 word columns and 2^22 rows, in bands of eight
 pub record IsFrame (at : Frame) : Type 0 where
   pub left : unsigned_abs at.left ≤ 2 ^ 21
   pub top : unsigned_abs at.top ≤ 2 ^ 21

@@ -55,7 +55,7 @@ pub record Reading : Type 0 where
 
 -- the reading with one more answer in front
 abbrev pub with_answer : Bool → Reading → Reading
-with_answer next_cells read = record { logic = next_cells ∷ read.logic; remainder = read.remainder }
+with_answer answer read = record { logic = answer ∷ read.logic; remainder = read.remainder }
 
 -- the text begins with the prefix
 abbrev pub begins : List ℕ → List ℕ → Bool

@@ -88,8 +88,8 @@ inner_held at p x y end mid new left top height first wide second s r i hs hr hi
         let is : x / 64 + 1 ≡ s = omega (arith, ints) in
         subst (λ (t : ℕ). IsInSpan new t r) is (second r here)
 
--- if the old spans hold the first `done` windows, and the new spans contain the old spans and hold the next window,
--- then the new spans hold the first `done + 1` windows
+-- if the old spans hold the inner parts of the first `done` windows, and the new spans contain the old spans and hold
+-- the inner part of the next window, then the new spans hold the inner parts of the first `done + 1` windows
 pub places_more : (at : Frame) (old new : List RowSpan) (places : List LeapWindow) (done : ℕ) (d : LeapWindow) → done < length places → AreWidened old new
     → ((k : ℕ) (p : LeapWindow) → k < done → HoldInner at old (slice_index_or places k p)) → HoldInner at new (slice_index_or places done d)
     → (k : ℕ) (p : LeapWindow) → k < done + 1 → HoldInner at new (slice_index_or places k p)
@@ -102,7 +102,7 @@ places_more at old new places done d low wide before here k p near s r i hs hr h
 
 -- ---- a leap
 
--- each cell that is alive after a leap is in the spans: it is in an inner part, or was alive before
+-- each cell that is alive after a leap is in the new spans: it is in the inner part of a window, or was alive before
 pub spans_after : (rule : Numbers) (at : Frame) (places : List LeapWindow) (S : List Cell) (n : ℕ) (old new : List RowSpan) → LieInSpans at old S
     → AreWidened old new → HoldCovered at new places → IsStillOutside rule places S n → LieInSpans at new (after rule S n)
 spans_after rule at places S n old new live wide covered still s r i hs hr hi e = elim (in_or_not (span_of new s) r) [
@@ -190,7 +190,8 @@ empty_spans at words spans none long = record {
   live = λ s r i hs hr hi e. absurd (false≢true (sym (ap (λ (S : List Cell). has S (board_cell at s r i)) none) ∙ e));
 }
 
--- if the rows from `from` to before `row` are empty, setting the word of `row` to 0 makes it empty as well
+-- if the rows from `from` to before `row` are empty, all rows from `from` to `row` are empty once the word of `row` is
+-- set to 0
 pub row_emptied : (at : Frame) (words : List ℕ) (word_column row from i : ℕ) → i ≡ word_of at word_column row → i < length words
     → ((r : ℕ) → from ≤ r → r < row → slice_index words (word_of at word_column r) ≡ 0) → (r : ℕ) → from ≤ r → r < row + 1
     → slice_index (set words i 0) (word_of at word_column r) ≡ 0

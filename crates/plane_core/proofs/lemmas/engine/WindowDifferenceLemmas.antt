@@ -1,4 +1,4 @@
--- Where two windows differ.
+-- Lemmas about the masks that mark where two windows differ.
 use Rattle.std.proofs.Common.{◌≡◌, ◌+◌, ◌-◌, ◌*◌, ◌/◌, ◌%◌, ◌<◌, ◌≤◌, ℕ, List, length, ◌^◌, Bool, true, false, not, cond, map, replicate, w64}
 use Rattle.std.proofs.Common.{zero, suc, max, slice_index, get_or, inl, inr, ◌⊎◌}
 use Rattle.std.proofs.Common.{arith, refl, ap, ◌∙◌, sym, subst, bit_and, bit_xor}

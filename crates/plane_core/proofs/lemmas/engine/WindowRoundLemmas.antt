@@ -1,4 +1,4 @@
--- Where the window of a quick test is, and what is put into it.
+-- The window in which a small pattern is run: where the window begins, and which cells its rows show.
 use Rattle.std.proofs.Common.{◌≡◌, ◌≢◌, ◌==◌, ◌+◌, ◌-◌, ◌*◌, ◌/◌, ◌%◌, ◌^◌, ◌<◌, ◌≤◌, ℕ, ℤ}
 use Rattle.std.proofs.Common.{zero, suc, negsuc, pos, ◌+ℤ◌, ◌-ℤ◌, Bool, true, false, ◌||◌, List, [], ◌∷◌, ◌++◌}
 use Rattle.std.proofs.Common.{arith, refl, ap, ◌∙◌, sym, subst, inl, inr, ◌⊎◌}
@@ -50,7 +50,7 @@ place_is_inland b width height p sides is =
       top = let q = is.top in omega (arith, ints);
     }
 
--- a side far from the edge of the plane fits in 32 bits
+-- the coordinate of a box's side fits in 32 bits if the side is far from the edge of the plane
 near_fits : (x : ℤ) → unsigned_abs x ≤ 900000 → FitsSigned w32 x
 near_fits (pos n) near = record { sfits = omega (arith, near) }
 near_fits (negsuc n) near = record { sfits = omega (arith, near) }

@@ -1,4 +1,5 @@
--- Whether a window shows a translate of the pattern at the start, and what follows if it doesn't.
+-- A pattern is run in a window. How a translate of the first generation is recognised, and what follows if the window
+-- doesn't show a translate.
 use Rattle.std.proofs.Common.{◌≡◌, ◌≢◌, ◌==◌, ◌+◌, ◌*◌, ◌/◌, ◌^◌, ◌<◌, ◌≤◌, ℕ, ℤ, pos, ◌+ℤ◌, ◌≤ℤ◌, zero, suc, Bool, true, false}
 use Rattle.std.proofs.Common.{List, [], ◌∷◌, arith, refl, ap, ◌∙◌, sym, subst, inl, inr, ◌⊎◌, w64}
 use Rattle.std.specs.Cmp.{both_ways as both_true}
@@ -151,7 +152,8 @@ alike_bits (suc zero) b p q f g = sym (f refl)
 alike_bits (suc (suc a)) b p q f g = absurd (omega arith)
 alike_bits zero (suc (suc b)) p q f g = absurd (omega arith)
 
--- the windows of a pattern and of its translate have live cells in the same columns, counted from the first such column
+-- the windows of a pattern and of its translate have live cells in the same columns, counted from the first column with
+-- a live cell
 pub columns_again : (n : ℕ) (left top dx dy : ℤ) (x y : List (List ℕ)) (S : List Cell) (w v b a : ℕ) → 0 < n → AreVectors n x → AreVectors n y
     → IsColumns n x w → IsColumns n y v → Holds n left top x S → Holds n left top y (shifted dx dy S) → BeginsColumn left S b
     → BeginsColumn left (shifted dx dy S) a → w / 2 ^ b ≡ v / 2 ^ a
@@ -298,7 +300,8 @@ new-ever rule S m h g less back new p dx dy some low e =
           | inr more ↦ (q + 1, omega arith, λ _. omega arith, step p q e)
         ]
 
--- the window after `made` generations, and a kept window, which is of the same generation or an earlier one
+-- if window `start` holds a pattern, `now` holds the pattern `made` generations later, the pattern hasn't recurred by
+-- then, and `kept` holds the pattern of the same generation or an earlier one
 pub record IsChanging (rule : Numbers) (n : ℕ) (start now kept : List (List ℕ)) (columns made : ℕ) : Type 0 where
   pub whole : AreVectors n now
   pub columns_are : IsColumns n now columns
@@ -314,7 +317,8 @@ changing_start rule n start now columns made followed whole are = record {
   earlier = (made, omega arith, followed.held);
 }
 
--- the window after one more generation, if the pattern then isn't a translate of the pattern at the start
+-- if the next window doesn't hold a translate of the pattern in window `start`, `IsChanging` holds for the next window,
+-- with the same kept window
 pub changing_more : (rule : Numbers) (n : ℕ) (start now kept later : List (List ℕ)) (columns columns_later made : ℕ) (again : Bool) → 0 < n
     → IsChanging rule n start now kept columns made → IsRimClear n now → IsNextWindow rule n now later → AreVectors n later → IsColumns n later columns_later
     → ((S : List Cell) (left top dx dy : ℤ) → Holds n left top start S → Holds n left top later (shifted dx dy S) → again ≡ true) → again ≡ false

@@ -1,4 +1,4 @@
--- Rows of a window as a smaller window: what they show, and what they hold.
+-- Lemmas about crops. A crop is a smaller window that consists of some rows of a window of 64 rows.
 use Rattle.std.proofs.Common.{◌≡◌, ◌≢◌, ◌==◌, ◌+◌, ◌-◌, ◌*◌, ◌<◌, ◌≤◌, ◌⊎◌, ℕ, ℤ, ◌+ℤ◌, ◌-ℤ◌, pos, unsigned_abs, true, List, get_or, length, length-set, replicate, set, slice_index}
 use Rattle.std.proofs.Common.{ap, ◌∙◌, sym, subst, refl, arith, inl, inr}
 use Rattle.std.specs.Int.{bit_at}
@@ -48,7 +48,7 @@ put_more from r part rows fits before = record {
     earlier q (inl above) = inl above
     earlier q (inr below) = inr (omega (arith, below))
 
--- once all rows of a window are put, the window is a crop of the 64 rows
+-- once all rows of a window have been put into the 64 rows, the window is a crop of the 64 rows
 pub put_crop : (n many from count : ℕ) (part rows : List ℕ) (window : List (List ℕ)) → many ≡ 4 * n → count ≡ many → ArePut from count part rows
     → ((r : ℕ) → r < many → slice_index part r ≡ row_at n window r) → IsCrop n from rows window
 put_crop n many from count part rows window four all put unpacked r low =

@@ -1,4 +1,4 @@
--- Bits of words, and how a flood grows.
+-- Bits of words, and how a flood grows from one live cell of a window to the whole cluster of this cell.
 use Rattle.std.proofs.Common.{◌==◌, ◌+ℤ◌, pos, ◌⊎◌, inl, inr, length, slice_index}
 use Rattle.std.proofs.Common.{◌≡◌, ◌≢◌, ◌+◌, ◌-◌, ◌*◌, ◌/◌, ◌%◌, ◌^◌, ◌<◌, ◌≤◌, ℕ, ℤ, List}
 use Rattle.std.proofs.Common.{arith, refl, ap, ◌∙◌, sym, subst, bit_and, bit_or, bit_xor, slice_set, replicate, w64}

@@ -1,4 +1,5 @@
--- A pattern that is followed in 64 rows, and for some generations in a crop of them.
+-- A pattern that is followed: it is run alone in 64 rows, and for some generations in a crop of these rows, to see
+-- whether it may recur.
 use Rattle.std.proofs.Common.{◌≡◌, ◌*◌, ℕ, ℤ, ◌+ℤ◌, ◌-ℤ◌, pos, List, sym, subst, arith}
 use Rattle.std.proofs.lemmas.Int.{ints}
 use Rattle.plane_core.specs.declared.plane.cell.Cell.{Cell}

@@ -195,7 +195,8 @@ bit_if S m e c same small shown = ap (λ (d : Cell). cond {A = ℕ} (has S d) 1 
     one (suc zero) low = refl
     one (suc (suc n)) low = absurd (omega arith)
 
--- the row sum at a bit of the window is the number of live cells among its cell and the left and right neighbours
+-- the row sum at a bit of the window is the number of live cells among the cell of this bit and the cell's left and
+-- right neighbours
 row_seen : (S : List Cell) (n : ℕ) (left top : ℤ) (x : List (List ℕ)) → 0 < n → Holds n left top x S → AreVectors n x → (e : Cell) (r i : ℕ) → i < 64
     → e ≡ in_window left top i r → row_total S e ≡ row_sum (row_at n x r) i
 row_seen S n left top x some h whole e r i low is =

@@ -11,7 +11,7 @@ use Rattle.plane_core.specs.windows.Windows.{row_at}
 use Rattle.plane_core.proofs.lemmas.one_sided.CropLemmas.{crop_held, crop_shown}
 use Rattle.plane_core.proofs.lemmas.Between.{FloodsCluster}
 
--- if a cluster diverges in the crop, it diverges in the rows
+-- if a cluster diverges from the whole pattern in a crop of 40 rows, the cluster also diverges in the 64 rows
 pub diverges_in_rows : (rule : Numbers) (rows alone : List ℕ) (part lone : List (List ℕ)) (from depth horizon : ℕ) → LiesInCrop 40 from alone
     → IsCrop 10 from rows part → IsCrop 10 from alone lone → DivergesFromWhole rule 10 part lone depth horizon → DivergesInRows rule rows alone depth horizon
 diverges_in_rows rule rows alone part lone from depth horizon lies whole one diverges cells cluster left top o shown held =

@@ -1,4 +1,4 @@
--- The smallest box of a pattern, as the writer uses it.
+-- Lemmas about the smallest box of a pattern, for writing the pattern as plaintext.
 use Rattle.std.proofs.Common.{◌≡◌, ◌≤ℤ◌, true, nat_le, List, [], ◌∷◌, Some, refl, sym, ap, subst, ◌∙◌, arith}
 use Rattle.std.specs.List.{AllByRecursion, list_all}
 use Rattle.std.specs.Prelude.{unsigned_abs}

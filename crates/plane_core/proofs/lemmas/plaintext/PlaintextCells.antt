@@ -24,7 +24,8 @@ none_there d (p ∷ ps) h =
     (λ e. ap (λ cs. has cs d) (live_cells-cons_dead p ps e) ∙ more)
     (cases_Bool (is_live p.byte))
 
--- row y, read from column x on, has the cell in column x + k exactly if byte k of the row is live
+-- if `row` has the bytes of row y from column x on, the cell in column x + k of row y is alive exactly if byte k of
+-- `row` is a live cell
 row_has : (n y x k : ℕ) (row : List ℕ) → has (live_cells (places_from n y x row)) (cell_at (pos (x + k)) (pos y)) ≡ is_live (get_or row k 0)
 unfolding live_cells
 row_has n y x k [] = refl

@@ -71,7 +71,7 @@ pub no_place_past : (n y : ℕ) (parts : List (List ℕ)) → n ≡ length parts
 unfolding places_after
 no_place_past n y parts h = rw (drop_all n parts (omega arith)) refl
 
--- if the next line is a comment, the first fault is that of the lines after it
+-- if line n + 1 is a comment, the first fault from this line on is the first fault of the later lines
 pub no_fault_in_comment : (n y : ℕ) (parts : List (List ℕ)) (line : List ℕ) → IsNext parts n line → is_comment (strip_carriage_return line) ≡ true
     → first_fault (places_after (n + 1) y (drop n parts)) ≡ first_fault (places_after (n + 1 + 1) y (drop (n + 1) parts))
 no_fault_in_comment n y parts line t e = ap first_fault (comment_here n y parts line t e)
@@ -118,7 +118,8 @@ row_is_small n y parts line t e h k l =
     let s = row_in_limits (n + 1) y 0 (strip_carriage_return line) (no_fault_both n y parts line t e h).0 k l in
     (omega arith, s.1)
 
--- if line n + 1 is a row, the live cells from there on are those of the row, followed by those of the later lines
+-- if line n + 1 is a row, the live cells from this line on are the row's live cells, followed by the live cells of the
+-- later lines
 pub cells_of_row : (n y : ℕ) (parts : List (List ℕ)) (line : List ℕ) → IsNext parts n line → is_comment (strip_carriage_return line) ≡ false
     → live_cells (places_after (n + 1) y (drop n parts)) ≡ live_cells (places_of_row (y, (0, strip_carriage_return line))) ++ live_cells
     (places_after (n + 1 + 1) (y + 1) (drop (n + 1) parts))

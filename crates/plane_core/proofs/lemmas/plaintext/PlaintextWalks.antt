@@ -173,7 +173,7 @@ pub IsRowAhead-at : (y x e : ℤ) (row : List Cell) (i : ℕ) (d : Cell) → i <
     → IsRowAhead y x e (get_or row i d ∷ drop (i + 1) row)
 IsRowAhead-at y x e row i d l h = subst (IsRowAhead y x e) (drop_more row i d l) h
 
--- if the test says that `a` is less than `b`, it is
+-- if the test `lt_z a b` gives true, `a` is less than `b`
 pub lt_z-true : (a b : ℤ) → lt_z a b ≡ true → a <ℤ b
 lt_z-true a b h = grind (arith, ints)
 

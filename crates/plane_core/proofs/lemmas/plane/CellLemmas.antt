@@ -15,7 +15,7 @@ use Rattle.plane_core.specs.plane.Cells.{cell_at, cell_cmp, same_cell, king_dist
 pub cell_cmp_total : IsTotalOrder cell_cmp
 cell_cmp_total = then_total (on_total (λ c. c.y) int_cmp_total) (on_total (λ c. c.x) int_cmp_total)
 
--- a lexicographic order ties only if both its parts tie
+-- a lexicographic comparison ties only if both its parts tie
 both_tie : (p q : Ordering) → ordering_then p q ≡ Equal → (p ≡ Equal) × (q ≡ Equal)
 both_tie Less q e = (e, cc)
 both_tie Equal q e = (refl, e)

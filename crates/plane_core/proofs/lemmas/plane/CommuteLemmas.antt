@@ -30,7 +30,7 @@ pub record IsRigid (f g : Cell → Cell) : Type 0 where
   pub keeps : (a b : Cell) → king_distance (f a) (f b) ≡ king_distance a b
 
 module _ (f g : Cell → Cell) (rigid : IsRigid f g) where
-  -- an image has a cell exactly if the pattern has its preimage
+  -- an image has a cell exactly if the pattern has the cell's preimage
   has-image : (S : List Cell) (c : Cell) → has (map f S) c ≡ has S (g c)
   has-image S c = both_true (has (map f S) c) (has S (g c))
       (λ h. let d = has-map_from f S c h in subst (λ (x : Cell). has S x ≡ true) (sym (ap g d.2 ∙ rigid.back d.0)) d.1)

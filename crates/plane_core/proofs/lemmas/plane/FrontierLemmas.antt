@@ -1,4 +1,5 @@
--- How fast frontiers grow under a slow rule.
+-- How fast the frontier of a pattern advances under a slow rule. The frontier is the largest depth, column plus row, of
+-- a live cell.
 use Rattle.std.proofs.Common.{◌≡◌, ◌+◌, ◌*◌, ◌/◌, ◌≤◌, ℕ, ℤ, pos, ◌+ℤ◌, ◌-ℤ◌, ◌*ℤ◌, ◌≤ℤ◌, ◌<ℤ◌, zero, suc, Bool, true, false}
 use Rattle.std.proofs.Common.{not, ◌||◌, List, map, arith, cond, refl, ap, ◌∙◌, sym, subst, inl, inr, ◌⊎◌}
 use Rattle.std.proofs.lemmas.Int.{ints}

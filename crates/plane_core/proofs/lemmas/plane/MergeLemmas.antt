@@ -68,7 +68,7 @@ merged_second before others cells i j d low there is all c =
     ∙ (λ t. has (take i cells) c || (has (drop (next t) cells) c || sym taken t))
     ∙ all c
 
--- when no others are left, the list has the cells of both lists
+-- when no cell of `others` is left to merge, the list has the cells of both lists
 pub all_merged : (before others cells : List Cell) (i : ℕ) → AreTogether before others cells i 0 → (c : Cell) → has cells c ≡ has (before ++ others) c
 all_merged before others cells i all c =
     let here : i ≡ i + 0 = omega arith in

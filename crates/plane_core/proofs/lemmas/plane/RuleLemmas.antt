@@ -31,7 +31,7 @@ pub digits-prefix-false : (n i : ℕ) (logic : List Bool) (prefix text : List �
     → text ≡ prefix ++ digits (n + i) (drop i logic) → text ≡ prefix ++ digits (n + (i + 1)) (drop (i + 1) logic)
 digits-prefix-false n i logic prefix text h e p = p ∙ ap (λ (xs : List ℕ). prefix ++ xs) (digits-drop-false n i logic h e)
 
--- before the first place, the prefix is the letter
+-- at the start, the prefix is just `letter`, and all digits are left
 pub digits-prefix-start : (n letter : ℕ) (logic : List Bool) → letter ∷ digits n logic ≡ (letter ∷ []) ++ digits (n + 0) (drop 0 logic)
 digits-prefix-start n letter logic = ap (λ (k : ℕ). letter ∷ digits k logic) (omega arith)
 

@@ -26,10 +26,10 @@ pub numbers_at-none : (n : ℕ) (text : List ℕ) → numbers_at 0 n text ≡ re
 unfolding numbers_at
 numbers_at-none n text = refl
 
-pub in_prefix-with_answer : (prefix : List Bool) (next_cells : Bool) (read : Reading)
-    → in_prefix prefix (with_answer next_cells read) ≡ in_prefix (prefix ++ next_cells ∷ []) read
-in_prefix-with_answer prefix next_cells read =
-    ap (λ (xs : List Bool). let r : Reading = record { logic = xs; remainder = read.remainder } in r) (sym (append_assoc prefix (next_cells ∷ []) read.logic))
+pub in_prefix-with_answer : (prefix : List Bool) (answer : Bool) (read : Reading)
+    → in_prefix prefix (with_answer answer read) ≡ in_prefix (prefix ++ answer ∷ []) read
+in_prefix-with_answer prefix answer read =
+    ap (λ (xs : List Bool). let r : Reading = record { logic = xs; remainder = read.remainder } in r) (sym (append_assoc prefix (answer ∷ []) read.logic))
 
 -- the loop is at place i: the answers before it are read, and all others are still false
 pub record ReadUpTo (count n : ℕ) (text : List ℕ) (i : ℕ) (logic : List Bool) (remainder : List ℕ) : Type 0 where

@@ -248,7 +248,8 @@ births-shared text c cs more rule whole remainder spelled =
     (sym (numbers_at-digits 8 1 rule.births after_s whole.births (omega arith) (IsPastDigits-s (digits 0 rule.survivals)))
     ∙ ap (numbers_at 8 1) same ∙ numbers_at-other_remainder 8 1 (drop 1 text) c cs more remainder)
 
--- if c is the byte after the survivals' digits of `text`, no rule's survivals' digits are these digits followed by c
+-- if c is the byte after the survivals' digits of `text`, no rule has survivals' digits that begin with these digits
+-- and c
 pub survivals-shared : (text : List ℕ) (c : ℕ) (cs more : List ℕ) (rule : Numbers) → IsRule rule → (survivals_in text).remainder ≡ c ∷ cs
     → digits 0 rule.survivals ≡ digits 0 (survivals_in text).logic ++ c ∷ more → [] ≡ c ∷ more
 survivals-shared text c cs more rule whole remainder same =

@@ -205,7 +205,7 @@ has-Contains (d ∷ ds) c h = elim (has-cases d ds c h) [
       more ↦ Contains-append_right (d ∷ []) ds c (has-Contains ds c more)
 ]
 
--- lists with the same elements have the same members
+-- if two lists have the same cells by `Contains`, they have the same cells by `has`
 pub same_members : (cs ds : List Cell) → ((c : Cell) → Contains cs c → Contains ds c) → ((c : Cell) → Contains ds c → Contains cs c) → (c : Cell)
     → has cs c ≡ has ds c
 same_members cs ds f g c = both_true (has cs c) (has ds c) (λ e. Contains-has ds c (f c (has-Contains cs c e)))

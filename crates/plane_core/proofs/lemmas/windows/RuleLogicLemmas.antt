@@ -1,4 +1,4 @@
--- The answers of a rule in each lane.
+-- How the answers of a rule, which say whether a cell is alive next, are computed in each lane of a vector.
 use Rattle.std.proofs.Common.{◌≡◌, ◌==◌, ◌+◌, ◌-◌, ◌*◌, ◌%◌, ◌<◌, ◌≤◌, ℕ, zero, suc, Bool, true, false, cond, List, length, replicate, slice_index}
 use Rattle.std.proofs.Common.{◌≢◌, ◌⊎◌, inl, inr, get_or, set, get_or-set_same, get_or-set_other}
 use Rattle.std.proofs.Common.{arith, refl, ap, ◌∙◌, sym, bit_and, bit_or, bit_xor, max, min}

@@ -5,7 +5,7 @@ use Rattle.pattern_commands.proofs.AnswerLemmas.{err_of}
 use Rattle.commands.proofs.GatherLemmas.{begun, goes_further, goes_no_further, lines_ended_by, many_lines, none_gathered, read_further, read_so_far}
 use Rattle.commands.proofs.gather.Gatherer.gather_lines.Goals as goal
 
--- ---- how many of 2^32 bytes are left
+-- ---- arithmetic with the limit of 2^32 bytes
 
 within : (size more : ℕ) → size ≤ 2 ^ 32 → more ≤ 2 ^ 32 - size → size + more ≤ 2 ^ 32
 within size more short few = omega arith

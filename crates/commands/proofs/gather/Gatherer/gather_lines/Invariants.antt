@@ -4,7 +4,7 @@ use Rattle.pattern_commands.specs.Streams.{stream}
 use Rattle.commands.specs.GatherSteps.{HasGatheredLines}
 use Rattle.commands.proofs.gather.Gatherer.gather_lines.Given as goal
 
--- the lines before this one were gathered in the haul
+-- the first `before` lines were gathered in the haul
 abbrev pub invariant-loop-before : goal.invariant-loop-before
 invariant-loop-before g l = record {
   terms : l.self.haul.terms ≡ l.fn.self.haul.terms;
