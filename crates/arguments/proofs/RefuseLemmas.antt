@@ -126,7 +126,7 @@ module _ (command : Command) (here : IsIn command commands) {h : Held} {position
   abbrev Refused : List Text → Type 0
   Refused arguments = IsFaulty (faults_by s (run s (at h position) arguments))
 
-  -- if a use is a fault once it is settled, arguments that begin with this use are refused
+  -- if `faults_of` finds a fault in a use of an argument, arguments that begin with this use are refused
   use_faulty : (u : Use) → IsIn (entry_in u) command.parameters → Stands u → HasOrLacks u → Fits command here is u
       → IsFaulty (faults_of (entry_in u) (value_in u) rows) → Refused (arguments_of u ++ more)
   use_faulty u there stands of fits bad =

@@ -16,7 +16,7 @@ use Rattle.pattern_commands.specs.Behaviours.{Behaviour, text_behaviour}
 abbrev pub object_line : List ℕ × ℕ → List ℕ
 object_line object = object.0 ++ (codes " " ++ decimal object.1 ++ codes "\n")
 
--- the lines of a finding: the checkpoint, and a line for each code; or `unsettled`
+-- the lines of a finding: `settled` with the checkpoint and then a line for each code, or the single line `unsettled`
 abbrev pub finding_text : Finding → List ℕ
 finding_text (Settled checkpoint objects for_good) = codes "settled " ++ decimal checkpoint ++ codes "\n" ++ flat_map object_line objects
 finding_text Unsettled = codes "unsettled\n"
