@@ -34,7 +34,7 @@ NOT_THERE = (
     "Operation not permitted",
     "Exec format error",
 )
-# mutant: equal because `haul` ends with 5 for each status that `census` doesn't have
+# mutant: equal because `haul` passes on only the statuses 2 to 5, and otherwise ends with 5
 USAGE, FAILED = 2, 5
 DONE = "done"
 

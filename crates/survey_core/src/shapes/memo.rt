@@ -117,7 +117,7 @@ impl Memo {
         }
     }
 
-    /// Returns the envelopes of `patterns`, or `None` if one of them doesn't recur within `limit` generations, 1 to 64.
+    /// Returns the envelopes of `patterns`, or `None` if one of them doesn't recur within `limit` (1 to 64) generations.
     pub(crate) fn envelopes(
         &mut self,
         alloc: Global,
@@ -212,8 +212,8 @@ impl Memo {
         false
     }
 
-    /// Returns the envelope of `pattern`, or `None` if it doesn't recur within `limit` generations, 1 to 64. A pattern
-    /// that recurs is named and kept in its slot, unless it is large.
+    /// Returns the envelope of `pattern`, or `None` if it doesn't recur within `limit` generations. A pattern that recurs
+    /// is named and kept in its slot, unless it is large. `limit` is from 1 to 64.
     pub(crate) fn envelope(
         &mut self,
         alloc: Global,
@@ -341,7 +341,7 @@ fn moved(first: i32, last: i32, by: i32) -> Option<(i32, i32)>
     first.checked_add(by).zip(last.checked_add(by))
 }
 
-/// Returns the apgcode of a pattern that recurs within `limit` generations, 1 to 64.
+/// Returns the apgcode of a pattern that recurs within `limit` generations. `limit` is from 1 to 64.
 pub(crate) fn code_of(
     alloc: Global,
     rule: &Rule,

@@ -48,7 +48,7 @@ impl Objects {
         self.counted.as_slice()
     }
 
-    /// Returns the apgcodes of the clusters, counted. All clusters must recur within `limit` generations, 1 to 64.
+    /// Returns the apgcodes of the clusters, counted. All clusters must recur within `limit` (1 to 64) generations.
     pub(crate) fn of_clusters(
         alloc: Global,
         rule: &Rule,

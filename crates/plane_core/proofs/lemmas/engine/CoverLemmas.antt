@@ -144,7 +144,7 @@ none_above y top first h k less = absurd (omega (arith, ints))
 
 -- ---- how many spans there are, and where they begin
 
--- the spans reach past the numbers that they have to cover by less than one span
+-- together, the spans are longer than necessary by less than one span
 pub left_over : (length size : ℕ) → 1 ≤ size → (length / size + 1) * size - length - 1 < size
 left_over length size some =
     let whole : length / size * size + length % size ≡ length = div-add-mod' length size in

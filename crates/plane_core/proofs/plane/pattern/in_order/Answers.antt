@@ -12,7 +12,7 @@ returns-then-not-are_in_order c =
     let is = dedup_is _ _ _ c.dedup.ensures.filtered in
     is ∙ deduped-set_of _ c.args.cells.items c.sort_unstable.new.self.items same_cell-eq c.sort_unstable.ensures.permutation c.sort_unstable.ensures.sorted
 
--- a list that is in order is its own set
+-- `set_of` leaves a list that is in order as it is
 pub returns-else-not-are_in_order : goal.returns-else-not-are_in_order
 returns-else-not-are_in_order c =
     let ordered : InOrder c.as_slice.result.now = c.are_in_order.ensures c.if-not-are_in_order.false in
