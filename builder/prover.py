@@ -22,9 +22,10 @@ VERDICT = b"logic=proved "
 
 
 def words_for(crate: str, uses: Mapping[str, list[str]], kit: Path, made: Path) -> list[str]:
-    """Returns the arguments with which the prover is called in a crate's folder, apart from the
-    command: the crate's root file, the libraries that it names, and where to find the libraries
-    that these use. `made` is the folder of the libraries that were built from this repository.
+    """Returns the arguments that `build` and `check`, two commands of the prover, share. They are
+    for a call in the crate's folder: the crate's root file, the libraries that the crate names, and
+    where to find the libraries that these use. `made` is the folder of the libraries that were
+    built from this repository.
     """
     words = ["--crate-name", crate, "src/main.rt" if crate == PROGRAM else "src/lib.rt"]
     words += ["--extern", f"std={kit}/rlibs/std.rlib"]

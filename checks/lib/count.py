@@ -57,8 +57,8 @@ class Count:
         self.skipped += checks
 
     def lack(self, what: str, package: str, checks: int = 1) -> None:
-        """Counts checks whose package isn't installed. They are skipped. In CI, they count as one
-        check that failed.
+        """Counts checks whose package isn't installed. In CI, they count as one check that failed.
+        Otherwise, they are skipped.
         """
         if IN_CI:
             self.check(what, f"{package} isn't installed")

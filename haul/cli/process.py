@@ -19,8 +19,8 @@ from haul.terminal import Terminal
 
 # The signals that end this program, except for those that were ignored when it was started.
 ENDING = (signal.SIGINT, signal.SIGTERM, signal.SIGHUP)
-# Each signal writes its number to a pipe. The work writes this number to the pipe when it is done.
-# No signal has this number.
+# The number that the work writes to a pipe when it is done. Each signal writes its own number to
+# the same pipe. No signal has the number 0.
 IS_DONE = 0
 # The number that the work writes to the same pipe when it begins, and how many seconds it has for
 # that. If there is enough memory, the work begins in time.
@@ -70,8 +70,8 @@ def run_heeding_signals(work: Callable[[], int]) -> int:
 
 def begin_thread(do: Callable[[], None], reading: int) -> None:
     """Starts a thread that first writes a byte to a pipe. Raises `MemoryError` if no byte comes in
-    time, since a thread that has no memory to begin ends silently. `threading` would wait for its
-    start forever."""
+    time, since a thread that has no memory to begin ends silently. `threading` would wait forever
+    for the start of such a thread."""
     try:
         _thread.start_new_thread(do, ())
     except RuntimeError as error:

@@ -36,8 +36,8 @@ class Rest:
     apart: list[str] = field(default_factory=list)
     # The periods of other objects that a census doesn't recognise.
     periods: list[int] = field(default_factory=list)
-    # The first generation in which two groups meet, where the given pattern is generation 0, or
-    # `None` if no groups meet.
+    # The first generation in which two groups meet, counted from the given pattern. It is `None` if
+    # no groups meet.
     meeting: int | None = None
 
 

@@ -149,7 +149,7 @@ def find_fault(line: bytes) -> int:
 
 
 def can_follow(fields: list[bytes], place: int) -> bool:
-    """Checks whether the field at `place` is correct. All fields before it must be correct."""
+    """Checks whether the field at `place` is correct, given that all fields before it are."""
     field = fields[place]
     if place < AT_PLACE:
         return is_leading_field(field, place)
@@ -166,8 +166,8 @@ def can_follow(fields: list[bytes], place: int) -> bool:
 
 
 def is_leading_field(field: bytes, place: int) -> bool:
-    """Checks whether the field at `place` is correct. It must be one of the first seven fields,
-    which every line has."""
+    """Checks whether the field at `place` is correct. The field is one of the first seven, which
+    every line has."""
     profile = PROFILE_FIELD.fullmatch(field)
     return bool(
         [

@@ -16,8 +16,8 @@ FILES_FOR_ONE_WRONG = 100
 
 
 class FileChoice:
-    """A choice of `number` files or parts. For each of them, the text `choice`, a space and the
-    name are hashed together with SHA-256. Those with the lowest digests are chosen."""
+    """A choice of `number` files or parts: those with the lowest SHA-256 digests of the text
+    `choice`, a space and the name."""
 
     def __init__(
         self, files: list[str], number: int, choice: str | None, thing: str = "file"

@@ -103,7 +103,7 @@ class QuickSeparator:
 
 @dataclass
 class QuickBlocks:
-    """The blocks of an object: sets of its islands, each of which may be a part of the object. All
+    """The blocks of an object: sets of its islands. Each block may be a part of the object. All
     blocks are in the room of the object."""
 
     rule: Rule

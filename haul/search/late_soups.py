@@ -1,5 +1,5 @@
-"""The late and unsettled soups of a search: opens FILE.late, which keeps them, and reads the report
-lines of each batch. A soup is late if it settles in a given generation or later."""
+"""Opens FILE.late, which keeps the late and unsettled soups of a search, and reads the report lines
+of such soups in each batch. A soup is late if it settles at a given checkpoint or later."""
 
 from __future__ import annotations
 

@@ -10,8 +10,8 @@ from pathlib import Path
 FOLDER = Path(__file__).resolve().parent
 
 with tempfile.TemporaryDirectory(ignore_cleanup_errors=True) as compiled:
-    # If Python mustn't write compiled modules beside the sources, it writes them to this folder,
-    # since each start of `haul` would otherwise compile all modules again.
+    # If Python mustn't write compiled modules beside the sources, it writes them to the temporary
+    # folder, since each start of `haul` would otherwise compile all modules again.
     if os.environ.pop("PYTHONDONTWRITEBYTECODE", ""):
         os.environ["PYTHONPYCACHEPREFIX"] = compiled
     suite = unittest.defaultTestLoader.discover(str(FOLDER), top_level_dir=str(FOLDER.parents[1]))

@@ -160,8 +160,8 @@ def partitions(things: list[int]) -> Iterator[list[list[int]]]:
 
 
 def parts_of(rule: Rule, code: str) -> tuple[list[str], bool, bool]:
-    """Returns the parts of an object, whether the object is strict (has only one part), and whether
-    it has been separated."""
+    """Returns the parts of an object, whether the object is strict, and whether it has been
+    separated. A strict object has been separated and has only one part."""
     itself = [code], False, False
     match = re.fullmatch("x([spq])([0-9]+)_([0-9a-z]+)", code)
     found = recurring(rule, drawing_of(match[3])) if match else None

@@ -53,7 +53,7 @@ def make_search(
 
 
 class Searches(unittest.TestCase):
-    """The base of tests that run searches in a folder of their own."""
+    """The base class of tests of searches. Each test has a folder of its own."""
 
     def setUp(self) -> None:
         folder = tempfile.TemporaryDirectory(ignore_cleanup_errors=True)

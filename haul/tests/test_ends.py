@@ -188,8 +188,8 @@ class Progress(unittest.TestCase):
             )
 
     def test_soups_that_are_run(self) -> None:
-        """Progress is shown after each call of the census program, which runs at most a hundred
-        soups."""
+        """For a page, each call of the census program runs at most a hundred soups, and progress is
+        shown after each call."""
         codes = [f"xs4_{number}" for number in range(1000, 1150)]
         text = text_of(
             Haul(

@@ -16,8 +16,8 @@ from haul.tests.drawn import any_haul
 
 # A line and a column. Both count from 1.
 Place = tuple[int, int]
-# None of these is a valid field. With an empty field, a line has two spaces in a row, or begins or
-# ends with a space.
+# None of these is a valid field. With an empty field, a line has two spaces in a row, begins or
+# ends with a space, or is empty.
 NO_FIELDS = ["", "*", "\x01", "\xff", "@", "-1", "x.y"]
 
 

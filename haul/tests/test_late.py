@@ -109,8 +109,8 @@ class Kept(LateSearches):
             self.assert_right()
 
     def test_a_kill_between_the_files(self) -> None:
-        """If FILE.late has lines of soups that aren't in FILE, they are dropped, and written again
-        when these soups are run."""
+        """If FILE.late has lines of soups that aren't in FILE, these lines are dropped. They are
+        written again when the soups are run."""
         self.search("--seed=a", *SHORT, "--late=505", "--until=60")
         earlier = self.file.read_bytes()
         self.search("--until=100")

@@ -879,8 +879,9 @@ class Ends(unittest.TestCase):
             self.assertEqual(read_end(life, fields), end)
 
     def test_which_have_one(self) -> None:
-        """Only the sample soups of the first `play` codes have ends. The most frequent parts come
-        first: 16 blinkers in pairs, 9 blocks, and 7 objects that couldn't be separated."""
+        """Only the sample soups of the first `play` codes have ends. The codes of parts come first,
+        beginning with the most frequent part: 16 blinkers in pairs, 9 blocks, and 7 objects that
+        couldn't be separated."""
         haul = made(
             {"xp2_1110s": 8, "xs4_33": 7, "xs8_rr": 1, "ov_p3": 7},
             [(0, 9)],
@@ -900,7 +901,7 @@ class Ends(unittest.TestCase):
         )
 
     def test_a_soup_without_end(self) -> None:
-        """`census` has run the soup, which doesn't settle, so the page has 0 as its end."""
+        """`census` has run the soup, which doesn't settle, so its end on the page is 0."""
         (end,) = data_of(page(made({"xs4_33": 8}, [(9, 1)], Profile(1, 1, 1, 0))))["soups"][
             0
         ].values()

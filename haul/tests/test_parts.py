@@ -75,8 +75,9 @@ def read_pictures(text: str) -> dict[str, str]:
 
 class Names(unittest.TestCase):
     def test_each_picture_has_the_code(self) -> None:
-        """For the picture of each name, `census` prints the code in names.tsv. In the pictures of
-        `FALL_APART`, it finds no object, but `look_for_rest` finds the code."""
+        """For the picture of each name, `census` prints the code in names.tsv, except for the names
+        in `FALL_APART`. In their pictures, `census` finds no object, but `look_for_rest` finds the
+        code."""
         pictures = read_pictures((FOLDER / "pictures.txt").read_text())
         names = load_names()
         self.assertEqual(list(pictures), list(names.shown.values()))
@@ -204,9 +205,9 @@ class Parts(unittest.TestCase):
         self.assertTrue(strict("xs4_33").is_strict() and not parts("xs8_rr").is_strict())
 
     def test_many_islands(self) -> None:
-        """Under a rule in which no cell is born or dies, each cell of a row with gaps of one cell is
-        a part of its own, however many cells there are. For more than `MOST_ISLANDS` islands, only
-        the separation into single islands is tried."""
+        """Under a rule in which no cell is born or dies, each cell of a row with gaps of one cell
+        is a part of its own, however many cells there are. For more than `MOST_ISLANDS` islands,
+        only the separation into single islands is tried."""
         for count in (MOST_ISLANDS, MOST_ISLANDS + 1, 30):
             row = "0".join("1" * count)
             self.assertEqual(parts(f"xs{count}_{row}", STILL), Separation(("xs1_1",) * count))

@@ -69,7 +69,7 @@ def is_printed(kept: Kept, text: bytes) -> bool:
 
 
 class Checking(unittest.TestCase):
-    # With these small numbers, the census of a changed haul takes little time, too, under any rule.
+    # With these small numbers, even the census of a changed haul is quick, under any rule.
     WORDS = ["--seed=a", "--count=30", "--period=4", "--horizon=8", "--stride=10", "--limit=30"]
 
     def test_right(self) -> None:

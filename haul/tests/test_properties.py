@@ -154,7 +154,7 @@ class Once(Census):
 def how_often(soups: int, total: int) -> str:
     """Returns how often an object occurs, in the words of the page: a bound `≤ 1 in N soups` if
     there are at most half as many objects as soups, otherwise the number of objects per soup. That
-    number has three digits below 100, and is a whole number from 100 on."""
+    number is rounded to three significant digits below 100, and to a whole number from 100 on."""
     if soups == 0:
         return "none"
     if Fraction(total, soups) <= Fraction(1, 2):
@@ -169,7 +169,7 @@ def how_often(soups: int, total: int) -> str:
 class Shown(unittest.TestCase):
     def test_number_for_number(self) -> None:
         """The table and the data have the numbers of each code, with the most frequent code first.
-        The tiles have all facts about the haul."""
+        The tiles have the numbers of the whole haul."""
         draw = random.Random("pages")
         rows = 0
         for _ in range(200):

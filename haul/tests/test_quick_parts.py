@@ -89,7 +89,7 @@ class Bitmaps(unittest.TestCase):
             width, height = (max(side) + 1 for side in zip(*cells, strict=True))
             room = {(x, y) for x in range(-3, width + 3) for y in range(-3, height + 3)}
             self.assertEqual(find_room(bits), bits_of(frozenset(room)))
-        # The corner is found in whichever row the cell of the first column is.
+        # The cell in the first column may be in any row.
         for row in range(MOST_SIDE):
             cells = frozenset([(1, 0), (1, MOST_SIDE - 1), (0, row)])
             self.assertEqual(bitmaps.find_corner(bits_of(cells)), CORNER)

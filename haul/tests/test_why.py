@@ -281,7 +281,8 @@ class Told(unittest.TestCase):
 
     def test_it_settles_after_the_limit(self) -> None:
         """A blocker is one cluster in two of its eight phases, and two clusters in the others. With
-        a limit of 0, it settles only if it begins in one of those two phases."""
+        a limit of 0, it settles in generation 0 if it begins in one of those two phases, otherwise
+        after the limit."""
         blocker = census("show", "xp8_g3jgz1ut").decode()
         field, texts = Field(LIFE, cells_of_rows(blocker)), set()
         for _ in range(8):

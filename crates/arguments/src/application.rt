@@ -161,7 +161,7 @@ fn parameter<'a>(alloc: Global, row: &Parameter) -> Arg<'a>
     }
 }
 
-/// Returns the argument of a row, with any text as its value. The argument is required if the row has no default.
+/// Returns the argument of a row. The argument takes any text as its value, and is required if the row has no default.
 fn with_value<'a>(alloc: Global, row: &Parameter) -> Arg<'a>
     ensures rule { rule_of result ≡ placed (entry_of row.now) }
     ensures local { result.global ≡ false }

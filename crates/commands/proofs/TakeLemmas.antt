@@ -61,9 +61,9 @@ use Rattle.commands.proofs.NumberLemmas.{numbers_within}
 
 -- if a set's range list is valid, finding a refusal of the set needs memory
 refused_needs_memory : (set : SoupSet) (refusal : Refusal) → IsListText set.also → IsRefused set refusal → NeedsMemory (Refused refusal)
-refused_needs_memory set refusal list (Bad_list not_list place fault refusal_is) = absurd (not_list list)
-refused_needs_memory set refusal list (Too_large ranges named large refusal_is) = subst (λ (r : Refusal). NeedsMemory (Refused r)) (sym refusal_is) tt
-refused_needs_memory set refusal list (Overlapping ranges named small overlap refusal_is) = subst (λ (r : Refusal). NeedsMemory (Refused r)) (sym refusal_is) tt
+refused_needs_memory set refusal list (Bad_list not_list place fault is_refused) = absurd (not_list list)
+refused_needs_memory set refusal list (Too_large ranges named large is_refused) = subst (λ (r : Refusal). NeedsMemory (Refused r)) (sym is_refused) tt
+refused_needs_memory set refusal list (Overlapping ranges named small overlap is_refused) = subst (λ (r : Refusal). NeedsMemory (Refused r)) (sym is_refused) tt
 
 needs_memory : (set : SoupSet) (tells : List Range → List ℕ → Type 0) (complaint : Complaint) → IsListText set.also
     → IsRightForSet set tells (Err complaint) → NeedsMemory complaint

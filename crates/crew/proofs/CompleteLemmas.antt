@@ -78,7 +78,7 @@ one_of_each (suc n) got none each all w some le =
 
 -- ---- all notes of each worker were received
 
--- if a list of notes ends with "done", a suffix of the list without any note "done" is empty
+-- if a list of notes ends with "done", each suffix that has no note "done" is empty
 nothing_after : (prefix remainder body : List Note) (worker : ℕ) → prefix ++ remainder ≡ body ++ Done worker ∷ [] → done_in remainder ≡ 0
     → remainder ≡ []
 nothing_after prefix [] body worker is none = refl

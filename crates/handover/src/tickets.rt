@@ -32,7 +32,7 @@ use thiserror::Error;
 /// The largest count of numbers, which is also the largest number of soups for which a haul can be opened.
 const MOST_NUMBERS: u64 = 1 << 24;
 
-/// The largest number of passes, which is also the largest number of a haul's workers.
+/// The largest number of passes, which is also the largest number of workers that a haul may have.
 const MOST_PASSES: u8 = 16;
 
 /// Why no tickets were opened.

@@ -7,7 +7,7 @@ use Rattle.ranges.specs.Ranges.{size_of}
 use Rattle.haul_core.specs.Rows.{AreRowsOf}
 use Rattle.haul_core.specs.Totals.{AreSurveys, Survey, for_good, unsettled}
 
--- the census of a haul of this job, whose set has these ranges, and which has taken the soups with these numbers
+-- the census of a haul of this job; the haul's set has these ranges, and the haul took the soups with these numbers
 pub record IsCensus (job : Job) (ranges : List Range) (numbers : List ℕ) (census : Census) : Type 0 where
   pub surveys : List Survey
   pub surveyed : AreSurveys job numbers surveys

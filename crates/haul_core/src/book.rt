@@ -25,6 +25,6 @@ pub mod keep;
 mod missing;
 /// Why a report is refused.
 pub mod refused;
-/// The samples of a code: the lowest numbers of soups that left an object with it.
+/// The samples of a code: the three lowest numbers of soups that left an object with it.
 pub mod samples;
 mod scores;

@@ -22,7 +22,7 @@ SameSoupsPrintTheSame = (job : Job) (ranges others : List Range) (numbers more :
     → AreNormal ranges → AreNormal others → GiveOneSet ranges others → AreSameNumbers numbers more
     → IsCensus job ranges numbers one → IsCensus job others more other → haul_text one ≡ haul_text other
 
--- two censuses of one job, each of all soups of one set, have the same text
+-- two censuses of one job have the same text if both are of all soups of the same set
 abbrev pub CompleteHaulsPrintTheSame : Type 0
 CompleteHaulsPrintTheSame = (job : Job) (ranges others : List Range) (numbers more : List ℕ) (one other : Census)
     → AreNormal ranges → AreNormal others → GiveOneSet ranges others → AreAll ranges numbers → AreAll others more
@@ -37,7 +37,7 @@ abbrev pub samples_in : List Row → List ℕ → List ℕ
 samples_in rows code = unwrap_or (option_map (λ row. row.samples) (find (λ row. is_code code row.code) rows)) []
 
 -- The census `both` is the sum of `one` and `other`: in the numbers of objects, soups, unsettled soups and soups whose
--- objects stay for good, and in each code's total. A code's samples are the three lowest that it has in either.
+-- objects stay for good, and in each code's total. A code's samples are the three lowest of its samples in the two.
 pub record AddUp (one other both : Census) : Type 0 where
   pub soups : both.soups ≡ one.soups + other.soups
   pub unsettled : both.unsettled ≡ one.unsettled + other.unsettled

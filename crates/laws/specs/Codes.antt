@@ -19,7 +19,8 @@ abbrev pub CodesLater : Type 0
 CodesLater = (g : ℕ) (rule : Numbers) (cells : List Cell) (limit : ℕ) (code : List ℕ)
     → InOrder cells → IsCode rule cells limit code → IsCode rule (after rule cells g) limit code
 
--- two patterns are one object: the second is some generation of the first, moved and possibly turned or mirrored
+-- two patterns are one object: the second pattern is equal to some generation of the first one, after that generation
+-- is moved and possibly turned or mirrored
 pub record IsOneObject (rule : Numbers) (cells others : List Cell) : Type 0 where
   pub generation : ℕ
   pub orientation : Orientation

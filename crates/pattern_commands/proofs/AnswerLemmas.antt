@@ -135,5 +135,5 @@ Reaches_unread reads right answer (WriteFailed error) output read is refused not
 pub Reaches_rule : (reads : Bool) (right : Right) (text : List ℕ) (error : RuleFault) (output : Stream) → rule_read text ≡ Err error
     → ((complaint : Complaint) → rule_named text ≡ Err complaint → right (Err complaint)) → Has output []
     → ReachesText reads true right (Err (rule_complaint error)) output
-Reaches_rule reads right text (rule_error.BadRule place) output is diagnostics nothing = (diagnostics _ (rw is refl), nothing)
-Reaches_rule reads right text rule_error.BirthZero output is diagnostics nothing = (diagnostics _ (rw is refl), nothing)
+Reaches_rule reads right text (rule_error.BadRule place) output is complains nothing = (complains _ (rw is refl), nothing)
+Reaches_rule reads right text rule_error.BirthZero output is complains nothing = (complains _ (rw is refl), nothing)

@@ -62,7 +62,7 @@ abbrev pub LiesWithin999 : List Cell → Type 0
 LiesWithin999 cells = lies_within 999 cells ≡ true
 
 -- A call that reads a value returns the right `answer`: the value, a refusal, or that the text is too long. If memory
--- runs out or a read fails, the call may return this complaint instead.
+-- runs out or a read fails, the call may return the complaint about this instead.
 abbrev pub Reads : {A : Type 0} → Result A Complaint → Result A Complaint → Type 0
 Reads answer (Ok x) = answer ≡ Ok x
 Reads answer (Err (Refused refusal)) = answer ≡ Err (Refused refusal)

@@ -120,8 +120,9 @@ def run_noted(copy: Path, name: str) -> float:
 
 
 def read_or_note(kept: Path | None, copy: Path, workers: int) -> Lines:
-    """Returns the tests that run each line. Reads them from the file `kept` if there is such a
-    file. Otherwise runs the tests to record them, and writes them to `kept` unless it is `None`."""
+    """Returns a record of which tests run each line. Reads the record from the file `kept` if there
+    is such a file. Otherwise runs all tests, and writes the record to `kept` unless `kept` is
+    `None`."""
     if kept is not None and kept.exists():
         lines: Lines = json.loads(kept.read_text())
         return lines

@@ -383,9 +383,9 @@ impl Haul {
         })
     }
 
-    /// Offers a report. An open haul takes it if it is of the haul's job and by one of the haul's workers, and if its
-    /// soup is in the haul's set and has no report yet. The time is proportional to the number of codes in the report,
-    /// and grows with the logarithm of the number of ranges.
+    /// Offers a report. An open haul takes the report if it is of the haul's job and by one of the haul's workers, and
+    /// if its soup is in the haul's set and hasn't been taken yet. The time is proportional to the number of codes in
+    /// the report, and grows with the logarithm of the number of ranges.
     ///
     /// # Errors
     ///

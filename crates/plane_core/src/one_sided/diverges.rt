@@ -1,5 +1,5 @@
-//! A one-sided test that a cluster diverges: in some generation, the cluster, run alone, has a live cell that the whole
-//! pattern doesn't have:
+//! A one-sided test that a cluster diverges: run alone, the cluster has a live cell that the whole pattern doesn't have
+//! in the same generation. An example:
 //!
 //! ```text
 //! the whole            in generation 3      a cluster alone,

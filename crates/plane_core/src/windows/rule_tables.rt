@@ -45,8 +45,9 @@ impl CellLogic for Life {
 
     #[inline(always)]
     fn next_cells(&self, up: Sum, here: RowSums, down: Sum, now: u64x4) -> u64x4 {
-        // A cell is alive next if it has three live neighbours, or if it is alive and has two. Four binary digits
-        // have the weight 2. The number of live neighbours is two or three exactly if just one of these digits is 1.
+        // A cell is alive next if it has three live neighbours, or if it is alive and has two. Four of the binary
+        // digits that are added have the weight 2. The number of live neighbours is two or three if and only if exactly
+        // one of these four digits is 1.
         let low = added(up.ones, down.ones, here.beside.ones);
         only_one(up.twos, down.twos, here.beside.twos, low.twos) & (low.ones | now)
     }

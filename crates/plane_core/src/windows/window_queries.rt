@@ -89,7 +89,7 @@ pub(crate) fn are_alike<const N: usize>(one: &[u64x4; N], other: &[u64x4; N]) ->
     in_any_lane(differ) == 0
 }
 
-/// Returns `marks`, in which each bit is set to 1 where `a` and `b` differ.
+/// Returns `marks` after setting to 1 each bit at which `a` and `b` differ.
 #[inline(always)]
 fn marked(marks: u64x4, a: u64x4, b: u64x4) -> u64x4
     ensures before { (j i : ℕ) → j < 4 → bit_of result j i ≡ 0 → bit_of marks j i ≡ 0 }

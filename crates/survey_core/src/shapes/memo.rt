@@ -117,7 +117,8 @@ impl Memo {
         }
     }
 
-    /// Returns the envelopes of `patterns`, or `None` if one of them doesn't recur within `limit` (1 to 64) generations.
+    /// Returns the envelopes of `patterns`, or `None` if one of them doesn't recur within `limit` generations. `limit`
+    /// is from 1 to 64.
     pub(crate) fn envelopes(
         &mut self,
         alloc: Global,
@@ -212,8 +213,8 @@ impl Memo {
         false
     }
 
-    /// Returns the envelope of `pattern`, or `None` if it doesn't recur within `limit` generations. A pattern that recurs
-    /// is named and kept in its slot, unless it is large. `limit` is from 1 to 64.
+    /// Returns the envelope of `pattern`, or `None` if it doesn't recur within `limit` generations. A pattern that
+    /// recurs is named and kept in its slot, unless it is large. `limit` is from 1 to 64.
     pub(crate) fn envelope(
         &mut self,
         alloc: Global,

@@ -5,14 +5,14 @@ use Rattle.commands.proofs.gather.do_gather.Goals as goal
 
 pub returns-clause-ends : goal.returns-clause-ends
 returns-clause-ends g c =
-    let diagnostics = c.open_and_gather-outcome.ensures.gathers in (
-      diagnostics.0,
-      diagnostics.1,
+    let facts = c.open_and_gather-outcome.ensures.gathers in (
+      facts.0,
+      facts.1,
       record {
         outcome = c.open_and_gather-outcome.result;
         so_far = stream g.E.Write.contents c.args.errors.now c.open_and_gather-outcome.new.errors;
         from = refl;
-        reached = diagnostics.2;
+        reached = facts.2;
         stays = c.end_command.ensures.stays;
         last = c.end_command.ensures.last;
         status_is = c.end_command.ensures.status;

@@ -22,10 +22,10 @@ gather_and_finish-requires-clause-haul g c = c.in_ok-haul.ensures.opened.opened.
 pub returns-clause-gathers : goal.returns-clause-gathers
 returns-clause-gathers g c =
     let is = c.in_ok-haul.ensures.opened in
-    let diagnostics = c.gather_and_finish.ensures.gathers in (
-      diagnostics.0,
-      diagnostics.1,
-      gathers_over c.args.plan.now c.args.workers diagnostics.0 _ is.job _ _ _ _ is.named (is_over _ _ _ _ is.opened) diagnostics.2,
+    let facts = c.gather_and_finish.ensures.gathers in (
+      facts.0,
+      facts.1,
+      gathers_over c.args.plan.now c.args.workers facts.0 _ is.job _ _ _ _ is.named (is_over _ _ _ _ is.opened) facts.2,
     )
 
 pub returns-in_err-haul-clause-place : goal.returns-in_err-haul-clause-place

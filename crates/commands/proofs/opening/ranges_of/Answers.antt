@@ -7,10 +7,10 @@ use Rattle.commands.proofs.opening.ranges_of.Goals as goal
 
 pub returns-in_err-ranges-clause-stops : goal.returns-in_err-ranges-clause-stops
 returns-in_err-ranges-clause-stops c =
-    let diagnostics = c.in_err-ranges.ensures in
+    let facts = c.in_err-ranges.ensures in
     rw (err_of _ _ c.from_residual.ensures.1)
-    (Stops_list c.args.set.now c.as_str.result.now c.in_err-ranges.field-0.0 c.as_str.ensures diagnostics.complete
-    (λ place is. diagnostics.bad_list place (ap Err is)) (λ is. diagnostics.memory (ap Err is)))
+    (Stops_list c.args.set.now c.as_str.result.now c.in_err-ranges.field-0.0 c.as_str.ensures facts.complete
+    (λ place is. facts.bad_list place (ap Err is)) (λ is. facts.memory (ap Err is)))
 
 pub returns-in_err-add_range-clause-stops : goal.returns-in_err-add_range-clause-stops
 returns-in_err-add_range-clause-stops c =

@@ -42,7 +42,7 @@ impl Claim {
     ///
     /// - [`CheckError::OtherJob`] if the claim has another seed, profile or rule.
     /// - [`CheckError::Memory`] if memory runs out while the soup is surveyed.
-    /// - [`CheckError::Disagrees`], which holds the finding, if the claim says something else.
+    /// - [`CheckError::Disagrees`], which contains the finding, if the claim says something else.
     pub fn check(self, alloc: Global, job: &Job) -> Result<Report, (Claim, CheckError)>
         ensures { IsCheckedClaim self job.now result }
     {
