@@ -59,7 +59,8 @@ def try_players(driver: Driver, path: Path, haul: bytes) -> None:
         margins,
     )
     click(driver, "[data-act=ring]")
-    count.holds("a button moves in on the ring", min(margins_of(driver)) == 0)
+    near = margins_of(driver)
+    count.holds("a button moves in on the ring", min(near) < min(margins), near)
     click(driver, "[data-act=fit]")
     count.equal("and another one shows all again", margins_of(driver), margins)
     click(driver, "[data-act=ring]")
@@ -158,14 +159,15 @@ def try_end(driver: Driver) -> None:
 
 def margins_of(driver: Driver) -> list[float]:
     """Returns how much of the player's picture is empty at the left, the right, the top and the
-    bottom.
+    bottom. Only points in the colour of live cells count, since the grid fills the picture.
     """
     found: list[float] = driver.execute_script(
         """
 const canvas = document.querySelector('.player canvas'), { width, height } = canvas;
 const points = canvas.getContext('2d').getImageData(0, 0, width, height).data, xs = [], ys = [];
-for (let at = 0; at < width * height; at += 1) if (points[4 * at + 3] > 60) { xs.push(at % width); ys.push(Math.floor(at / width)); }
-const least = all => all.reduce((one, other) => Math.min(one, other)), most = all => all.reduce((one, other) => Math.max(one, other));
+const live = getComputedStyle(canvas).getPropertyValue('--live').match(/[0-9a-f]{2}/g).map(byte => parseInt(byte, 16));
+for (let at = 0; at < width * height; at += 1) if (live.every((part, color) => points[4 * at + color] === part)) { xs.push(at % width); ys.push(Math.floor(at / width)); }
+const least = all => all.reduce((one, other) => Math.min(one, other), 1), most = all => all.reduce((one, other) => Math.max(one, other), 0);
 return [least(xs) / width, 1 - (most(xs) + 1) / width, least(ys) / height, 1 - (most(ys) + 1) / height];"""
     )
     return found
