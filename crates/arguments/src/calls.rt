@@ -76,10 +76,14 @@ pub fn request_of<'a, S: AsStr>(alloc: Global, arguments: &'a [S]) -> Result<Req
     }
     let command = census_command(alloc)?;
     match command.try_get_matches_from(arguments) {
-        Ok(matches) => match request_in(&matches) {
-            Some(request) => Ok(request),
-            None => Err(usage(alloc, CONTRADICTION)),
-        },
+        Ok(matches) => {
+            let request = request_in(&matches);
+            drop(matches);
+            match request {
+                Some(request) => Ok(request),
+                None => Err(usage(alloc, CONTRADICTION)),
+            }
+        }
         Err(error) => Err(unasked_by(alloc, error)),
     }
 }

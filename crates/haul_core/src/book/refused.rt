@@ -25,14 +25,15 @@ pub enum OfferError {
 
 impl fmt::Display for OfferError {
     fn fmt<W: fmt::Write>(&self, f: &mut fmt::Formatter<W>) -> fmt::Result {
-        match self {
-            OfferError::Closed => f.write_str("closed"),
-            OfferError::OtherJob => f.write_str("other job"),
-            OfferError::UnknownWorker => f.write_str("unknown worker"),
-            OfferError::OutOfRange => f.write_str("out of range"),
-            OfferError::Double { worker } => write!(f, "double of a report by {worker}"),
-            OfferError::Memory(_) => f.write_str("out of memory"),
-        }
+        let text = match self {
+            OfferError::Closed => "closed",
+            OfferError::OtherJob => "other job",
+            OfferError::UnknownWorker => "unknown worker",
+            OfferError::OutOfRange => "out of range",
+            OfferError::Double { worker } => return write!(f, "double of a report by {worker}"),
+            OfferError::Memory(_) => "out of memory",
+        };
+        f.write_str(text)
     }
 }
 

@@ -8,12 +8,12 @@ returns-in-Some-clause-asked g c =
     asked_by-found (app_of c.in_ok-command.command) (map g.S.AsStr.text c.args.arguments.now) c.in_ok-command.ensures c.if-asks_version.ensures
     (subcommand_rows_of c.in-Ok.matches) c.in-Ok.ensures.kinds (λ simple. (c.in-Ok.ensures.matches simple).1) ∙ sym c.in-Some.ensures.request
 
-pub returns-in-Ok-clause-usage : goal.returns-in-Ok-clause-usage
-returns-in-Ok-clause-usage g c =
+pub returns-in-None-clause-usage : goal.returns-in-None-clause-usage
+returns-in-None-clause-usage g c =
     λ _. asked_by-found (app_of c.in_ok-command.command) (map g.S.AsStr.text c.args.arguments.now) c.in_ok-command.ensures c.if-asks_version.ensures
     (subcommand_rows_of c.in-Ok.matches) c.in-Ok.ensures.kinds (λ simple. (c.in-Ok.ensures.matches simple).1) ∙ sym c.in-None.ensures.request
 
-pub returns-clause-usage : goal.returns-clause-usage
-returns-clause-usage g c =
+pub returns-in-Err-clause-usage : goal.returns-in-Err-clause-usage
+returns-in-Err-clause-usage g c =
     λ usage. asked_by-none (app_of c.in_ok-command.command) (map g.S.AsStr.text c.args.arguments.now) c.in_ok-command.ensures c.if-asks_version.ensures
     (kind_of c.in-Err.error) c.in-Err.ensures.kinds (c.unasked_by.ensures.usage usage)
