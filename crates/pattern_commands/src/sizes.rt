@@ -143,8 +143,7 @@ fn put_next_sizes<W: Write>(
     requires most { most ≤ 1000 }
     requires generation { generation + most ≤ 100000 }
     requires output { output.old.failed ≡ false }
-    ensures some { IfOk result (λ made. 1 ≤ made) }
-    ensures made { IfOk result (λ made. made ≤ most) }
+    ensures made { IfOk result (λ made. (1 ≤ made) × (made ≤ most)) }
     ensures lines { PutsLines (later_sizes rule.now pattern.now generation)
         (later_sizes rule.now pattern.now generation most) result (stream W.contents output.old output.new) }
 {
