@@ -1,5 +1,6 @@
 pub mod AnswerLemmas
 pub mod CoordinateLemmas
+pub mod EndLemmas
 pub mod FoundLemmas
 pub mod NameLemmas
 pub mod RunLemmas
