@@ -6,24 +6,18 @@ use Rattle.std.specs.Io.KnownBytes.{Consumes, IsAtEnd}
 use Rattle.std.proofs.KnownBytes.{Consumes-nil, Consumes-trans}
 use Rattle.std.proofs.lemmas.List.FromFn.{length-range_with_len}
 use Rattle.std.specs.Result.{IsErrAnd, IsErrOf, result_map_both}
-use Rattle.memory.specs.Witness.{out_of_memory}
 use Rattle.plane_core.specs.declared.plane.cell.Cell.{Cell}
-use Rattle.plane_core.specs.declared.plane.rule.RuleFault.{RuleFault}
-use Rattle.plane_core.specs.declared.plane.rule.RuleFault.TheVariants as rule_error
 use Rattle.plane_core.specs.declared.plaintext.PlaintextError.{PlaintextError}
 use Rattle.plane_core.specs.declared.plaintext.PlaintextError.TheVariants as plaintext_error
 use Rattle.plane_core.specs.declared.plaintext.PlaintextFault.{PlaintextFault}
 use Rattle.plane_core.specs.declared.plaintext.PlaintextFault.TheVariants as plaintext_fault
-use Rattle.plane_core.specs.plane.Rules.{rule_read}
 use Rattle.plane_core.specs.Plaintext.{pattern}
 use Rattle.pattern_commands.specs.declared.ending.complaint.Complaint.{Complaint}
 use Rattle.pattern_commands.specs.declared.ending.complaint.Complaint.TheVariants.{Refused, Memory, ReadFailed, TooLong, WriteFailed}
 use Rattle.pattern_commands.specs.declared.input.InputError.{InputError}
 use Rattle.pattern_commands.specs.declared.input.InputError.TheVariants as input_error
-use Rattle.pattern_commands.specs.Answers.{IsInput, Right}
-use Rattle.pattern_commands.specs.Inputs.{HasReadAtMost, Reads, rule_named, input_complaint, plaintext_complaint, pattern_complaint, pattern_of, rule_complaint}
-use Rattle.pattern_commands.specs.Streams.{Stream, Has}
-use Rattle.pattern_commands.specs.TextSteps.{ReachesText}
+use Rattle.pattern_commands.specs.Answers.{IsInput}
+use Rattle.pattern_commands.specs.Inputs.{HasReadAtMost, Reads, input_complaint, plaintext_complaint, pattern_complaint, pattern_of}
 
 -- if a result is an error, and the error equals `e`, the result is `Err e`
 pub err_of : {A E : Type 0} (r : Result A E) (e : E) → IsErrAnd r (λ x. x ≡ e) → r ≡ Err e
@@ -114,26 +108,3 @@ pub Reads_error : (bytes : List ℕ) (error : PlaintextError) → length bytes �
     → Reads (pattern_of bytes) (Err (plaintext_complaint error))
 Reads_error bytes (plaintext_error.Fault fault) short faults = Reads_refused bytes fault short ((faults fault).0 refl)
 Reads_error bytes (plaintext_error.Memory refused) short faults = tt
-
--- if nothing was written, a command that reads its input may end because memory ran out
-pub Reaches_no_memory : (reads : Bool) (right : Right) (output : Stream) → reads ≡ true → Has output []
-    → ReachesText reads true right (Err (Memory out_of_memory)) output
-Reaches_no_memory reads right output read nothing =
-    (λ unread complaint is. let bad : false ≡ true = sym unread ∙ read in cc, nothing)
-
--- a command that has written nothing may end with the complaint about an input that was refused or couldn't be read
-pub Reaches_unread : {A : Type 0} (reads : Bool) (right : Right) (answer : Result A Complaint) (complaint : Complaint) (output : Stream) → reads ≡ true
-    → ((other : Complaint) → answer ≡ Err other → right (Err other)) → Reads answer (Err complaint) → Has output []
-    → ReachesText reads true right (Err complaint) output
-Reaches_unread reads right answer (Refused refusal) output read is refused nothing = (is (Refused refusal) refused, nothing)
-Reaches_unread reads right answer (Memory error) output read is refused nothing = Reaches_no_memory reads right output read nothing
-Reaches_unread reads right answer (ReadFailed error) output read is refused nothing = (read, nothing)
-Reaches_unread reads right answer TooLong output read is long nothing = (read, is TooLong long, nothing)
-Reaches_unread reads right answer (WriteFailed error) output read is refused nothing = absurd refused
-
--- if nothing was written, a command whose rule was refused may end with the complaint about the rule
-pub Reaches_rule : (reads : Bool) (right : Right) (text : List ℕ) (error : RuleFault) (output : Stream) → rule_read text ≡ Err error
-    → ((complaint : Complaint) → rule_named text ≡ Err complaint → right (Err complaint)) → Has output []
-    → ReachesText reads true right (Err (rule_complaint error)) output
-Reaches_rule reads right text (rule_error.BadRule place) output is complains nothing = (complains _ (rw is refl), nothing)
-Reaches_rule reads right text rule_error.BirthZero output is complains nothing = (complains _ (rw is refl), nothing)

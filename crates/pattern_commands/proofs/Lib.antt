@@ -1,7 +1,11 @@
 pub mod AnswerLemmas
 pub mod CoordinateLemmas
+pub mod EndLemmas
+pub mod FoundLemmas
 pub mod NameLemmas
+pub mod RunLemmas
 pub mod ShowLemmas
+pub mod SizeEndLemmas
 pub mod SizeLemmas
 pub mod SizeLoopLemmas
 pub mod SizePartLemmas

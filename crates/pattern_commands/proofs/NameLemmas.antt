@@ -1,7 +1,8 @@
 -- Lemmas about `name`: which answers are right.
-use Rattle.std.proofs.Common.{◌≡◌, ◌&&◌, ◌++◌, ◌+◌, ◌<◌, ℕ, Bool, List, [], ◌∷◌, Ok, Err, true, false, is_ok, nat_le, refl, sym, ap, ◌∙◌, append_assoc}
-use Rattle.std.proofs.Common.{drop, flat_map, get_or, length}
+use Rattle.std.proofs.Common.{◌≡◌, ◌&&◌, ◌++◌, ◌+◌, ◌<◌, ℕ, Bool, List, [], ◌∷◌, Option, Result, Ok, Err, true, false, is_ok, nat_le, refl, sym, ap, ◌∙◌, append_assoc}
+use Rattle.std.proofs.Common.{drop, flat_map, get_or, length, subst}
 use Rattle.std.proofs.lemmas.List.{drop_more}
+use Rattle.memory.specs.declared.OutOfMemory.{OutOfMemory}
 use Rattle.plane_core.specs.declared.plane.cell.Cell.{Cell}
 use Rattle.plane_core.specs.plane.Rules.{Numbers}
 use Rattle.survey_core.specs.declared.finding.Finding.{Finding}
@@ -9,49 +10,84 @@ use Rattle.survey_core.specs.Findings.{IsFinding}
 use Rattle.survey_core.specs.Profiles.{Settling}
 use Rattle.pattern_commands.specs.declared.ending.complaint.Complaint.{Complaint}
 use Rattle.requests.specs.declared.plan.ProfileNumbers.{ProfileNumbers}
-use Rattle.pattern_commands.specs.declared.ending.complaint.Complaint.TheVariants.{Refused}
+use Rattle.pattern_commands.specs.declared.ending.complaint.Complaint.TheVariants.{Refused, Memory}
 use Rattle.pattern_commands.specs.declared.ending.refusal.Refusal.TheVariants.{HorizonBelowPeriod}
-use Rattle.pattern_commands.specs.TextSteps.{ReachesText}
+use Rattle.pattern_commands.specs.declared.ending.status.Status.TheVariants as statuses
+use Rattle.pattern_commands.specs.Answers.{IsRightGiven, given}
+use Rattle.pattern_commands.specs.Complaints.{status_of}
+use Rattle.pattern_commands.specs.Found.{HasFound, answer_with, ruled_pattern}
 use Rattle.pattern_commands.specs.Inputs.{pattern_of, rule_named}
-use Rattle.pattern_commands.specs.Name.{finding_text, name_right}
+use Rattle.pattern_commands.specs.Name.{TellsFinding, finding_text, name_right}
 use Rattle.pattern_commands.specs.Profiles.{profile_named, settling}
-use Rattle.pattern_commands.specs.Streams.{Stream, Has}
+use Rattle.pattern_commands.proofs.FoundLemmas.{found_err, found_memory, found_ok, found_refused}
 
--- the input is read if the profile and the rule are valid
-pub name_reads : (numbers : ProfileNumbers) (text : List ℕ) (profile : Settling) (rule : Numbers) → profile_named numbers ≡ Ok profile
-    → rule_named text ≡ Ok rule → (is_ok (profile_named numbers) && is_ok (rule_named text)) ≡ true
-name_reads numbers text profile rule profiled ruled = rw (profiled, ruled) refl
+module _ {V : Type 0} (numbers : ProfileNumbers) (text : List ℕ) (remaining : V → Option (List ℕ)) (old new : V) where
+  abbrev reads : Bool
+  reads = is_ok (profile_named numbers) && is_ok (rule_named text)
 
--- if the profile is refused and nothing was written, `name` may end with the complaint about the profile
-pub Reaches_profile : (reads : Bool) (numbers : ProfileNumbers) (text bytes : List ℕ) (complaint : Complaint) (output : Stream)
-    → profile_named numbers ≡ Err complaint → Has output [] → ReachesText reads true (name_right numbers text bytes) (Err complaint) output
-Reaches_profile reads numbers text bytes complaint output refused nothing = go (nat_le numbers.period numbers.horizon) refl
-  where
-    go : (b : Bool) → nat_le numbers.period numbers.horizon ≡ b → ReachesText reads true (name_right numbers text bytes) (Err complaint) output
-    go true is =
-        let named : profile_named numbers ≡ Ok (settling numbers) = rw is refl in
-        let bad = sym named ∙ refused in
-        cc
-    go false is =
-        let named : profile_named numbers ≡ Err (Refused HorizonBelowPeriod) = rw is refl in
-        let why : Refused HorizonBelowPeriod ≡ complaint = cc in
-        rw (← why) (rw named refl, nothing)
+  abbrev ruled : List ℕ → Result (Numbers × List Cell) Complaint → Type 0
+  ruled bytes found = ruled_pattern text bytes ≡ found
 
--- if the profile is valid and the rule is refused, the complaint about the rule is a right answer
-pub right_rule : (numbers : ProfileNumbers) (text bytes : List ℕ) (profile : Settling) (complaint : Complaint) → profile_named numbers ≡ Ok profile
-    → rule_named text ≡ Err complaint → name_right numbers text bytes (Err complaint)
-right_rule numbers text bytes profile complaint profiled refused = rw (profiled, refused) refl
+  abbrev right : List ℕ → Result Finding Complaint → Type 0
+  right bytes found = name_right numbers text bytes (answer_with finding_text found)
 
--- if the profile and the rule are valid and the pattern is refused, the complaint about the pattern is a right answer
-pub right_pattern : (numbers : ProfileNumbers) (text bytes : List ℕ) (profile : Settling) (rule : Numbers) (complaint : Complaint)
-    → profile_named numbers ≡ Ok profile → rule_named text ≡ Ok rule → pattern_of bytes ≡ Err complaint → name_right numbers text bytes (Err complaint)
-right_pattern numbers text bytes profile rule complaint profiled ruled refused = rw (profiled, ruled, refused) refl
+  -- the profile is refused
+  pub found_no_profile : (complaint : Complaint) → profile_named numbers ≡ Err complaint → HasFound reads right remaining old old (Err complaint)
+  found_no_profile complaint is = found_refused reads right remaining old complaint (go (nat_le numbers.period numbers.horizon) refl) (λ bytes. rw is refl)
+    where
+      go : (b : Bool) → nat_le numbers.period numbers.horizon ≡ b → status_of complaint ≡ statuses.Refused
+      go true fits = let named : profile_named numbers ≡ Ok (settling numbers) = rw fits refl in let bad = sym named ∙ is in cc
+      go false low = let named : profile_named numbers ≡ Err (Refused HorizonBelowPeriod) = rw low refl in let why = sym named ∙ is in cc
 
--- if nothing is refused, the lines of the pattern's finding are a right answer
-pub right_finding : (numbers : ProfileNumbers) (text bytes : List ℕ) (profile : Settling) (rule : Numbers) (cells : List Cell) (finding : Finding)
-    → profile_named numbers ≡ Ok profile → rule_named text ≡ Ok rule → pattern_of bytes ≡ Ok cells → IsFinding rule profile cells finding
-    → name_right numbers text bytes (Ok (finding_text finding))
-right_finding numbers text bytes profile rule cells finding profiled ruled read is = rw (profiled, ruled, read) (finding, is, refl)
+  -- the profile doesn't change whether the input is read
+  with_profile : (profile : Settling) {A : Type 0} {found_right : List ℕ → Result A Complaint → Type 0} (found : Result A Complaint)
+      → profile_named numbers ≡ Ok profile → HasFound (is_ok (rule_named text)) found_right remaining old new found
+      → HasFound reads found_right remaining old new found
+  with_profile profile found is has = rw is has
+
+  no_finding : (profile : Settling) (bytes : List ℕ) (complaint : Complaint) → profile_named numbers ≡ Ok profile → ruled_pattern text bytes ≡ Err complaint
+      → name_right numbers text bytes (Err complaint)
+  no_finding profile bytes complaint is ruled_is = rw is (go (rule_named text) (pattern_of bytes) ruled_is)
+    where
+      go : (rule : Result Numbers Complaint) (read : Result (List Cell) Complaint)
+          → given {B = Numbers × List Cell} rule (λ r. given read (λ cells. Ok (r, cells))) ≡ Err complaint
+          → IsRightGiven rule (λ r. IsRightGiven read (TellsFinding r profile)) (Err complaint)
+      go (Ok rule) (Ok cells) so = cc
+      go (Ok rule) (Err other) so = cc
+      go (Err other) read so = cc
+
+  -- the rule or the input was refused, or the input couldn't be read
+  pub found_no_finding : (profile : Settling) (complaint : Complaint) → profile_named numbers ≡ Ok profile
+      → HasFound (is_ok (rule_named text)) ruled remaining old new (Err complaint) → HasFound reads right remaining old new (Err complaint)
+  found_no_finding profile complaint is has =
+      found_err reads ruled right remaining old new complaint (λ bytes other. no_finding profile bytes other is) (with_profile profile (Err complaint) is has)
+
+  -- memory ran out
+  pub found_no_memory : (profile : Settling) (rule : Numbers) (cells : List Cell) (error : OutOfMemory) → profile_named numbers ≡ Ok profile
+      → HasFound (is_ok (rule_named text)) ruled remaining old new (Ok (rule, cells)) → HasFound reads right remaining old new (Err (Memory error))
+  found_no_memory profile rule cells error is has =
+      found_memory reads ruled right remaining old new (rule, cells) error (with_profile profile (Ok (rule, cells)) is has)
+
+  finding_is : (profile : Settling) (bytes : List ℕ) (rule : Numbers) (cells : List Cell) (finding : Finding) → profile_named numbers ≡ Ok profile
+      → IsFinding rule profile cells finding → ruled_pattern text bytes ≡ Ok (rule, cells) → name_right numbers text bytes (Ok (finding_text finding))
+  finding_is profile bytes rule cells finding is tells ruled_is = rw is (go (rule_named text) (pattern_of bytes) ruled_is)
+    where
+      go : (one : Result Numbers Complaint) (read : Result (List Cell) Complaint)
+          → given {B = Numbers × List Cell} one (λ r. given read (λ some. Ok (r, some))) ≡ Ok (rule, cells)
+          → IsRightGiven one (λ r. IsRightGiven read (TellsFinding r profile)) (Ok (finding_text finding))
+      go (Ok one) (Ok some) so =
+          let both : (one, some) ≡ (rule, cells) = cc in
+          subst (λ (read : Numbers × List Cell). TellsFinding read.0 profile read.1 (Ok (finding_text finding))) (sym both) (finding, tells, refl)
+      go (Ok one) (Err other) so = cc
+      go (Err other) read so = cc
+
+  -- the pattern was surveyed
+  pub found_finding : (profile : Settling) (rule : Numbers) (cells : List Cell) (finding : Finding) → profile_named numbers ≡ Ok profile
+      → IsFinding rule profile cells finding → HasFound (is_ok (rule_named text)) ruled remaining old new (Ok (rule, cells))
+      → HasFound reads right remaining old new (Ok finding)
+  found_finding profile rule cells finding is tells has =
+      found_ok reads ruled right remaining old new (rule, cells) finding (λ bytes. finding_is profile bytes rule cells finding is tells)
+      (with_profile profile (Ok (rule, cells)) is has)
 
 -- the lines from object `i` on are the line of object `i`, and then the lines from object `i + 1` on
 pub lines_more : {A : Type 0} (line : A → List ℕ) (xs : List A) (i : ℕ) (x : A) (text prefix : List ℕ) → i < length xs → x ≡ get_or xs i x

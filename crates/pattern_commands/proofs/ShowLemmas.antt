@@ -1,5 +1,5 @@
 -- What `show` answers.
-use Rattle.std.proofs.Common.{◌≡◌, ◌↔◌, ℕ, false, List, [], Result, Ok, Err, IsOk, refl, true}
+use Rattle.std.proofs.Common.{◌≡◌, ◌↔◌, ℕ, false, List, [], Result, Ok, Err, IsOk, refl}
 use Rattle.std.specs.Result.{IsErrOf}
 use Rattle.memory.specs.Witness.{out_of_memory}
 use Rattle.plane_core.specs.declared.plane.cell.Cell.{Cell}
@@ -11,10 +11,9 @@ use Rattle.code_core.specs.declared.reader.WechslerFault.TheVariants.{TooLong, B
 use Rattle.code_core.specs.Reading.{wechsler_read}
 use Rattle.pattern_commands.specs.declared.ending.complaint.Complaint.{Complaint}
 use Rattle.pattern_commands.specs.Answers.{only}
+use Rattle.pattern_commands.specs.Found.{Finds, answer_with}
 use Rattle.pattern_commands.specs.PatternText.{pattern_text}
 use Rattle.pattern_commands.specs.Show.{reader_complaint, show_answer, text_in, wechsler_complaint}
-use Rattle.pattern_commands.specs.Streams.{Stream, Has}
-use Rattle.pattern_commands.specs.TextSteps.{ReachesText}
 
 -- if the code's text can be read as a pattern, the answer is this pattern, printed in the given form
 pub show_answer-pattern : (form : PatternForm) (code text : List ℕ) (cells : List Cell) → text_in code ≡ Ok text → wechsler_read text ≡ Ok cells
@@ -37,17 +36,13 @@ show_answer-faultless form code text is faults = go (wechsler_read text) refl
 faultless_refused : (form : PatternForm) (code : List ℕ) (complaint : Complaint) → IsOk (show_answer form code) → show_answer form code ≡ Err complaint → ⊥
 faultless_refused form code complaint ok refused = let bad : IsOk {T = List ℕ} (Err complaint) = rw refused at ok in cc
 
--- if reading the text of a code failed and nothing has been written, `show` may end with the complaint about the error
-pub Reaches_text : (form : PatternForm) (code text : List ℕ) (error : WechslerError) (output : Stream) → text_in code ≡ Ok text
-    → ((fault : WechslerFault) → IsErrOf {T = List Cell} (Err error) (Fault fault) ↔ (wechsler_read text ≡ Err fault)) → Has output []
-    → ReachesText false true (only (show_answer form code)) (Err (reader_complaint error)) output
-Reaches_text form code text (Fault TooLong) output is faults nothing = (show_answer-fault form code text TooLong is ((faults TooLong).0 refl), nothing)
-Reaches_text form code text (Fault (BadByte place)) output is faults nothing =
-    (show_answer-fault form code text (BadByte place) is ((faults (BadByte place)).0 refl), nothing)
-Reaches_text form code text (Fault (ShortRun place)) output is faults nothing =
-    (show_answer-fault form code text (ShortRun place) is ((faults (ShortRun place)).0 refl), nothing)
-Reaches_text form code text (Fault Empty) output is faults nothing = (show_answer-fault form code text Empty is ((faults Empty).0 refl), nothing)
-Reaches_text form code text (Memory error) output is faults nothing = (
-  λ unread complaint refused. absurd (faultless_refused form code complaint (show_answer-faultless form code text is faults) refused),
-  nothing,
-)
+-- if reading the text of a code failed, `show` may end with the complaint about the error
+pub finds_fault : (form : PatternForm) (code text : List ℕ) (error : WechslerError) → text_in code ≡ Ok text
+    → ((fault : WechslerFault) → IsErrOf {T = List Cell} (Err error) (Fault fault) ↔ (wechsler_read text ≡ Err fault))
+    → Finds {A = List Cell} false (λ found. only (show_answer form code) (answer_with (pattern_text form) found)) (Err (reader_complaint error))
+finds_fault form code text (Fault TooLong) is faults = show_answer-fault form code text TooLong is ((faults TooLong).0 refl)
+finds_fault form code text (Fault (BadByte place)) is faults = show_answer-fault form code text (BadByte place) is ((faults (BadByte place)).0 refl)
+finds_fault form code text (Fault (ShortRun place)) is faults = show_answer-fault form code text (ShortRun place) is ((faults (ShortRun place)).0 refl)
+finds_fault form code text (Fault Empty) is faults = show_answer-fault form code text Empty is ((faults Empty).0 refl)
+finds_fault form code text (Memory error) is faults =
+    λ unread complaint refused. absurd (faultless_refused form code complaint (show_answer-faultless form code text is faults) refused)

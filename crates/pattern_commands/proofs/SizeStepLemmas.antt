@@ -1,5 +1,5 @@
 -- The lines of `run --sizes`, one after another, and how a call that writes them ends.
-use Rattle.std.proofs.Common.{◌≡◌, ◌∙◌, ◌+◌, ◌-◌, ◌<◌, ◌≤◌, ◌++◌, ℕ, suc, Bool, true, false, List, [], Option, Ok, Err, ap, arith, flat_map, map, refl, subst, sym}
+use Rattle.std.proofs.Common.{◌≡◌, ◌∙◌, ◌+◌, ◌-◌, ◌<◌, ◌≤◌, ◌++◌, ℕ, suc, List, [], Option, Ok, Err, ap, arith, flat_map, map, subst, sym}
 use Rattle.memory.specs.declared.OutOfMemory.{OutOfMemory}
 use Rattle.plane_core.specs.declared.output.WriteError.{WriteError}
 use Rattle.plane_core.specs.declared.plane.cell.Cell.{Cell}
@@ -13,11 +13,10 @@ use Rattle.plane_core.proofs.lemmas.plane.RunLemmas.{after-plus}
 use Rattle.pattern_commands.specs.declared.ending.complaint.Complaint.{Complaint}
 use Rattle.pattern_commands.specs.declared.ending.complaint.Complaint.TheVariants.{Refused, Memory, ReadFailed, TooLong, WriteFailed}
 use Rattle.pattern_commands.specs.declared.sizes.size.Size.{Size}
-use Rattle.pattern_commands.specs.Answers.{Answer, only, output_text}
 use Rattle.pattern_commands.specs.SizeSteps.{PutsLines, RunApart, advanced, later_sizes, pattern_size, sized_line}
 use Rattle.pattern_commands.specs.Sizes.{size_line, sizes_text}
 use Rattle.pattern_commands.specs.Streams.{Stream, Has, HasPrefix, stream}
-use Rattle.pattern_commands.specs.TextSteps.{ReachesText, TextOutcome}
+use Rattle.pattern_commands.specs.TextSteps.{TextOutcome}
 use Rattle.pattern_commands.proofs.SizeLemmas.{later_more, later_none, later_rest, later_then, text_later}
 use Rattle.pattern_commands.proofs.SizePartLemmas.{parts_next, parts_now}
 
@@ -135,18 +134,3 @@ pub whole_text : (rule : Numbers) (cells : List Cell) (from last : ℕ) → from
 whole_text rule cells from last low =
     let count : last + 1 - from ≡ suc (last - from) = omega arith in
     ap (sizes_text rule cells from) count ∙ text_later rule cells from (last - from)
-
--- ---- how the command ends
-
--- Suppose that nothing was written, and that a command whose text is complete before any write may end with this
--- complaint. Then a command that writes its text line by line may end with this complaint, too.
-pub reaches_lines : (reads : Bool) (answer : Answer) (complaint : Complaint) (output : Stream) → Has output []
-    → ReachesText reads true (only answer) (Err complaint) output → ReachesText reads false (only answer) (Err complaint) output
-reaches_lines reads answer (Refused refusal) output nothing reached = reached
-reaches_lines reads answer (Memory error) output nothing reached = (reached.0, λ other is. ([], output_text other, refl, nothing))
-reaches_lines reads answer (ReadFailed error) output nothing reached = reached
-reaches_lines reads answer TooLong output nothing reached = reached
-reaches_lines reads answer (WriteFailed error) output nothing ((text, is, prefix), cut) = (
-  (λ complaint bad. let no = sym is ∙ bad in cc, λ other so. ([], other, refl, nothing)),
-  cut,
-)

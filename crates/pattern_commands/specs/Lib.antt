@@ -2,6 +2,7 @@ pub mod Answers
 pub mod Complaints
 pub mod Coordinates
 pub mod Ends
+pub mod Found
 pub mod Inputs
 pub mod Name
 pub mod PatternText

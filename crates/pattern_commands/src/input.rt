@@ -1,17 +1,19 @@
 //! Inputs that are read completely, up to a limit.
 
-ghost use Rattle.std.specs.Prelude.{◌≡◌, ◌≢◌, ◌<◌, ◌≤◌, ◌+◌, ◌^◌, ℕ, Err, List, IfOk, IfSome, OnErr, length, take};
+ghost use Rattle.std.specs.Prelude.{◌≡◌, ◌≢◌, ◌<◌, ◌≤◌, ◌+◌, ◌^◌, ℕ, Err, List, IfOk, IfSome, OnErr, is_ok, length, take};
 ghost use Rattle.std.specs.Prelude.{vec_len};
 ghost use Rattle.std.specs.Io.KnownBytes.{Consumes, IsAtEnd, Keeps};
 ghost use Rattle.memory.specs.Witness.{out_of_memory};
 ghost use Rattle.pattern_commands.specs.Answers.{IsInput};
-ghost use Rattle.pattern_commands.specs.Inputs.{HasReadAtMost, LiesWithin999, Reads, pattern_of};
+ghost use Rattle.pattern_commands.specs.Found.{HasFound, ruled_pattern};
+ghost use Rattle.pattern_commands.specs.Inputs.{HasReadAtMost, LiesWithin999, Reads, pattern_of, rule_named};
 ghost use Rattle.pattern_commands.specs.declared.input.InputError.TheVariants.{TooLong};
 
 use crate::ending::complaint::Complaint;
 use crate::read_error::ReadError;
 use memory::OutOfMemory;
 use plane_core::plane::pattern::Pattern;
+use plane_core::plane::rule::Rule;
 use std::alloc::Global;
 use std::io::{self, ErrorKind, Read};
 
@@ -113,4 +115,23 @@ pub fn read_pattern<R: Read>(alloc: Global, input: &mut R) -> Result<Pattern, Co
 {
     let bytes = read_input(alloc, input)?;
     Ok(Pattern::read_plaintext(alloc, bytes.as_slice())?)
+}
+
+/// Reads a rule, and then a plaintext pattern. If the rule is refused, the input isn't read.
+///
+/// # Errors
+///
+/// `BadRule` or `BirthZero` if `rule_text` isn't a rule, and the errors of [`read_pattern`].
+pub(crate) fn read_ruled_pattern<R: Read>(
+    alloc: Global,
+    rule_text: &str,
+    input: &mut R,
+) -> Result<(Rule, Pattern), Complaint>
+    ensures found { HasFound (is_ok (rule_named rule_text.now))
+        (λ bytes found. ruled_pattern rule_text.now bytes ≡ found) R.remaining input.old input.new result }
+    ensures small { IfOk result (λ read. LiesWithin999 read.1) }
+{
+    let rule = Rule::read(rule_text)?;
+    let pattern = read_pattern(alloc, input)?;
+    Ok((rule, pattern))
 }

@@ -6,28 +6,23 @@
 //!    └────────┴────────┴─ refused
 //! ```
 
-ghost use Rattle.std.specs.Prelude.{◌≡◌, ◌&&◌, ◌++◌, ◌+◌, ◌^◌, ℕ, List, codes, decimal, false, flat_map, is_ok, IsErr, IfErr};
-ghost use Rattle.std.specs.Prelude.{IfOk, true};
-ghost use Rattle.memory.specs.Witness.{out_of_memory};
+ghost use Rattle.std.specs.Prelude.{◌≡◌, ◌&&◌, ◌++◌, ◌+◌, ◌^◌, ℕ, List, codes, decimal, false, flat_map, is_ok, IsErr};
 ghost use Rattle.plane_core.specs.Outputs.{Writes};
 ghost use Rattle.pattern_commands.specs.Answers.{IsInput};
-ghost use Rattle.pattern_commands.specs.Complaints.{status_of};
 ghost use Rattle.pattern_commands.specs.Ends.{Ends};
+ghost use Rattle.pattern_commands.specs.Found.{EndsFound, HasFound, answer_with};
 ghost use Rattle.pattern_commands.specs.Inputs.{HasReadAtMost, rule_named};
 ghost use Rattle.pattern_commands.specs.Name.{finding_text, name_right, name_behaviour, object_line};
 ghost use Rattle.pattern_commands.specs.Profiles.{AreInRange, profile_named};
 ghost use Rattle.pattern_commands.specs.Streams.{stream};
-ghost use Rattle.pattern_commands.specs.TextSteps.{ReachesText};
 
 use crate::ending::complaint::Complaint;
-use crate::ending::end_text_command;
 use crate::ending::status::Status;
-use crate::input::read_pattern;
+use crate::input::read_ruled_pattern;
 use crate::profile::profile_named;
 use code_core::apgcode::Apgcode;
 use code_core::decimal::put_number;
 use plane_core::output::{Out, WriteError};
-use plane_core::plane::rule::Rule;
 use requests::plan::ProfileNumbers;
 use std::alloc::Global;
 use std::io::{Read, Write};
@@ -67,39 +62,47 @@ pub fn do_name<R: Read, W: Write, E: Write>(
     ensures little { HasReadAtMost (2 ^ 24 + 2 ^ 16) (R.remaining input.old) (R.remaining input.new) }
     ensures no_memory { result ≡ Status.Memory → output.new ≡ output.old }
 {
-    let outcome = name(alloc, profile, rule_text, input, output);
-    end_text_command(outcome, errors)
+    let found = finding_of(alloc, profile, rule_text, input);
+    end_with_finding(found, output, errors)
 }
 
-/// Reads the profile, the rule and the pattern, surveys the pattern, and writes its finding.
-fn name<R: Read, W: Write>(
+/// Reads the profile, the rule and the pattern, and returns the pattern's finding.
+fn finding_of<R: Read>(
     alloc: Global,
     profile: ProfileNumbers,
     rule_text: &str,
     input: &mut R,
-    output: &mut Out<W>,
-) -> Result<(), Complaint>
-    requires profile { AreInRange profile }
-    requires output { output.old.failed ≡ false }
-    ensures reached { (bytes : List ℕ) × IsInput (R.remaining input.old) bytes
-        × ReachesText (is_ok (profile_named profile) && is_ok (rule_named rule_text.now)) true
-        (name_right profile rule_text.now bytes) result
-        (stream W.contents output.old output.new) }
-    ensures profile_first { IfErr (profile_named profile) (λ complaint.
-        (result ≡ Err complaint) × (input.new ≡ input.old)) }
-    ensures rule_first { IsErr (rule_named rule_text.now)
-        → IfErr result (λ complaint. status_of complaint ≡ Status.Refused) × (input.new ≡ input.old) }
-    ensures untouched { IfErr result (λ complaint. status_of complaint ≡ Status.Refused → output.new ≡ output.old) }
-    ensures little { HasReadAtMost (2 ^ 24 + 2 ^ 16) (R.remaining input.old) (R.remaining input.new) }
-    ensures no_memory { IfErr result (λ complaint. complaint ≡ Complaint.Memory out_of_memory
-        → output.new ≡ output.old) }
+) -> Result<Finding, Complaint>
+    requires { AreInRange profile }
+    ensures { HasFound (is_ok (profile_named profile) && is_ok (rule_named rule_text.now))
+        (λ bytes found. name_right profile rule_text.now bytes (answer_with finding_text found))
+        R.remaining input.old input.new result }
 {
     let profile = profile_named(profile)?;
-    let rule = Rule::read(rule_text)?;
-    let pattern = read_pattern(alloc, input)?;
-    let finding = survey_pattern(alloc, &profile, &rule, pattern)?;
-    put_finding(output, &finding)?;
-    Ok(())
+    let (rule, pattern) = read_ruled_pattern(alloc, rule_text, input)?;
+    Ok(survey_pattern(alloc, &profile, &rule, pattern)?)
+}
+
+/// Ends a command that has surveyed a pattern, or couldn't: writes the finding, or the line of the complaint, and
+/// returns the status. A failure to write the line is not reported.
+fn end_with_finding<W: Write, E: Write>(
+    found: Result<Finding, Complaint>,
+    output: &mut Out<W>,
+    errors: &mut Out<E>,
+) -> Status
+    requires output { output.old.failed ≡ false }
+    requires errors { errors.old.failed ≡ false }
+    ensures { EndsFound finding_text found result W.contents output.old output.new
+        (stream E.contents errors.old errors.new) }
+{
+    let finding = match found {
+        Ok(finding) => finding,
+        Err(complaint) => return complaint.end_command(errors),
+    };
+    match put_finding(output, &finding) {
+        Ok(()) => Status::Done,
+        Err(error) => Complaint::WriteFailed(error).end_command(errors),
+    }
 }
 
 /// Writes a finding. This takes no memory.

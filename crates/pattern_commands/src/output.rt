@@ -9,6 +9,7 @@ ghost use Rattle.pattern_commands.specs.Status.{has_printed};
 ghost use Rattle.pattern_commands.specs.Streams.{stream, HasLine};
 
 use crate::ending::complaint::Complaint;
+use crate::ending::end_command;
 use crate::ending::status::Status;
 use arrayvec::ArrayVec;
 use plane_core::output::{Out, WriteError};
@@ -44,14 +45,13 @@ pub fn send_buffered<W: Write + Drop, E: Write>(
     if !has_printed(status) {
         return status;
     }
-    let error = match buffered.flush() {
-        Ok(()) => return status,
-        Err(error) => WriteError::of_stream(&error),
-    };
-    if errors.failed() {
-        return Status::Failed;
+    match buffered.flush() {
+        Ok(()) => status,
+        Err(error) => {
+            let complaint = Complaint::WriteFailed(WriteError::of_stream(&error));
+            end_command(Err(complaint), errors)
+        }
     }
-    Complaint::WriteFailed(error).end_command(errors)
 }
 
 /// Checks whether a command with this status has printed its whole text.

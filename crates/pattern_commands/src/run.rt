@@ -10,19 +10,19 @@ ghost use Rattle.std.specs.Prelude.{◌≡◌, ◌≤◌, ◌+◌, ◌^◌, ℕ,
 ghost use Rattle.memory.specs.Witness.{out_of_memory};
 ghost use Rattle.plane_core.specs.plane.Generations.{after, lies_within};
 ghost use Rattle.pattern_commands.specs.Answers.{IsInput, only};
-ghost use Rattle.pattern_commands.specs.Complaints.{status_of};
 ghost use Rattle.pattern_commands.specs.Ends.{Ends};
+ghost use Rattle.pattern_commands.specs.Found.{HasFound, answer_with};
 ghost use Rattle.plane_core.specs.plane.Cells.{plane_bound};
 ghost use Rattle.pattern_commands.specs.Inputs.{HasReadAtMost, rule_named};
+ghost use Rattle.pattern_commands.specs.PatternText.{pattern_text};
+ghost use Rattle.requests.specs.declared.form.PatternForm.{PatternForm as Form};
 ghost use Rattle.pattern_commands.specs.Run.{run_answer, run_behaviour};
 ghost use Rattle.pattern_commands.specs.Streams.{stream};
-ghost use Rattle.pattern_commands.specs.TextSteps.{ReachesText};
 
 use crate::ending::complaint::Complaint;
-use crate::ending::end_text_command;
 use crate::ending::status::Status;
-use crate::input::read_pattern;
-use crate::pattern_text::put_pattern;
+use crate::input::read_ruled_pattern;
+use crate::pattern_text::end_with_pattern;
 use plane_core::output::Out;
 use plane_core::plane::pattern::Pattern;
 use plane_core::plane::rule::Rule;
@@ -64,37 +64,25 @@ pub fn do_run<R: Read, W: Write, E: Write>(
     ensures little { HasReadAtMost (2 ^ 24 + 2 ^ 16) (R.remaining input.old) (R.remaining input.new) }
     ensures no_memory { result ≡ Status.Memory → output.new ≡ output.old }
 {
-    let outcome = run(alloc, generations, form, rule_text, input, output);
-    end_text_command(outcome, errors)
+    let found = generation_of(alloc, generations, rule_text, input);
+    end_with_pattern(found, form, output, errors)
 }
 
-/// Reads the rule and the pattern, runs the pattern, and writes the result.
-fn run<R: Read, W: Write>(
+/// Reads the rule and the pattern, and returns the pattern after `generations` generations.
+fn generation_of<R: Read>(
     alloc: Global,
     generations: u32,
-    form: PatternForm,
     rule_text: &str,
     input: &mut R,
-    output: &mut Out<W>,
-) -> Result<(), Complaint>
-    requires generations { generations ≤ 100000 }
-    requires output { output.old.failed ≡ false }
-    ensures reached { (bytes : List ℕ) × IsInput (R.remaining input.old) bytes
-        × ReachesText (is_ok (rule_named rule_text.now)) true
-        (only (run_answer form rule_text.now generations bytes)) result
-        (stream W.contents output.old output.new) }
-    ensures rule_first { IfErr (rule_named rule_text.now) (λ complaint.
-        (result ≡ Err complaint) × (input.new ≡ input.old)) }
-    ensures untouched { IfErr result (λ complaint. status_of complaint ≡ Status.Refused → output.new ≡ output.old) }
-    ensures little { HasReadAtMost (2 ^ 24 + 2 ^ 16) (R.remaining input.old) (R.remaining input.new) }
-    ensures no_memory { IfErr result (λ complaint. complaint ≡ Complaint.Memory out_of_memory
-        → output.new ≡ output.old) }
+) -> Result<Pattern, Complaint>
+    requires { generations ≤ 100000 }
+    ensures { HasFound (is_ok (rule_named rule_text.now))
+        (λ bytes found. (form : Form)
+        → only (run_answer form rule_text.now generations bytes) (answer_with (pattern_text form) found))
+        R.remaining input.old input.new result }
 {
-    let rule = Rule::read(rule_text)?;
-    let pattern = read_pattern(alloc, input)?;
-    let pattern = generation_after(alloc, &pattern, &rule, generations)?;
-    put_pattern(&pattern, form, output)?;
-    Ok(())
+    let (rule, pattern) = read_ruled_pattern(alloc, rule_text, input)?;
+    generation_after(alloc, &pattern, &rule, generations)
 }
 
 /// Returns the pattern after `generations` generations. This fails only if memory runs out, because the pattern is too

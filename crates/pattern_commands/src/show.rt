@@ -5,24 +5,24 @@
 //!                               └─ 7 ── read_wechsler ── pattern ── text
 //! ```
 
-ghost use Rattle.std.specs.Prelude.{◌≡◌, ℕ, List, Option, Some, IfErr, IfOk, false, option_map, true};
+ghost use Rattle.std.specs.Prelude.{◌≡◌, ℕ, List, Option, Some, IfErr, IfOk, false, option_map};
 ghost use Rattle.std.specs.Char.{is_ascii_digit};
 ghost use Rattle.std.specs.List.{list_all};
-ghost use Rattle.memory.specs.Witness.{out_of_memory};
 ghost use Rattle.pattern_commands.specs.Answers.{only};
-ghost use Rattle.pattern_commands.specs.Complaints.{status_of};
 ghost use Rattle.pattern_commands.specs.Ends.{Ends};
+ghost use Rattle.pattern_commands.specs.Found.{Finds, answer_with};
+ghost use Rattle.pattern_commands.specs.PatternText.{pattern_text};
 ghost use Rattle.pattern_commands.specs.Show.{is_kind, is_number, is_prefix, parted, show_answer, show_behaviour, text_in};
 ghost use Rattle.pattern_commands.specs.Streams.{stream};
-ghost use Rattle.pattern_commands.specs.TextSteps.{ReachesText};
+ghost use Rattle.requests.specs.declared.form.PatternForm.{PatternForm as Form};
 
 use crate::ending::complaint::Complaint;
-use crate::ending::end_text_command;
 use crate::ending::refusal::Refusal;
 use crate::ending::status::Status;
-use crate::pattern_text::put_pattern;
+use crate::pattern_text::end_with_pattern;
 use code_core::reader::read_wechsler;
 use plane_core::output::Out;
+use plane_core::plane::pattern::Pattern;
 use requests::form::PatternForm;
 use std::alloc::Global;
 use std::io::Write;
@@ -54,28 +54,17 @@ pub fn do_show<W: Write, E: Write>(
     ensures untouched { result ≡ Status.Refused → output.new ≡ output.old }
     ensures no_memory { result ≡ Status.Memory → output.new ≡ output.old }
 {
-    let outcome = show(alloc, code, form, output);
-    end_text_command(outcome, errors)
+    let found = pattern_of_code(alloc, code);
+    end_with_pattern(found, form, output, errors)
 }
 
-/// Reads the pattern of a code, and writes it.
-fn show<W: Write>(
-    alloc: Global,
-    code: &str,
-    form: PatternForm,
-    output: &mut Out<W>,
-) -> Result<(), Complaint>
-    requires { output.old.failed ≡ false }
-    ensures reached { ReachesText false true (only (show_answer form code.now)) result
-        (stream W.contents output.old output.new) }
-    ensures untouched { IfErr result (λ complaint. status_of complaint ≡ Status.Refused → output.new ≡ output.old) }
-    ensures no_memory { IfErr result (λ complaint. complaint ≡ Complaint.Memory out_of_memory
-        → output.new ≡ output.old) }
+/// Returns the pattern of a code.
+fn pattern_of_code(alloc: Global, code: &str) -> Result<Pattern, Complaint>
+    ensures { (form : Form) → Finds false
+        (λ found. only (show_answer form code.now) (answer_with (pattern_text form) found)) result }
 {
     let text = text_in(code)?;
-    let pattern = read_wechsler(alloc, text)?;
-    put_pattern(&pattern, form, output)?;
-    Ok(())
+    Ok(read_wechsler(alloc, text)?)
 }
 
 /// Returns the text of a code, without its prefix.

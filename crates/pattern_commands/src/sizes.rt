@@ -6,16 +6,14 @@
 //!   └───────┴─ refused         └─ out of memory
 //! ```
 
-ghost use Rattle.std.specs.Prelude.{◌≡◌, ◌+◌, ◌-◌, ◌≤◌, ◌^◌, ℕ, List, false, is_ok, IsErr, IfErr, IfOk, true};
+ghost use Rattle.std.specs.Prelude.{◌≡◌, ◌+◌, ◌-◌, ◌≤◌, ◌^◌, ℕ, List, false, IsErr, IfOk, true};
 ghost use Rattle.plane_core.specs.plane.Generations.{lies_within};
-ghost use Rattle.pattern_commands.specs.Answers.{IsInput, only};
-ghost use Rattle.pattern_commands.specs.Complaints.{status_of};
+ghost use Rattle.pattern_commands.specs.Answers.{IsInput};
 ghost use Rattle.pattern_commands.specs.Ends.{Ends};
 ghost use Rattle.pattern_commands.specs.Inputs.{HasReadAtMost, LiesWithin999, rule_named};
 ghost use Rattle.pattern_commands.specs.SizeSteps.{PutsLines, later_sizes};
-ghost use Rattle.pattern_commands.specs.Sizes.{sizes_answer, sizes_behaviour, sizes_text};
+ghost use Rattle.pattern_commands.specs.Sizes.{sizes_behaviour, sizes_text};
 ghost use Rattle.pattern_commands.specs.Streams.{stream};
-ghost use Rattle.pattern_commands.specs.TextSteps.{ReachesText};
 
 mod parts;
 mod size;
@@ -24,7 +22,7 @@ mod stretch;
 use crate::ending::complaint::Complaint;
 use crate::ending::end_text_command;
 use crate::ending::status::Status;
-use crate::input::read_pattern;
+use crate::input::read_ruled_pattern;
 use crate::run::generation_after;
 use crate::sizes::size::Size;
 use crate::sizes::stretch::put_stretch;
@@ -72,38 +70,16 @@ pub fn do_sizes<R: Read, W: Write, E: Write>(
     ensures untouched { result ≡ Status.Refused → output.new ≡ output.old }
     ensures little { HasReadAtMost (2 ^ 24 + 2 ^ 16) (R.remaining input.old) (R.remaining input.new) }
 {
-    let outcome = put_sizes(alloc, from, last, rule_text, input, output);
+    let (rule, pattern) = match read_ruled_pattern(alloc, rule_text, input) {
+        Ok(read) => read,
+        Err(complaint) => return complaint.end_command(errors),
+    };
+    let outcome = put_sizes(alloc, &rule, &pattern, from, last, output);
     end_text_command(outcome, errors)
 }
 
-/// Reads the rule and the pattern, runs the pattern, and writes the lines.
-fn put_sizes<R: Read, W: Write>(
-    alloc: Global,
-    from: u32,
-    last: u32,
-    rule_text: &str,
-    input: &mut R,
-    output: &mut Out<W>,
-) -> Result<(), Complaint>
-    requires order { from ≤ last }
-    requires generations { last ≤ 100000 }
-    requires output { output.old.failed ≡ false }
-    ensures reached { (bytes : List ℕ) × IsInput (R.remaining input.old) bytes
-        × ReachesText (is_ok (rule_named rule_text.now)) false
-        (only (sizes_answer rule_text.now from last bytes)) result
-        (stream W.contents output.old output.new) }
-    ensures rule_first { IfErr (rule_named rule_text.now) (λ complaint.
-        (result ≡ Err complaint) × (input.new ≡ input.old)) }
-    ensures untouched { IfErr result (λ complaint. status_of complaint ≡ Status.Refused → output.new ≡ output.old) }
-    ensures little { HasReadAtMost (2 ^ 24 + 2 ^ 16) (R.remaining input.old) (R.remaining input.new) }
-{
-    let rule = Rule::read(rule_text)?;
-    let pattern = read_pattern(alloc, input)?;
-    put_sizes_of(alloc, &rule, &pattern, from, last, output)
-}
-
 /// Runs the pattern, and writes the lines of generations `from` to `last`.
-fn put_sizes_of<W: Write>(
+fn put_sizes<W: Write>(
     alloc: Global,
     rule: &Rule,
     pattern: &Pattern,
@@ -167,8 +143,7 @@ fn put_next_sizes<W: Write>(
     requires most { most ≤ 1000 }
     requires generation { generation + most ≤ 100000 }
     requires output { output.old.failed ≡ false }
-    ensures some { IfOk result (λ made. 1 ≤ made) }
-    ensures made { IfOk result (λ made. made ≤ most) }
+    ensures made { IfOk result (λ made. (1 ≤ made) × (made ≤ most)) }
     ensures lines { PutsLines (later_sizes rule.now pattern.now generation)
         (later_sizes rule.now pattern.now generation most) result (stream W.contents output.old output.new) }
 {

@@ -1,19 +1,19 @@
 //! `soup`: a random soup, as plaintext or as coordinates.
 
-ghost use Rattle.std.specs.Prelude.{◌≡◌, ◌<◌, ◌^◌, ℕ, List, Option, IfErr, false, true};
-ghost use Rattle.memory.specs.Witness.{out_of_memory};
+ghost use Rattle.std.specs.Prelude.{◌≡◌, ◌<◌, ◌^◌, ℕ, List, Option, false};
 ghost use Rattle.pattern_commands.specs.Answers.{only};
-ghost use Rattle.pattern_commands.specs.Complaints.{status_of};
 ghost use Rattle.pattern_commands.specs.Ends.{Ends};
+ghost use Rattle.pattern_commands.specs.Found.{Finds, answer_with};
+ghost use Rattle.pattern_commands.specs.PatternText.{pattern_text};
 ghost use Rattle.pattern_commands.specs.Soup.{soup_answer, soup_behaviour};
 ghost use Rattle.pattern_commands.specs.Streams.{stream};
-ghost use Rattle.pattern_commands.specs.TextSteps.{ReachesText};
+ghost use Rattle.requests.specs.declared.form.PatternForm.{PatternForm as Form};
 
 use crate::ending::complaint::Complaint;
-use crate::ending::end_text_command;
 use crate::ending::status::Status;
-use crate::pattern_text::put_pattern;
+use crate::pattern_text::end_with_pattern;
 use plane_core::output::Out;
+use plane_core::plane::pattern::Pattern;
 use plane_core::plane::rule::Rule;
 use requests::form::PatternForm;
 use std::alloc::Global;
@@ -51,24 +51,14 @@ pub fn do_soup<W: Write, E: Write>(
     ensures untouched { result ≡ Status.Refused → output.new ≡ output.old }
     ensures no_memory { result ≡ Status.Memory → output.new ≡ output.old }
 {
-    let outcome = put_soup(alloc, seed_text, number, form, output);
-    end_text_command(outcome, errors)
+    let found = soup_named(alloc, seed_text, number);
+    end_with_pattern(found, form, output, errors)
 }
 
-/// Makes the soup, and writes it.
-fn put_soup<W: Write>(
-    alloc: Global,
-    seed_text: &str,
-    number: u64,
-    form: PatternForm,
-    output: &mut Out<W>,
-) -> Result<(), Complaint>
-    requires { output.old.failed ≡ false }
-    ensures reached { ReachesText false true (only (soup_answer form seed_text.now number)) result
-        (stream W.contents output.old output.new) }
-    ensures untouched { IfErr result (λ complaint. status_of complaint ≡ Status.Refused → output.new ≡ output.old) }
-    ensures no_memory { IfErr result (λ complaint. complaint ≡ Complaint.Memory out_of_memory
-        → output.new ≡ output.old) }
+/// Returns soup `number` of the seed with this text.
+fn soup_named(alloc: Global, seed_text: &str, number: u64) -> Result<Pattern, Complaint>
+    ensures { (form : Form) → Finds false
+        (λ found. only (soup_answer form seed_text.now number) (answer_with (pattern_text form) found)) result }
 {
     let seed = Seed::new(seed_text)?;
     // The soup's cells don't depend on the profile or the rule.
@@ -77,7 +67,5 @@ fn put_soup<W: Write>(
         profile: Profile::standard(),
         rule: Rule::life(),
     };
-    let pattern = soup(alloc, &job, number)?;
-    put_pattern(&pattern, form, output)?;
-    Ok(())
+    Ok(soup(alloc, &job, number)?)
 }

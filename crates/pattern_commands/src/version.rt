@@ -1,16 +1,12 @@
 //! `--version`: the program's name and version.
 
-ghost use Rattle.std.specs.Prelude.{◌≡◌, ◌≢◌, ℕ, List, Option, false, true, IfErr};
+ghost use Rattle.std.specs.Prelude.{◌≡◌, ◌≢◌, ℕ, List, Option, false};
 ghost use Rattle.plane_core.specs.Outputs.{Writes};
-ghost use Rattle.plane_core.specs.declared.output.WriteError.{WriteError as Fault};
-ghost use Rattle.pattern_commands.specs.Answers.{only};
 ghost use Rattle.pattern_commands.specs.Ends.{Ends};
 ghost use Rattle.pattern_commands.specs.Streams.{stream};
-ghost use Rattle.pattern_commands.specs.TextSteps.{ReachesText};
-ghost use Rattle.pattern_commands.specs.Version.{version_answer, version_behaviour, version_line};
+ghost use Rattle.pattern_commands.specs.Version.{version_behaviour, version_line};
 
 use crate::ending::complaint::Complaint;
-use crate::ending::end_text_command;
 use crate::ending::status::Status;
 use plane_core::output::{Out, WriteError};
 use requests::version::VERSION;
@@ -33,18 +29,10 @@ pub fn do_version<W: Write, E: Write>(output: &mut Out<W>, errors: &mut Out<E>) 
     ensures status { result ≢ Status.Refused }
     ensures no_memory { result ≢ Status.Memory }
 {
-    let outcome = put_version(output);
-    end_text_command(outcome, errors)
-}
-
-/// Writes the line with the program's name and version, which is all that the command prints.
-fn put_version<W: Write>(output: &mut Out<W>) -> Result<(), Complaint>
-    requires { output.old.failed ≡ false }
-    ensures reached { ReachesText false true (only version_answer) result (stream W.contents output.old output.new) }
-    ensures failed { IfErr result (λ complaint. (error : Fault) × (complaint ≡ Complaint.WriteFailed error)) }
-{
-    put_line(output)?;
-    Ok(())
+    match put_line(output) {
+        Ok(()) => Status::Done,
+        Err(error) => Complaint::WriteFailed(error).end_command(errors),
+    }
 }
 
 /// Writes `census`, a space, the version and a line feed.

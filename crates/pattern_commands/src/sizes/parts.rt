@@ -39,10 +39,10 @@ pub(crate) fn boards_for(
     let mut from = 0;
     while from < cells.len() {
         let end = part_end(cells, from, 2 * generations);
-        let is_pushed = push_board(alloc, rule, &cells[from..end], generations, &mut boards)?;
-        if !is_pushed {
+        let Some(board) = board_for(alloc, rule, &cells[from..end], generations)? else {
             return Ok(None);
-        }
+        };
+        boards.push(board)?;
         from = end;
     }
     Ok(Some(boards))
@@ -65,24 +65,18 @@ fn part_end(cells: &[Cell], from: usize, far: u32) -> usize
     cells.len()
 }
 
-/// Appends a board for a part of a pattern. Returns `false` if [`Board::around`] makes no board for the part.
-fn push_board(
+/// Makes a board for a part of a pattern. Returns `None` if [`Board::around`] makes no board for the part.
+fn board_for(
     alloc: Global,
     rule: &Rule,
     part: &[Cell],
     generations: u32,
-    boards: &mut Vec<Board>,
-) -> Result<bool, OutOfMemory>
+) -> Result<Option<Board>, OutOfMemory>
     requires { IsPattern part.now }
-    ensures { IfOk result (λ pushed. pushed ≡ true
-        → boards.new.items ≡ boards.old.items ++ record { rule = rule.now; cells = part.now } ∷ []) }
+    ensures { IfOk result (λ made. IfSome made (λ board. board ≡ record { rule = rule.now; cells = part.now })) }
 {
     let part = pattern_of(alloc, part)?;
-    let Some(board) = Board::around(alloc, rule, &part, generations)? else {
-        return Ok(false);
-    };
-    boards.push(board)?;
-    Ok(true)
+    Board::around(alloc, rule, &part, generations)
 }
 
 /// Returns the pattern of these cells.

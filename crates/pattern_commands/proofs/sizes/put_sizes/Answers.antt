@@ -1,33 +1,34 @@
-use Rattle.std.proofs.Common.{◌≡◌, Ok, is_ok, refl, sym, true}
-use Rattle.std.proofs.KnownBytes.{Appends-nil}
-use Rattle.pattern_commands.specs.Answers.{only}
-use Rattle.pattern_commands.specs.Inputs.{pattern_of, rule_named}
-use Rattle.pattern_commands.specs.Sizes.{sizes_answer}
-use Rattle.pattern_commands.proofs.AnswerLemmas.{err_of, some_input, Reaches_rule, Reaches_unread}
-use Rattle.pattern_commands.proofs.SizeStepLemmas.{reaches_lines}
+use Rattle.std.proofs.Common.{◌≡◌, ◌∙◌, ◌-◌, ap}
+use Rattle.plane_core.specs.plane.Generations.{after}
+use Rattle.plane_core.proofs.lemmas.OutputLemmas.{Writes_same}
+use Rattle.plane_core.proofs.lemmas.plane.SpeedLemmas.{within-after}
+use Rattle.pattern_commands.specs.SizeSteps.{later_sizes, pattern_size, sized_line}
+use Rattle.pattern_commands.specs.Sizes.{size_line}
+use Rattle.pattern_commands.proofs.AnswerLemmas.{err_of}
+use Rattle.pattern_commands.proofs.SizeStepLemmas.{leaves_first, leaves_then, whole_text}
 use Rattle.pattern_commands.proofs.sizes.put_sizes.Goals as goal
 
-pub returns-in_err-rule-clause-reached : goal.returns-in_err-rule-clause-reached
-returns-in_err-rule-clause-reached g c =
-    let some = some_input (g.R.Read.remaining c.args.input.now) in
-    let answer = sizes_answer c.args.rule_text.now c.args.from c.args.last some.0 in (
-      some.0,
-      some.1,
-      rw (err_of _ _ c.from_residual.ensures.1)
-          (reaches_lines _ answer _ _ (Appends-nil _)
-          (Reaches_rule _ (only answer) c.args.rule_text.now c.in_err-rule.field-0.0 _
-          (sym c.in_err-rule.ensures.exact) (λ complaint is. rw is refl) (Appends-nil _))),
-    )
+pub returns-in_err-put_line : goal.returns-in_err-put_line
+returns-in_err-put_line g c =
+    let rule = c.args.rule.now in
+    let from = c.args.from in
+    let here = after rule c.args.pattern.now from in
+    let line : sized_line from c.of.result ≡ size_line from here = ap (sized_line from) (c.of.ensures ∙ ap pattern_size c.in_ok-pattern.ensures.ok) in
+    rw (err_of _ _ c.from_residual-in_err-put_line.ensures.1, whole_text rule c.args.pattern.now from c.args.last c.requires.order)
+    (leaves_first g.W.Write.contents (size_line from here) (later_sizes rule here from (c.args.last - from)) _ c.args.output.now c.put_line.new.output
+    (Writes_same line c.in_err-put_line.ensures))
 
-pub returns-in_err-pattern-clause-reached : goal.returns-in_err-pattern-clause-reached
-returns-in_err-pattern-clause-reached g c =
-    let read = c.in_err-pattern.ensures.read in
-    let answer = sizes_answer c.args.rule_text.now c.args.from c.args.last read.0 in
-    let ruled : rule_named c.args.rule_text.now ≡ Ok c.in_ok-rule.rule = rw (← c.in_ok-rule.ensures.exact) refl in
-    let reads : is_ok (rule_named c.args.rule_text.now) ≡ true = rw ruled refl in (
-      read.0,
-      read.1,
-      rw (err_of _ _ c.from_residual-in_err-pattern.ensures.1)
-          (reaches_lines _ answer _ _ (Appends-nil _)
-          (Reaches_unread _ (only answer) (pattern_of read.0) c.in_err-pattern.field-0.0 _ reads (λ refusal is. rw (ruled, is) refl) read.2 (Appends-nil _))),
-    )
+pub put_later_sizes-requires-clause-near : goal.put_later_sizes-requires-clause-near
+put_later_sizes-requires-clause-near g c =
+    rw c.in_ok-pattern.ensures.ok (within-after c.args.rule.now c.args.pattern.now 999 c.args.from c.requires.small)
+
+pub returns : goal.returns
+returns g c =
+    let rule = c.args.rule.now in
+    let from = c.args.from in
+    let here = after rule c.args.pattern.now from in
+    let line : sized_line from c.of.result ≡ size_line from here = ap (sized_line from) (c.of.ensures ∙ ap pattern_size c.in_ok-pattern.ensures.ok) in
+    rw (whole_text rule c.args.pattern.now from c.args.last c.requires.order)
+    (leaves_then g.W.Write.contents (size_line from here) (later_sizes rule here from (c.args.last - from)) c.put_later_sizes.result c.args.output.now
+    c.put_line.new.output c.put_later_sizes.new.output (Writes_same line c.in_ok-put_line.ensures).whole
+    (rw c.in_ok-pattern.ensures.ok at c.put_later_sizes.ensures))

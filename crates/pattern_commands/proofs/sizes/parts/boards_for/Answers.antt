@@ -1,4 +1,4 @@
-use Rattle.std.proofs.Common.{◌≡◌, ◌≤◌, ◌-◌, ◌*◌, ◌++◌, [], ◌∷◌, List, arith, drop, length, rules, subst, sym, take, true}
+use Rattle.std.proofs.Common.{◌≡◌, ◌∙◌, ◌≤◌, ◌-◌, ◌*◌, ◌++◌, [], ◌∷◌, List, ap, arith, drop, length, subst, sym, take}
 use Rattle.plane_core.specs.declared.plane.cell.Cell.{Cell}
 use Rattle.plane_core.specs.engine.Boards.{Running}
 use Rattle.pattern_commands.specs.SizeSteps.{IsGap, RunApart}
@@ -13,8 +13,8 @@ loop-from-init c = record {
       (no_parts c.args.rule.now c.args.generations);
 }
 
-pub push_board-requires : goal.push_board-requires
-push_board-requires c =
+pub board_for-requires : goal.board_for-requires
+board_for-requires c =
     let i = c.loop-from.from in
     rw c.cells-cells.ensures.cells (is_pattern-part c.args.pattern.now i (c.part_end-end.result - i) c.cells-cells.ensures.pattern)
 
@@ -24,13 +24,13 @@ loop-from-preserved c =
     let j = c.part_end-end.result in
     let n = c.args.generations in
     let same = c.cells-cells.ensures.cells in
-    let new = c.push_board.new.boards.items in
-    let pushed : c.in_ok-is_pushed.is_pushed ≡ true = search rules in
+    let new = c.push.new.self.items in
+    let made = rw c.in-Some.is at c.in_ok-board.ensures in
     record {
       within = subst (λ (S : List Cell). j ≤ length S) same c.part_end-end.ensures.within;
       gap = subst (λ (S : List Cell). IsGap (2 * n) S j) same c.part_end-end.ensures.gap;
       apart = one_part_more c.args.rule.now c.args.pattern.now i j n c.loop-from.boards.items new c.cells-cells.ensures.pattern.in_order
           c.part_end-end.ensures.later c.loop-from.invariant.gap c.loop-from.invariant.apart
           (subst (λ (S : List Cell). new ≡ c.loop-from.boards.items ++ record { rule = c.args.rule.now; cells = take (j - i) (drop i S) } ∷ []) same
-          (c.in_ok-is_pushed.ensures pushed));
+          (c.in_ok-push.ensures.items ∙ ap (λ (board : Running). c.loop-from.boards.items ++ board ∷ []) made));
     }
