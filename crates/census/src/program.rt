@@ -11,7 +11,7 @@ ghost use Rattle.std.specs.Io.Buffered.{writer_buffer, writer_contents, writer_i
 ghost use Rattle.std.specs.IoError.{error_kind};
 ghost use Rattle.memory.specs.Witness.{out_of_memory};
 ghost use Rattle.pattern_commands.specs.Complaints.{complaint_line};
-ghost use Rattle.pattern_commands.specs.Status.{exit_code};
+ghost use Rattle.pattern_commands.specs.Status.{exit_code, has_printed};
 ghost use Rattle.pattern_commands.specs.Ends.{Ends};
 ghost use Rattle.pattern_commands.specs.Streams.{HasLine, Stream, stream};
 ghost use Rattle.pattern_commands.specs.Version.{version_behaviour};
@@ -168,6 +168,7 @@ fn print_version<W: Write + Drop, E: Write>(output: W, errors: &mut Out<E>) -> (
 /// Reports that the arguments aren't text, or that memory ran out while they were read.
 fn end_with_unread_arguments<E: Write>(error: &io::Error, errors: &mut Out<E>) -> Status
     requires { errors.old.failed ≡ false }
+    ensures unprinted { has_printed result ≡ false }
     ensures not_text { error_kind error.now ≢ ErrorKind.OutOfMemory → (result ≡ Status.Usage)
         × HasLine (stream E.contents errors.old errors.new) not_text_line }
     ensures no_memory { error_kind error.now ≡ ErrorKind.OutOfMemory → (result ≡ Status.Memory)

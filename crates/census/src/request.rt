@@ -6,7 +6,7 @@
 //!                           └─ a usage text, or out of memory
 //! ```
 
-ghost use Rattle.std.specs.Prelude.{◌≡◌, ◌≢◌, false, map};
+ghost use Rattle.std.specs.Prelude.{◌≡◌, ◌≢◌, false, map, string_bytes};
 ghost use Rattle.clap.specs.Words.{kind_of};
 ghost use Rattle.clap.specs.declared.error.kind.ErrorKind.TheVariants.{OutOfMemory};
 ghost use Rattle.memory.specs.Witness.{out_of_memory};
@@ -36,7 +36,6 @@ use pattern_commands::version::do_version;
 use plane_core::output::Out;
 use requests::form::RunForm;
 use std::alloc::Global;
-use std::convert::AsStr;
 use std::io::{Read, Write};
 use std::sync::Wait;
 use std::thread::Threads;
@@ -50,25 +49,17 @@ use std::time::Clock;
 /// # Errors
 ///
 /// As for [`do_request`], or `Memory` if memory runs out while the arguments are read.
-pub fn do_arguments<
-    T: Threads + Wait + Sync,
-    S: AsStr,
-    R: Read,
-    W: Write,
-    E: Write,
-    P: Write,
-    C: Clock,
->(
+pub fn do_arguments<T: Threads + Wait + Sync, R: Read, W: Write, E: Write, P: Write, C: Clock>(
     machine: &mut Machine<'_, T, E, ProgressLine<P, C>>,
-    arguments: &[S],
+    arguments: &[String],
     input: &mut R,
     output: &mut Out<W>,
 ) -> Status
     requires output { output.old.failed ≡ false }
     requires errors { machine.old.errors.failed ≡ false }
-    ensures command { result ≢ Status.Usage → DoesArguments (map S.text arguments.now) (R.remaining input.old) result
+    ensures command { result ≢ Status.Usage → DoesArguments (map string_bytes arguments.now) (R.remaining input.old) result
         (stream W.contents output.old output.new) (stream E.contents machine.old.errors machine.new.errors) }
-    ensures leaves { LeavesAlone (map S.text arguments.now) (exit_code result)
+    ensures leaves { LeavesAlone (map string_bytes arguments.now) (exit_code result)
         (stream E.contents machine.old.errors machine.new.errors)
         (input.new ≡ input.old) (output.new ≡ output.old) (output.new ≡ output.old) }
 {

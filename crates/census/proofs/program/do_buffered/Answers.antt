@@ -1,62 +1,25 @@
-use Rattle.std.proofs.Common.{arith, ◌≡◌, ◌≢◌, ◌∙◌, [], true, false, map, string_bytes, refl, rules, sym, ap, ap₂, inl, inr, subst}
+use Rattle.std.proofs.Common.{◌≡◌, ◌≢◌, ◌∙◌, ℕ, suc, [], true, false, map, string_bytes, refl, rules, sym, ap, ap₂, inl, inr, subst}
 use Rattle.std.proofs.lemmas.Bool.{cases_Bool}
 use Rattle.std.specs.Io.Buffered.{writer_buffer, writer_contents}
 use Rattle.std.specs.Io.KnownBytes.{Keeps, append_known}
-use Rattle.pattern_commands.specs.declared.ending.status.Status.TheVariants as statuses
 use Rattle.pattern_commands.specs.Streams.{stream}
 use Rattle.pattern_commands.specs.Status.{exit_code, has_printed}
 use Rattle.census.specs.Program.{IsDone}
-use Rattle.census.proofs.ProgramLemmas.{Prints, append_nothing, at_done, at_incomplete, ends_version, prefix_sent}
-use Rattle.census.proofs.ProgramLemmas.{is_done, is_incomplete, is_usage, nothing_written, printing_leaves, prints, prints_or_fails, still_usage, unlike}
+use Rattle.census.proofs.ProgramLemmas.{Prints, append_nothing, done_with, ends_version, ends_without_buffer, incomplete_with, is_done, is_incomplete}
+use Rattle.census.proofs.ProgramLemmas.{prefix_sent, printed_is_no_usage, prints, sent_leaves, silent_with, unlike}
 use Rattle.census.proofs.program.do_buffered.Goals as goal
 
 -- the program prints the version, without a buffer
 pub returns-then-asks_version : goal.returns-then-asks_version
 returns-then-asks_version g c =
     let printed = c.print_version-status.ensures in
-    let ends = ends_version (map string_bytes c.args.arguments.now) (g.R.Read.remaining c.args.input.now) _ _ _ printed.ends.0 _
-    (sym c.asks_version.ensures ∙ c.if-asks_version.true) printed.failed printed.ends.1 printed.ends.2 printed.ends.3 in
-    let code = prints_or_fails _ printed.failed in
-    record {
-      done = λ done. ends.done (is_done _ done);
-      silent = λ done. ends.silent (is_done _ done);
-      incomplete = λ less. absurd (omega (arith, less, code));
-      complains = λ undone _ _. ends.complains (λ is. undone (ap exit_code is));
-      leaves = printing_leaves _ _ _ _ _ _ code refl;
-    }
+    ends_version g.W.Write.contents _ _ _ c.args.output _ _ _ _ (sym c.asks_version.ensures ∙ c.if-asks_version.true) printed.failed printed.ends.1
+    printed.ends.2 printed.ends.3 refl
 
 pub returns-in-Err : goal.returns-in-Err
 returns-in-Err g c =
-    let before = g.W.Write.contents c.args.output in
-    let nothing = nothing_written before in
-    record {
-      done = search rules;
-      silent = search rules;
-      incomplete = search rules;
-      complains = λ _ _ _. record {
-        status = statuses.Memory;
-        written = record { before = before; after = before; failed = false };
-        diagnostics = stream g.E.Write.contents c.args.machine.now.errors c.end_command.new.errors;
-        does = inr (record {
-          no_version = sym c.asks_version.ensures ∙ c.if-asks_version.false;
-          status_is = refl;
-          nothing = nothing.0;
-          line = c.end_command.ensures.line;
-        });
-        from = refl;
-        sent = nothing.1;
-        ends = inl (refl, ap exit_code c.end_command.ensures.status, refl);
-      };
-      leaves = record {
-        usage = search rules;
-        tells_usage = search rules;
-        untouched = search rules;
-        refused = search rules;
-        unread_refused = search rules;
-        nothing_left = search rules;
-        unread = search rules;
-      };
-    }
+    ends_without_buffer g.W.Write.contents _ _ _ c.args.output _ _ (sym c.asks_version.ensures ∙ c.if-asks_version.false) c.end_command.ensures.status
+    c.end_command.ensures.line refl
 
 pub returns : goal.returns
 returns g c =
@@ -76,24 +39,18 @@ returns g c =
     let kept : Keeps written.after (append_known below held) = rw (c.into_parts-writer.ensures.inner, ← c.into_inner-buffered.ensures) sent.bytes in
     let printed : has_printed status ≡ true → held ≡ [] → Prints arguments reader written.before below status diagnostics =
     λ is empty. prints arguments reader below status written diagnostics is (subst (λ h. Keeps written.after (append_known below h)) empty kept)
-    (c.do_arguments-status.ensures.command (λ usage. let bad : true ≡ false = sym is ∙ ap has_printed usage in cc)) in
-    let left = c.do_arguments-status.ensures.leaves in
-    let came_usage : exit_code c.send_buffered-status.result ≡ 2 → status ≡ statuses.Usage =
-    λ code. still_usage status c.send_buffered-status.result (λ none. (sent.kept none).0) sent.failed (is_usage _ code) in
+    (c.do_arguments-status.ensures.command (printed_is_no_usage status is)) in
+    let unchanged : has_printed status ≡ false → c.do_arguments-status.new.output ≡ c.new-output.result → c.into_parts-writer.result.0 ≡ c.args.output =
+    λ unprinted same. search (rules, same, sent.untouched unprinted, c.into_parts-writer.ensures.inner, c.into_inner-buffered.ensures, c.new-output.ensures.writer, c.in-Ok.ensures.inner) in
     record {
       done = λ code. let done = is_done _ code in let is = sent.done done in
-          let p = printed (ap has_printed is.0) is.1 in
-          rw (sent.silent (done ∙ sym is.0))
-          (at_done (IsDone arguments reader before below diagnostics) p.missing (sym p.status_is ∙ is.0)
-          (subst (λ b. IsDone arguments reader b below diagnostics p.missing) starts p.done));
+          rw (sent.silent (done ∙ sym is.0)) (subst (λ b. IsDone arguments reader b below diagnostics 0) starts
+          (done_with _ _ _ _ _ _ (printed (ap has_printed is.0) is.1) is.0));
       incomplete = λ code. let less = is_incomplete _ code in let is = sent.incomplete less in
-          let p = printed (ap has_printed is.0) is.1 in
-          rw (sent.silent (less ∙ sym is.0))
-          (at_incomplete (IsDone arguments reader before below diagnostics) p.missing (sym p.status_is ∙ is.0)
-          (subst (λ b. IsDone arguments reader b below diagnostics p.missing) starts p.done));
+          rw (sent.silent (less ∙ sym is.0)) (subst (λ b. (less : ℕ) × IsDone arguments reader b below diagnostics (suc less)) starts
+          (incomplete_with _ _ _ _ _ _ (printed (ap has_printed is.0) is.1) is.0));
       silent = λ code. let done = is_done _ code in let is = sent.done done in
-          let p = printed (ap has_printed is.0) is.1 in
-          rw (sent.silent (done ∙ sym is.0)) (p.silent (at_done (λ n. p.missing ≡ n) p.missing (sym p.status_is ∙ is.0) refl));
+          rw (sent.silent (done ∙ sym is.0)) (silent_with _ _ _ _ _ _ (printed (ap has_printed is.0) is.1) is.0);
       complains = λ undone no_usage complete. record {
         status = status;
         written = written;
@@ -110,14 +67,7 @@ returns g c =
               inl (isnt, ap exit_code same.0, ap (stream g.E.Write.contents c.args.machine.now.errors) same.1)
         ];
       };
-      leaves = record {
-        usage = λ code. left.usage (ap exit_code (came_usage code));
-        tells_usage = λ code. let is = came_usage code in
-            rw (sent.silent (is_usage _ code ∙ sym is)) (left.tells_usage (ap exit_code is));
-        untouched = search rules;
-        refused = search rules;
-        unread_refused = search rules;
-        nothing_left = search rules;
-        unread = search rules;
-      };
+      leaves =
+          sent_leaves _ status _ _ _ _ _ c.args.output _ c.do_arguments-status.ensures.leaves (λ unprinted. (sent.kept unprinted).0) sent.failed
+          (λ is. ap (stream g.E.Write.contents c.args.machine.now.errors) (sent.silent is)) unchanged;
     }

@@ -1,6 +1,6 @@
 use Rattle.std.proofs.Common.{refl, sym}
 use Rattle.census.specs.Requests.{take_behaviour_from}
-use Rattle.census.proofs.RequestLemmas.{does}
+use Rattle.census.proofs.RequestLemmas.{does, spares_unread}
 use Rattle.census.proofs.request.do_request.Goals as goal
 
 pub returns-in-Some-clause-ends : goal.returns-in-Some-clause-ends
@@ -8,10 +8,17 @@ returns-in-Some-clause-ends g c =
     rw c.in-Take.is
     (does _ _ (λ i. take_behaviour_from c.in-Take.plan c.in-Take.workers (sym c.in-Some.is i)) c.do_take_reporting.ensures.ends)
 
+pub returns-in-Some-clause-spares : goal.returns-in-Some-clause-spares
+returns-in-Some-clause-spares g c =
+    spares_unread _ _ _ _ refl c.do_take_reporting.ensures.untouched c.do_take_reporting.ensures.no_memory
+
 pub returns-in-None-clause-ends : goal.returns-in-None-clause-ends
 returns-in-None-clause-ends g c =
     rw c.in-Take.is
     (does _ _ (λ i. take_behaviour_from c.in-Take.plan c.in-Take.workers (sym c.in-None.is i)) c.do_take.ensures.ends)
+
+pub returns-in-None-clause-spares : goal.returns-in-None-clause-spares
+returns-in-None-clause-spares g c = spares_unread _ _ _ _ refl c.do_take.ensures.untouched c.do_take.ensures.no_memory
 
 pub returns-in-Work-clause-ends : goal.returns-in-Work-clause-ends
 returns-in-Work-clause-ends g c = rw c.in-Work.is (does _ _ refl c.do_work.ensures.ends)
