@@ -188,7 +188,7 @@ request_leaves arguments reader request status written errors input output asked
 }
 
 -- if the arguments ask for nothing, all is left unchanged
-pub usage_leaves : (arguments : List Text) (code : ℕ) (errors : Stream) (input output : Type 0) → asked_by arguments ≡ None → TellsUsage errors → input
+usage_leaves : (arguments : List Text) (code : ℕ) (errors : Stream) (input output : Type 0) → asked_by arguments ≡ None → TellsUsage errors → input
     → output → LeavesAlone arguments code errors input output output
 usage_leaves arguments code errors input output nothing tells same unchanged = record {
   usage = λ _. nothing;
@@ -201,7 +201,7 @@ usage_leaves arguments code errors input output nothing tells same unchanged = r
 }
 
 -- with exit code 4, neither the reader nor the writer, if it is returned, has changed
-pub memory_leaves : (arguments : List Text) (status : Status) (errors : Stream) (input output unprinted : Type 0) → status ≡ statuses.Memory → input
+memory_leaves : (arguments : List Text) (status : Status) (errors : Stream) (input output unprinted : Type 0) → status ≡ statuses.Memory → input
     → unprinted → LeavesAlone arguments (exit_code status) errors input output unprinted
 memory_leaves arguments status errors input output unprinted is same unchanged =
     let four = ap exit_code is in record {
@@ -301,11 +301,30 @@ ends_version contents arguments reader status given back written errors input as
 -- ---- too little memory
 
 -- if there was no memory to read the arguments or for a buffer, the arguments' command hasn't begun
-pub lacks_memory : (arguments : List Text) (reader before : Option (List ℕ)) (failed : Bool) (status : Status) (errors : Stream)
+lacks_memory : (arguments : List Text) (reader before : Option (List ℕ)) (failed : Bool) (status : Status) (errors : Stream)
     → asks_version arguments ≡ false → status ≡ statuses.Memory → HasLine errors (complaint_line (complaint.Memory out_of_memory))
     → DoesArguments arguments reader status (record { before = before; after = before; failed = failed }) errors
 lacks_memory arguments reader before failed status errors no_version is line =
     inr (record { no_version = no_version; status_is = is; nothing = (nothing_written before).0; line = line })
+
+-- if the arguments gave no request, and the status isn't `Usage`, there was no memory to read them
+pub unasked_does : (arguments : List Text) (reader before : Option (List ℕ)) (failed : Bool) (status : Status) (errors : Stream) {U : Type 0}
+    → asks_version arguments ≡ false → (U × (status ≡ statuses.Usage) × TellsUsage errors)
+    ⊎ ((status ≡ statuses.Memory) × HasLine errors (complaint_line (complaint.Memory out_of_memory))) → status ≢ statuses.Usage
+    → DoesArguments arguments reader status (record { before = before; after = before; failed = failed }) errors
+unasked_does arguments reader before failed status errors no_version (inl told) asked = absurd (asked told.1)
+unasked_does arguments reader before failed status errors no_version (inr memory) asked =
+    lacks_memory arguments reader before failed status errors no_version memory.0 memory.1
+
+-- if the arguments gave no request, all is left unchanged
+pub unasked_leaves : (arguments : List Text) (status : Status) (errors : Stream) (input output : Type 0) {U : Type 0} → (U → asked_by arguments ≡ None)
+    → (U × (status ≡ statuses.Usage) × TellsUsage errors)
+    ⊎ ((status ≡ statuses.Memory) × HasLine errors (complaint_line (complaint.Memory out_of_memory))) → input → output
+    → LeavesAlone arguments (exit_code status) errors input output output
+unasked_leaves arguments status errors input output nothing (inl told) same unchanged =
+    usage_leaves arguments (exit_code status) errors input output (nothing told.0) told.2 same unchanged
+unasked_leaves arguments status errors input output nothing (inr memory) same unchanged =
+    memory_leaves arguments status errors input output output memory.0 same unchanged
 
 -- how the program ends if there is no memory for a buffer
 pub ends_without_buffer : {V : Type 0} (contents : V → Option (List ℕ)) (arguments : List Text) (reader : Option (List ℕ)) (status : Status) (given : V)

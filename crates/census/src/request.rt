@@ -6,16 +6,15 @@
 //!                           └─ a usage text, or out of memory
 //! ```
 
-ghost use Rattle.std.specs.Prelude.{◌≡◌, ◌≢◌, false, map, string_bytes};
-ghost use Rattle.clap.specs.Words.{kind_of};
-ghost use Rattle.clap.specs.declared.error.kind.ErrorKind.TheVariants.{OutOfMemory};
+ghost use Rattle.std.specs.Prelude.{◌≡◌, ◌≢◌, ◌⊎◌, false, map, string_bytes};
 ghost use Rattle.memory.specs.Witness.{out_of_memory};
 ghost use Rattle.pattern_commands.specs.Complaints.{complaint_line};
 ghost use Rattle.pattern_commands.specs.Status.{exit_code};
 ghost use Rattle.arguments.specs.Requests.{AreInTheirRanges};
+ghost use Rattle.arguments.specs.Unasked.{IsUsage, SaysWhy};
 ghost use Rattle.pattern_commands.specs.Streams.{HasLine, stream};
 ghost use Rattle.census.specs.ProgramEnds.{LeavesAlone};
-ghost use Rattle.census.specs.Requests.{DoesArguments, DoesRequest, Spares, is_over_sets};
+ghost use Rattle.census.specs.Requests.{DoesArguments, DoesRequest, Spares, TellsUsage, is_over_sets};
 
 use arguments::calls::{Unasked, request_of};
 use arguments::request::Request;
@@ -65,9 +64,22 @@ pub fn do_arguments<T: Threads + Wait + Sync, R: Read, W: Write, E: Write, P: Wr
 {
     match request_of(machine.alloc, arguments) {
         Ok(request) => do_request(machine, &request, input, output),
-        Err(Unasked::Usage(text)) => end_with_usage(text.as_bytes(), &mut machine.errors),
-        Err(Unasked::Unread(error)) => end_without_memory(&error, &mut machine.errors),
-        Err(Unasked::Memory(error)) => Complaint::Memory(error).end_command(&mut machine.errors),
+        Err(unasked) => end_unasked(unasked, &mut machine.errors),
+    }
+}
+
+/// Reports why the arguments ask for nothing.
+fn end_unasked<E: Write>(unasked: Unasked, errors: &mut Out<E>) -> Status
+    requires why { SaysWhy unasked }
+    requires errors { errors.old.failed ≡ false }
+    ensures { (IsUsage unasked × (result ≡ Status.Usage) × TellsUsage (stream E.contents errors.old errors.new))
+        ⊎ ((result ≡ Status.Memory) × HasLine (stream E.contents errors.old errors.new)
+        (complaint_line (Complaint.Memory out_of_memory))) }
+{
+    match unasked {
+        Unasked::Usage(text) => end_with_usage(text.as_bytes(), errors),
+        Unasked::Unread(_) => end_without_memory(errors),
+        Unasked::Memory(error) => Complaint::Memory(error).end_command(errors),
     }
 }
 
@@ -82,14 +94,11 @@ fn end_with_usage<E: Write>(text: &[u8], errors: &mut Out<E>) -> Status
 }
 
 /// Reports that memory ran out while `clap` read the arguments.
-fn end_without_memory<E: Write>(error: &clap::Error, errors: &mut Out<E>) -> Status
-    requires unread { kind_of error.now ≡ OutOfMemory }
-    requires errors { errors.old.failed ≡ false }
+fn end_without_memory<E: Write>(errors: &mut Out<E>) -> Status
+    requires { errors.old.failed ≡ false }
     ensures status { result ≡ Status.Memory }
     ensures line { HasLine (stream E.contents errors.old errors.new) (complaint_line (Complaint.Memory out_of_memory)) }
 {
-    // Only the precondition needs the error.
-    let _why = error;
     let _ = errors.put(b"census: out of memory\n");
     Status::Memory
 }

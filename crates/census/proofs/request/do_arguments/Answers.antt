@@ -1,5 +1,5 @@
 use Rattle.std.proofs.Common.{inl, refl}
-use Rattle.census.proofs.ProgramLemmas.{lacks_memory, memory_leaves, request_leaves, usage_leaves}
+use Rattle.census.proofs.ProgramLemmas.{request_leaves, unasked_does, unasked_leaves}
 use Rattle.census.proofs.request.do_arguments.Goals as goal
 
 pub returns-in-Ok-clause-command : goal.returns-in-Ok-clause-command
@@ -9,25 +9,8 @@ pub returns-in-Ok-clause-leaves : goal.returns-in-Ok-clause-leaves
 returns-in-Ok-clause-leaves g c =
     request_leaves _ _ _ _ _ _ _ _ c.in-Ok.ensures.asked c.do_request.ensures.ends c.do_request.ensures.spares
 
-pub returns-in-Err-Usage-clause-leaves : goal.returns-in-Err-Usage-clause-leaves
-returns-in-Err-Usage-clause-leaves g c =
-    let nothing = (rw c.in-Err-Usage.field-0-is at c.in-Err-Usage.ensures.usage) tt in
-    usage_leaves _ _ _ _ _ nothing (record {
-      text = c.as_bytes.result.now;
-      says = rw c.as_bytes.ensures.value (rw c.in-Err-Usage.field-0-is at c.in-Err-Usage.ensures.why);
-      line = c.end_with_usage.ensures.line;
-    }) refl refl
+pub returns-in-Err-clause-command : goal.returns-in-Err-clause-command
+returns-in-Err-clause-command g c = unasked_does _ _ _ _ _ _ c.in-Err.ensures.version c.end_unasked.ensures
 
-pub returns-in-Err-Unread-clause-command : goal.returns-in-Err-Unread-clause-command
-returns-in-Err-Unread-clause-command g c _ =
-    lacks_memory _ _ _ _ _ _ c.in-Err-Unread.ensures.version c.end_without_memory.ensures.status c.end_without_memory.ensures.line
-
-pub returns-in-Err-Unread-clause-leaves : goal.returns-in-Err-Unread-clause-leaves
-returns-in-Err-Unread-clause-leaves g c = memory_leaves _ _ _ _ _ _ c.end_without_memory.ensures.status refl refl
-
-pub returns-in-Err-Memory-clause-command : goal.returns-in-Err-Memory-clause-command
-returns-in-Err-Memory-clause-command g c _ =
-    lacks_memory _ _ _ _ _ _ c.in-Err-Memory.ensures.version c.end_command.ensures.status c.end_command.ensures.line
-
-pub returns-in-Err-Memory-clause-leaves : goal.returns-in-Err-Memory-clause-leaves
-returns-in-Err-Memory-clause-leaves g c = memory_leaves _ _ _ _ _ _ c.end_command.ensures.status refl refl
+pub returns-in-Err-clause-leaves : goal.returns-in-Err-clause-leaves
+returns-in-Err-clause-leaves g c = unasked_leaves _ _ _ _ _ c.in-Err.ensures.usage c.end_unasked.ensures refl refl
