@@ -2,23 +2,25 @@
 use Rattle.std.proofs.Common.{◌≡◌, ◌∙◌, ℕ, zero, suc, List, [], true, false, Option, None, Some, Ok, Err, IsSomeAnd, IfSome}
 use Rattle.std.proofs.Common.{◌≢◌, ◌⊎◌, Bool, arith, cond, inl, inr, refl, rules, sym, ap, subst, append-nil}
 use Rattle.std.specs.Io.KnownBytes.{Appends, Keeps, append_known}
-use Rattle.std.specs.Prelude.{MatchBool}
+use Rattle.std.specs.Prelude.{MatchBool, ⊤}
 use Rattle.arguments.specs.Requests.{Text, asked_by, asks_version, called_by}
 use Rattle.arguments.specs.declared.request.Request.{Request}
 use Rattle.arguments.specs.declared.request.Request.TheVariants.{Version}
+use Rattle.memory.specs.Witness.{out_of_memory}
 use Rattle.pattern_commands.specs.declared.ending.complaint.Complaint.{Complaint}
+use Rattle.pattern_commands.specs.declared.ending.complaint.Complaint.TheVariants as complaint
 use Rattle.pattern_commands.specs.declared.ending.status.Status.{Status}
 use Rattle.pattern_commands.specs.declared.ending.status.Status.TheVariants as statuses
-use Rattle.pattern_commands.specs.Complaints.{status_of}
+use Rattle.pattern_commands.specs.Complaints.{complaint_line, status_of}
 use Rattle.pattern_commands.specs.Ends.{Ends, HasLast, Outcome, Reaches, last_line, status_after}
 use Rattle.pattern_commands.specs.Status.{exit_code, has_printed}
 use Rattle.pattern_commands.specs.Streams.{Stream, Has, HasPrefix, HasLine}
 use Rattle.pattern_commands.specs.Behaviours.{Made}
 use Rattle.pattern_commands.specs.Version.{version_behaviour}
 use Rattle.census.specs.Program.{Complains, IsDone, IsPrefixOf, since}
-use Rattle.census.specs.ProgramEnds.{LeavesAlone}
-use Rattle.census.specs.Requests.{DoesRequest, DoesArguments, right_for, behaviour_of, reads_input, writes_lines}
-use Rattle.census.proofs.RequestLemmas.{does}
+use Rattle.census.specs.ProgramEnds.{LeavesAlone, ProgramEnds}
+use Rattle.census.specs.Requests.{DoesRequest, DoesArguments, Spares, TellsUsage, right_for, behaviour_of, is_whole, reads_input, writes_lines}
+use Rattle.census.proofs.RequestLemmas.{does, never_usage}
 
 -- ---- the status of an exit code
 
@@ -141,30 +143,78 @@ module _ (arguments : List Text) (reader below : Option (List ℕ)) (status : St
       request_prints request asked done
 
 -- if the status is `Done`, no soup is missing
-pub at_done : (P : ℕ → Type 0) (missing : ℕ) → status_after (Ok missing) ≡ statuses.Done → P missing → P 0
+at_done : (P : ℕ → Type 0) (missing : ℕ) → status_after (Ok missing) ≡ statuses.Done → P missing → P 0
 at_done P zero is p = p
 at_done P (suc n) is p = cc
 
-pub at_incomplete : (P : ℕ → Type 0) (missing : ℕ) → status_after (Ok missing) ≡ statuses.Incomplete → P missing → (less : ℕ) × P (suc less)
+at_incomplete : (P : ℕ → Type 0) (missing : ℕ) → status_after (Ok missing) ≡ statuses.Incomplete → P missing → (less : ℕ) × P (suc less)
 at_incomplete P zero is p = cc
 at_incomplete P (suc n) is p = (n, p)
+
+module _ (arguments : List Text) (reader before below : Option (List ℕ)) (status : Status) (errors : Stream) where
+  pub done_with : Prints arguments reader before below status errors → status ≡ statuses.Done → IsDone arguments reader before below errors 0
+  done_with p is = at_done (IsDone arguments reader before below errors) p.missing (sym p.status_is ∙ is) p.done
+
+  pub incomplete_with : Prints arguments reader before below status errors → status ≡ statuses.Incomplete
+      → (less : ℕ) × IsDone arguments reader before below errors (suc less)
+  incomplete_with p is = at_incomplete (IsDone arguments reader before below errors) p.missing (sym p.status_is ∙ is) p.done
+
+  pub silent_with : Prints arguments reader before below status errors → status ≡ statuses.Done
+      → IfSome (asked_by arguments) (λ request. writes_lines request ≡ false → Has errors [])
+  silent_with p is = p.silent (at_done (λ n. p.missing ≡ n) p.missing (sym p.status_is ∙ is) refl)
 
 pub unlike : (P : Status → Type 0) (status : Status) → has_printed status ≡ true → P statuses.Done → P statuses.Incomplete → P status
 unlike P status printed done less = search rules
 
--- ---- arguments that ask for nothing, and the version
+-- ---- what is left unchanged
 
--- if the program has the status `Usage` after the flush, the command had it before the flush
-pub still_usage : (status result : Status) → (has_printed status ≡ false → result ≡ status) → (result ≢ status → result ≡ statuses.Failed)
-    → result ≡ statuses.Usage → status ≡ statuses.Usage
-still_usage statuses.Done result kept failed is =
-    let bad : statuses.Usage ≡ statuses.Failed = sym is ∙ failed (λ same. let odd : statuses.Usage ≡ statuses.Done = sym is ∙ same in cc) in cc
-still_usage statuses.Incomplete result kept failed is =
-    let bad : statuses.Usage ≡ statuses.Failed = sym is ∙ failed (λ same. let odd : statuses.Usage ≡ statuses.Incomplete = sym is ∙ same in cc) in cc
-still_usage statuses.Usage result kept failed is = refl
-still_usage statuses.Refused result kept failed is = sym (kept refl) ∙ is
-still_usage statuses.Memory result kept failed is = sym (kept refl) ∙ is
-still_usage statuses.Failed result kept failed is = sym (kept refl) ∙ is
+-- what holds anyway holds if the arguments ask for a request that passes a test
+if_asked : {P : Type 0} (test : Request → Bool) (expected : Bool) (asked : Option Request) → P → IfSome asked (λ request. test request ≡ expected → P)
+if_asked test expected None holds = tt
+if_asked test expected (Some request) holds = λ _. holds
+
+-- what is left unchanged if the command of a request has ended
+pub request_leaves : (arguments : List Text) (reader : Option (List ℕ)) (request : Request) (status : Status) (written errors : Stream)
+    (input output : Type 0) → asked_by arguments ≡ Some request → DoesRequest reader status written errors request
+    → Spares request status input output → LeavesAlone arguments (exit_code status) errors input output output
+request_leaves arguments reader request status written errors input output asked does spares = record {
+  usage = λ code. absurd (never_usage does (is_usage status code));
+  tells_usage = λ code. absurd (never_usage does (is_usage status code));
+  untouched = λ code. absurd (never_usage does (is_usage status code));
+  refused = λ code. spares.untouched (is_refused status code);
+  unread_refused = λ code. rw asked (spares.unread_refused (is_refused status code));
+  nothing_left = λ code. rw asked (spares.no_memory (is_out_of_memory status code));
+  unread = rw asked spares.unread;
+}
+
+-- if the arguments ask for nothing, all is left unchanged
+usage_leaves : (arguments : List Text) (code : ℕ) (errors : Stream) (input output : Type 0) → asked_by arguments ≡ None → TellsUsage errors → input
+    → output → LeavesAlone arguments code errors input output output
+usage_leaves arguments code errors input output nothing tells same unchanged = record {
+  usage = λ _. nothing;
+  tells_usage = λ _. tells;
+  untouched = λ _. (same, unchanged);
+  refused = λ _. unchanged;
+  unread_refused = λ _. rw nothing tt;
+  nothing_left = λ _. rw nothing tt;
+  unread = rw nothing tt;
+}
+
+-- with exit code 4, neither the reader nor the writer, if it is returned, has changed
+memory_leaves : (arguments : List Text) (status : Status) (errors : Stream) (input output unprinted : Type 0) → status ≡ statuses.Memory → input
+    → unprinted → LeavesAlone arguments (exit_code status) errors input output unprinted
+memory_leaves arguments status errors input output unprinted is same unchanged =
+    let four = ap exit_code is in record {
+      usage = λ code. absurd (omega (arith, code, four));
+      tells_usage = λ code. absurd (omega (arith, code, four));
+      untouched = λ code. absurd (omega (arith, code, four));
+      refused = λ code. absurd (omega (arith, code, four));
+      unread_refused = λ code. absurd (omega (arith, code, four));
+      nothing_left = λ _. if_asked is_whole true (asked_by arguments) unchanged;
+      unread = if_asked reads_input false (asked_by arguments) same;
+    }
+
+-- ---- the version
 
 -- arguments for which `asks_version` is true ask for the version
 pub asks_for_version : (arguments : List Text) → asks_version arguments ≡ true → asked_by arguments ≡ Some Version
@@ -175,16 +225,16 @@ keeps_all None = tt
 keeps_all (Some xs) = append-nil xs
 
 -- how the program ends if it prints the version without a buffer
-pub record EndsVersion (arguments : List Text) (reader before after : Option (List ℕ)) (status : Status) (errors : Stream) : Type 0 where
-  pub done : status ≡ statuses.Done → IsDone arguments reader before after errors 0
-  pub silent : status ≡ statuses.Done → IfSome (asked_by arguments) (λ request. writes_lines request ≡ false → Has errors [])
-  pub complains : status ≢ statuses.Done → Complains arguments reader (exit_code status) before after errors
+record EndsVersion (arguments : List Text) (reader before after : Option (List ℕ)) (status : Status) (errors : Stream) : Type 0 where
+  done : status ≡ statuses.Done → IsDone arguments reader before after errors 0
+  silent : status ≡ statuses.Done → IfSome (asked_by arguments) (λ request. writes_lines request ≡ false → Has errors [])
+  complains : status ≢ statuses.Done → Complains arguments reader (exit_code status) before after errors
 
-pub ends_version : (arguments : List Text) (reader before after : Option (List ℕ)) (status : Status) (written errors : Stream)
+ends_version_with : (arguments : List Text) (reader before after : Option (List ℕ)) (status : Status) (written errors : Stream)
     → asks_version arguments ≡ true → (status ≢ statuses.Done → status ≡ statuses.Failed) → written.before ≡ before → written.after ≡ after
     → ((reader : Option (List ℕ)) (bytes : List ℕ) → Ends version_behaviour reader bytes status written errors)
     → EndsVersion arguments reader before after status errors
-ends_version arguments reader before after status written errors asks failed starts stops ends =
+ends_version_with arguments reader before after status written errors asks failed starts stops ends =
     subst (λ b. EndsVersion arguments reader b after status errors) starts
     (subst (λ a. EndsVersion arguments reader written.before a status errors) stops whole)
   where
@@ -196,10 +246,8 @@ ends_version arguments reader before after status written errors asks failed sta
 
     whole : EndsVersion arguments reader written.before written.after status errors
     whole = record {
-      done = λ is. let p = printed is in
-          at_done (IsDone arguments reader written.before written.after errors) p.missing (sym p.status_is ∙ is) p.done;
-      silent = λ is. let p = printed is in
-          p.silent (at_done (λ n. p.missing ≡ n) p.missing (sym p.status_is ∙ is) refl);
+      done = λ is. done_with arguments reader written.before written.after status errors (printed is) is;
+      silent = λ is. silent_with arguments reader written.before written.after status errors (printed is) is;
       complains = λ undone. record {
         status = status;
         written = written;
@@ -212,7 +260,7 @@ ends_version arguments reader before after status written errors asks failed sta
     }
 
 -- if a status is `Done` or `Failed`, its exit code is 0 or 5
-pub prints_or_fails : (status : Status) → (status ≢ statuses.Done → status ≡ statuses.Failed) → (exit_code status ≡ 0) ⊎ (exit_code status ≡ 5)
+prints_or_fails : (status : Status) → (status ≢ statuses.Done → status ≡ statuses.Failed) → (exit_code status ≡ 0) ⊎ (exit_code status ≡ 5)
 prints_or_fails statuses.Done failed = inl refl
 prints_or_fails statuses.Failed failed = inr refl
 prints_or_fails statuses.Usage failed = inr (ap exit_code (failed (λ is. cc)))
@@ -221,7 +269,7 @@ prints_or_fails statuses.Memory failed = inr (ap exit_code (failed (λ is. cc)))
 prints_or_fails statuses.Incomplete failed = inr (ap exit_code (failed (λ is. cc)))
 
 -- with exit code 0 or 5, the only thing that has to be left unchanged is the input
-pub printing_leaves : (arguments : List Text) (code : ℕ) (errors : Stream) (input output unprinted : Type 0) → (code ≡ 0) ⊎ (code ≡ 5) → input
+printing_leaves : (arguments : List Text) (code : ℕ) (errors : Stream) (input output unprinted : Type 0) → (code ≡ 0) ⊎ (code ≡ 5) → input
     → LeavesAlone arguments code errors input output unprinted
 printing_leaves arguments code errors input output unprinted either same = record {
   usage = λ is. absurd (omega (arith, is, either));
@@ -230,9 +278,129 @@ printing_leaves arguments code errors input output unprinted either same = recor
   refused = λ is. absurd (omega (arith, is, either));
   unread_refused = λ is. absurd (omega (arith, is, either));
   nothing_left = λ is. absurd (omega (arith, is, either));
-  unread = for_any (asked_by arguments);
+  unread = if_asked reads_input false (asked_by arguments) same;
+}
+
+-- how the program ends if it prints the version without a buffer
+pub ends_version : {V : Type 0} (contents : V → Option (List ℕ)) (arguments : List Text) (reader : Option (List ℕ)) (status : Status)
+    (given back : V) (written errors : Stream) (input : Type 0) → asks_version arguments ≡ true
+    → (status ≢ statuses.Done → status ≡ statuses.Failed) → written.before ≡ contents given → written.after ≡ contents back
+    → ((reader : Option (List ℕ)) (bytes : List ℕ) → Ends version_behaviour reader bytes status written errors) → input
+    → ProgramEnds contents arguments reader (exit_code status) given (Some back) errors input
+ends_version contents arguments reader status given back written errors input asks failed starts stops ends same =
+    let ends = ends_version_with arguments reader (contents given) (contents back) status written errors asks failed starts stops ends in
+    let code = prints_or_fails status failed in
+    record {
+      done = λ is. ends.done (is_done status is);
+      silent = λ is. ends.silent (is_done status is);
+      incomplete = λ is. absurd (omega (arith, is, code));
+      complains = λ undone _ _. ends.complains (λ is. undone (ap exit_code is));
+      leaves = printing_leaves arguments (exit_code status) errors input (Some back ≡ Some given) (back ≡ given) code same;
+    }
+
+-- ---- too little memory
+
+-- if there was no memory to read the arguments or for a buffer, the arguments' command hasn't begun
+lacks_memory : (arguments : List Text) (reader before : Option (List ℕ)) (failed : Bool) (status : Status) (errors : Stream)
+    → asks_version arguments ≡ false → status ≡ statuses.Memory → HasLine errors (complaint_line (complaint.Memory out_of_memory))
+    → DoesArguments arguments reader status (record { before = before; after = before; failed = failed }) errors
+lacks_memory arguments reader before failed status errors no_version is line =
+    inr (record { no_version = no_version; status_is = is; nothing = (nothing_written before).0; line = line })
+
+-- if the arguments gave no request, and the status isn't `Usage`, there was no memory to read them
+pub unasked_does : (arguments : List Text) (reader before : Option (List ℕ)) (failed : Bool) (status : Status) (errors : Stream) {U : Type 0}
+    → asks_version arguments ≡ false → (U × (status ≡ statuses.Usage) × TellsUsage errors)
+    ⊎ ((status ≡ statuses.Memory) × HasLine errors (complaint_line (complaint.Memory out_of_memory))) → status ≢ statuses.Usage
+    → DoesArguments arguments reader status (record { before = before; after = before; failed = failed }) errors
+unasked_does arguments reader before failed status errors no_version (inl told) asked = absurd (asked told.1)
+unasked_does arguments reader before failed status errors no_version (inr memory) asked =
+    lacks_memory arguments reader before failed status errors no_version memory.0 memory.1
+
+-- if the arguments gave no request, all is left unchanged
+pub unasked_leaves : (arguments : List Text) (status : Status) (errors : Stream) (input output : Type 0) {U : Type 0} → (U → asked_by arguments ≡ None)
+    → (U × (status ≡ statuses.Usage) × TellsUsage errors)
+    ⊎ ((status ≡ statuses.Memory) × HasLine errors (complaint_line (complaint.Memory out_of_memory))) → input → output
+    → LeavesAlone arguments (exit_code status) errors input output output
+unasked_leaves arguments status errors input output nothing (inl told) same unchanged =
+    usage_leaves arguments (exit_code status) errors input output (nothing told.0) told.2 same unchanged
+unasked_leaves arguments status errors input output nothing (inr memory) same unchanged =
+    memory_leaves arguments status errors input output output memory.0 same unchanged
+
+-- how the program ends if there is no memory for a buffer
+pub ends_without_buffer : {V : Type 0} (contents : V → Option (List ℕ)) (arguments : List Text) (reader : Option (List ℕ)) (status : Status) (given : V)
+    (errors : Stream) (input : Type 0) → asks_version arguments ≡ false → status ≡ statuses.Memory
+    → HasLine errors (complaint_line (complaint.Memory out_of_memory)) → input
+    → ProgramEnds contents arguments reader (exit_code status) given None errors input
+ends_without_buffer contents arguments reader status given errors input no_version is line same =
+    let four = ap exit_code is in record {
+      done = λ code. absurd (omega (arith, code, four));
+      silent = λ code. absurd (omega (arith, code, four));
+      incomplete = λ code. absurd (omega (arith, code, four));
+      complains = λ _ _ _. record {
+        status = status;
+        written = record { before = contents given; after = contents given; failed = false };
+        diagnostics = errors;
+        does = lacks_memory arguments reader (contents given) false status errors no_version is line;
+        from = refl;
+        sent = (nothing_written (contents given)).1;
+        ends = inl (ap has_printed is, refl, refl);
+      };
+      leaves = memory_leaves arguments status errors input (None ≡ Some given) ⊤ is same tt;
+    }
+
+-- ---- arguments that couldn't be read
+
+-- if the command didn't print, its exit code is neither 0 nor 6
+pub code_of_unprinted : (status : Status) → has_printed status ≡ false → (exit_code status ≢ 0) × (exit_code status ≢ 6)
+code_of_unprinted status unprinted = (
+  λ code. let bad : false ≡ true = sym unprinted ∙ ap has_printed (is_done status code) in cc,
+  λ code. let bad : false ≡ true = sym unprinted ∙ ap has_printed (is_incomplete status code) in cc,
+)
+
+-- ---- the flush
+
+-- a command that printed doesn't have the status `Usage`
+pub printed_is_no_usage : (status : Status) → has_printed status ≡ true → status ≢ statuses.Usage
+printed_is_no_usage status printed usage = let bad : true ≡ false = sym printed ∙ ap has_printed usage in cc
+
+-- a status that neither a command that printed nor a failed flush has was the command's status before the flush
+still : (status result own : Status) → (has_printed status ≡ false → result ≡ status) → (result ≢ status → result ≡ statuses.Failed)
+    → has_printed own ≡ false → own ≢ statuses.Failed → result ≡ own → status ≡ own
+still status result own kept failed unprinted unfailed is = go (has_printed status) refl
+  where
+    go : (printed : Bool) → has_printed status ≡ printed → status ≡ own
+    go false isnt = sym (kept isnt) ∙ is
+    go true printed =
+        absurd (unfailed (sym is ∙ failed (λ same. let bad : true ≡ false = sym printed ∙ ap has_printed (sym same ∙ is) ∙ unprinted in cc)))
+
+if_asked_more : {P Q : Type 0} (test : Request → Bool) (expected : Bool) (asked : Option Request) → (P → Q)
+    → IfSome asked (λ request. test request ≡ expected → P) → IfSome asked (λ request. test request ≡ expected → Q)
+if_asked_more test expected None more holds = tt
+if_asked_more test expected (Some request) more holds = λ is. more (holds is)
+
+-- what is left unchanged after the flush, if the writer is unchanged whenever the command has neither written nor
+-- printed anything
+pub sent_leaves : {V : Type 0} (arguments : List Text) (status result : Status) (errors later : Stream) (input output : Type 0) (given back : V)
+    → LeavesAlone arguments (exit_code status) errors input output output → (has_printed status ≡ false → result ≡ status)
+    → (result ≢ status → result ≡ statuses.Failed) → (result ≡ status → later ≡ errors) → (has_printed status ≡ false → output → back ≡ given)
+    → LeavesAlone arguments (exit_code result) later input (Some back ≡ Some given) (back ≡ given)
+sent_leaves arguments status result errors later input output given back left kept failed silent unchanged = record {
+  usage = λ code. left.usage (ap exit_code (usage code));
+  tells_usage = λ code. subst TellsUsage (sym (silent (is_usage result code ∙ sym (usage code)))) (left.tells_usage (ap exit_code (usage code)));
+  untouched = λ code. let same = left.untouched (ap exit_code (usage code)) in
+      (same.0, ap Some (unchanged (ap has_printed (usage code)) same.1));
+  refused = λ code. ap Some (unchanged (ap has_printed (refused code)) (left.refused (ap exit_code (refused code))));
+  unread_refused = λ code. left.unread_refused (ap exit_code (refused code));
+  nothing_left = λ code. if_asked_more is_whole true (asked_by arguments) (unchanged (ap has_printed (memory code)))
+      (left.nothing_left (ap exit_code (memory code)));
+  unread = left.unread;
 }
   where
-    for_any : (asked : Option Request) → IfSome asked (λ request. reads_input request ≡ false → input)
-    for_any None = tt
-    for_any (Some request) = λ _. same
+    usage : exit_code result ≡ 2 → status ≡ statuses.Usage
+    usage code = still status result statuses.Usage kept failed refl (λ e. cc) (is_usage result code)
+
+    refused : exit_code result ≡ 3 → status ≡ statuses.Refused
+    refused code = still status result statuses.Refused kept failed refl (λ e. cc) (is_refused result code)
+
+    memory : exit_code result ≡ 4 → status ≡ statuses.Memory
+    memory code = still status result statuses.Memory kept failed refl (λ e. cc) (is_out_of_memory result code)

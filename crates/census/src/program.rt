@@ -5,13 +5,13 @@
 //!              └─ status ────────────────┴─ code
 //! ```
 
-ghost use Rattle.std.specs.Prelude.{◌≡◌, ◌≢◌, ℕ, List, Option, IsErr, Some, IfOk, IfErr, IsOkAnd, IsSomeAnd, false};
+ghost use Rattle.std.specs.Prelude.{◌≡◌, ◌≢◌, ℕ, List, [], Option, IsErr, Some, IfOk, IfErr, IsOkAnd, IsSomeAnd, false};
 ghost use Rattle.std.specs.Prelude.{map, string_bytes};
 ghost use Rattle.std.specs.Io.Buffered.{writer_buffer, writer_contents, writer_inner};
 ghost use Rattle.std.specs.IoError.{error_kind};
 ghost use Rattle.memory.specs.Witness.{out_of_memory};
 ghost use Rattle.pattern_commands.specs.Complaints.{complaint_line};
-ghost use Rattle.pattern_commands.specs.Status.{exit_code};
+ghost use Rattle.pattern_commands.specs.Status.{exit_code, has_printed};
 ghost use Rattle.pattern_commands.specs.Ends.{Ends};
 ghost use Rattle.pattern_commands.specs.Streams.{HasLine, Stream, stream};
 ghost use Rattle.pattern_commands.specs.Version.{version_behaviour};
@@ -30,6 +30,7 @@ use pattern_commands::ending::status::Status;
 use pattern_commands::output::send_buffered;
 use pattern_commands::version::do_version;
 use plane_core::output::Out;
+use std::alloc::Global;
 use std::io::{self, BufWriter, ErrorKind, Read, Write};
 use std::sync::Wait;
 use std::thread::Threads;
@@ -134,22 +135,41 @@ fn do_buffered<T: Threads + Wait + Sync, R: Read, W: Write + Drop, E: Write, P: 
         let (status, writer) = print_version(output, &mut machine.errors);
         return (status, Some(writer));
     }
-    let buffered = match BufWriter::new(machine.alloc, output) {
-        Ok(buffered) => buffered,
+    match BufWriter::new(machine.alloc, output) {
+        Ok(buffered) => {
+            let (status, writer) = do_and_send(machine, arguments, input, buffered);
+            (status, Some(writer))
+        }
         Err(error) => {
             let refused = OutOfMemory::of_stream(&error);
-            return (
+            (
                 Complaint::Memory(refused).end_command(&mut machine.errors),
                 None,
-            );
+            )
         }
-    };
+    }
+}
+
+/// Does what `arguments` ask for, and writes to `buffered`, which is empty at first and is flushed at the end. Returns
+/// the status and the writer below the buffer.
+fn do_and_send<T: Threads + Wait + Sync, R: Read, W: Write + Drop, E: Write, P: Write, C: Clock>(
+    machine: &mut Machine<'_, T, E, ProgressLine<P, C>>,
+    arguments: &[String],
+    input: &mut R,
+    buffered: BufWriter<W, Global>,
+) -> (Status, W)
+    requires errors { machine.old.errors.failed ≡ false }
+    requires empty { writer_buffer buffered ≡ [] }
+    ensures { ProgramEnds W.contents (map string_bytes arguments.now) (R.remaining input.old)
+        (exit_code result.0) (writer_inner buffered) (Some result.1)
+        (stream E.contents machine.old.errors machine.new.errors) (input.new ≡ input.old) }
+{
     let mut output = Out::new(buffered);
     let status = do_arguments(machine, arguments, input, &mut output);
     let mut buffered = output.into_inner();
     let status = send_buffered(status, &mut buffered, &mut machine.errors);
     let (writer, _) = buffered.into_parts();
-    (status, Some(writer))
+    (status, writer)
 }
 
 /// Prints the version. Returns the status and the writer.
@@ -168,6 +188,7 @@ fn print_version<W: Write + Drop, E: Write>(output: W, errors: &mut Out<E>) -> (
 /// Reports that the arguments aren't text, or that memory ran out while they were read.
 fn end_with_unread_arguments<E: Write>(error: &io::Error, errors: &mut Out<E>) -> Status
     requires { errors.old.failed ≡ false }
+    ensures unprinted { has_printed result ≡ false }
     ensures not_text { error_kind error.now ≢ ErrorKind.OutOfMemory → (result ≡ Status.Usage)
         × HasLine (stream E.contents errors.old errors.new) not_text_line }
     ensures no_memory { error_kind error.now ≡ ErrorKind.OutOfMemory → (result ≡ Status.Memory)

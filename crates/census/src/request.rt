@@ -6,16 +6,15 @@
 //!                           └─ a usage text, or out of memory
 //! ```
 
-ghost use Rattle.std.specs.Prelude.{◌≡◌, ◌≢◌, false, map};
-ghost use Rattle.clap.specs.Words.{kind_of};
-ghost use Rattle.clap.specs.declared.error.kind.ErrorKind.TheVariants.{OutOfMemory};
+ghost use Rattle.std.specs.Prelude.{◌≡◌, ◌≢◌, ◌⊎◌, false, map, string_bytes};
 ghost use Rattle.memory.specs.Witness.{out_of_memory};
 ghost use Rattle.pattern_commands.specs.Complaints.{complaint_line};
 ghost use Rattle.pattern_commands.specs.Status.{exit_code};
 ghost use Rattle.arguments.specs.Requests.{AreInTheirRanges};
+ghost use Rattle.arguments.specs.Unasked.{IsUsage, SaysWhy};
 ghost use Rattle.pattern_commands.specs.Streams.{HasLine, stream};
 ghost use Rattle.census.specs.ProgramEnds.{LeavesAlone};
-ghost use Rattle.census.specs.Requests.{DoesArguments, DoesRequest, Spares, is_over_sets};
+ghost use Rattle.census.specs.Requests.{DoesArguments, DoesRequest, Spares, TellsUsage, is_over_sets};
 
 use arguments::calls::{Unasked, request_of};
 use arguments::request::Request;
@@ -36,7 +35,6 @@ use pattern_commands::version::do_version;
 use plane_core::output::Out;
 use requests::form::RunForm;
 use std::alloc::Global;
-use std::convert::AsStr;
 use std::io::{Read, Write};
 use std::sync::Wait;
 use std::thread::Threads;
@@ -50,33 +48,38 @@ use std::time::Clock;
 /// # Errors
 ///
 /// As for [`do_request`], or `Memory` if memory runs out while the arguments are read.
-pub fn do_arguments<
-    T: Threads + Wait + Sync,
-    S: AsStr,
-    R: Read,
-    W: Write,
-    E: Write,
-    P: Write,
-    C: Clock,
->(
+pub fn do_arguments<T: Threads + Wait + Sync, R: Read, W: Write, E: Write, P: Write, C: Clock>(
     machine: &mut Machine<'_, T, E, ProgressLine<P, C>>,
-    arguments: &[S],
+    arguments: &[String],
     input: &mut R,
     output: &mut Out<W>,
 ) -> Status
     requires output { output.old.failed ≡ false }
     requires errors { machine.old.errors.failed ≡ false }
-    ensures command { result ≢ Status.Usage → DoesArguments (map S.text arguments.now) (R.remaining input.old) result
+    ensures command { result ≢ Status.Usage → DoesArguments (map string_bytes arguments.now) (R.remaining input.old) result
         (stream W.contents output.old output.new) (stream E.contents machine.old.errors machine.new.errors) }
-    ensures leaves { LeavesAlone (map S.text arguments.now) (exit_code result)
+    ensures leaves { LeavesAlone (map string_bytes arguments.now) (exit_code result)
         (stream E.contents machine.old.errors machine.new.errors)
         (input.new ≡ input.old) (output.new ≡ output.old) (output.new ≡ output.old) }
 {
     match request_of(machine.alloc, arguments) {
         Ok(request) => do_request(machine, &request, input, output),
-        Err(Unasked::Usage(text)) => end_with_usage(text.as_bytes(), &mut machine.errors),
-        Err(Unasked::Unread(error)) => end_without_memory(&error, &mut machine.errors),
-        Err(Unasked::Memory(error)) => Complaint::Memory(error).end_command(&mut machine.errors),
+        Err(unasked) => end_unasked(unasked, &mut machine.errors),
+    }
+}
+
+/// Reports why the arguments ask for nothing.
+fn end_unasked<E: Write>(unasked: Unasked, errors: &mut Out<E>) -> Status
+    requires why { SaysWhy unasked }
+    requires errors { errors.old.failed ≡ false }
+    ensures { (IsUsage unasked × (result ≡ Status.Usage) × TellsUsage (stream E.contents errors.old errors.new))
+        ⊎ ((result ≡ Status.Memory) × HasLine (stream E.contents errors.old errors.new)
+        (complaint_line (Complaint.Memory out_of_memory))) }
+{
+    match unasked {
+        Unasked::Usage(text) => end_with_usage(text.as_bytes(), errors),
+        Unasked::Unread(_) => end_without_memory(errors),
+        Unasked::Memory(error) => Complaint::Memory(error).end_command(errors),
     }
 }
 
@@ -91,14 +94,11 @@ fn end_with_usage<E: Write>(text: &[u8], errors: &mut Out<E>) -> Status
 }
 
 /// Reports that memory ran out while `clap` read the arguments.
-fn end_without_memory<E: Write>(error: &clap::Error, errors: &mut Out<E>) -> Status
-    requires unread { kind_of error.now ≡ OutOfMemory }
-    requires errors { errors.old.failed ≡ false }
+fn end_without_memory<E: Write>(errors: &mut Out<E>) -> Status
+    requires { errors.old.failed ≡ false }
     ensures status { result ≡ Status.Memory }
     ensures line { HasLine (stream E.contents errors.old errors.new) (complaint_line (Complaint.Memory out_of_memory)) }
 {
-    // Only the precondition needs the error.
-    let _why = error;
     let _ = errors.put(b"census: out of memory\n");
     Status::Memory
 }

@@ -9,12 +9,13 @@ use Rattle.haul_core.specs.declared.book.refused.OfferError.{OfferError}
 use Rattle.haul_core.specs.declared.book.refused.OfferError.TheVariants as offer_error
 use Rattle.haul_core.specs.Books.{Held, StandsFor, Terms}
 use Rattle.haul_core.specs.Refusals.{IsReply, refusal_of}
-use Rattle.haul_core.specs.ClaimChecks.{Agrees, IsFoundFor}
+use Rattle.haul_core.specs.declared.report.claim.check.CheckError.TheVariants as check_error
+use Rattle.haul_core.specs.ClaimChecks.{Agrees, Fails, IsFoundFor}
 use Rattle.haul_core.specs.ReportLines.{said_of}
 use Rattle.haul_core.specs.LawfulClaims.{Claimed}
 use Rattle.haul_core.specs.Reports.{Reported}
 use Rattle.commands.specs.declared.line_fault.LineFault.{LineFault}
-use Rattle.commands.specs.declared.line_fault.LineFault.TheVariants.{BadLine}
+use Rattle.commands.specs.declared.line_fault.LineFault.TheVariants.{BadLine, Disagrees}
 use Rattle.survey_core.specs.declared.job.Job.{Job}
 use Rattle.std.proofs.KnownBytes.{Consumes-nil, Consumes-trans, prepend_known-nil}
 use Rattle.std.proofs.lemmas.List.Elements.{All-nil}
@@ -36,7 +37,7 @@ use Rattle.commands.specs.GatherSteps.{EndsLine, EndsLines, EndsNext, HasGathere
 use Rattle.commands.specs.LinesSoFar.{AreAllEnded, HasBegunUpTo, HasCome, HasComeBy, most_ahead}
 use Rattle.commands.specs.Lines.{HasReadLine, HasReadPart, IsLongerThan, IsOneLine, MayEnd, input_lines, piece_end, with_end}
 use Rattle.commands.proofs.LineLemmas.{after_read, all_lines, all_read, bare_part, ended_more, first_lines, lines_and, lines_bare, lines_ended, long_read, part_lines, with_ahead}
-use Rattle.commands.specs.GatheredLines.{Faulty, Prefix, Gathered, IsChecked, IsPrefixFault, IsExamined, IsWrong, ComesOf, Next, Offered, Start, Whole, offer_fault, fault_lines}
+use Rattle.commands.specs.GatheredLines.{Faulty, Prefix, Gathered, IsChecked, IsPrefixFault, IsExamined, IsWrong, ComesOf, Claims, Next, Offered, Start, Whole, offer_fault, fault_lines}
 
 -- a line causes no arrival if it is bad, is of another job, or disagrees with the finding of its soup
 pub faulty : {terms : Terms} {line : List ℕ} {fault : LineFault} {held : Held} (arrivals : List Arrival) → IsExamined terms.job line (Err fault)
@@ -75,10 +76,14 @@ refused_told terms line held arrivals report reason (Ok fault) is reply memory f
 refused_told terms line held arrivals report reason (Err e) is reply memory fault_is stands = tt
 
 -- if a claim disagrees with a finding of its soup, the claim is wrong, since a soup has only one finding
-pub wrong : FindingsAreDetermined → (claim : Claimed) (found : Finding) → IsFoundFor claim found → ¬ Agrees claim found → IsWrong claim
+wrong : FindingsAreDetermined → (claim : Claimed) (found : Finding) → IsFoundFor claim found → ¬ Agrees claim found → IsWrong claim
 wrong unique claim found is differs finding right agrees =
     let same = unique claim.job.rule claim.job.profile (soup claim.job.seed claim.number) found finding is right in
     differs (ap (said_of claim.version) same ∙ agrees)
+
+pub disagreeing : FindingsAreDetermined → (job : Job) (line : List ℕ) (claim : Claimed) (found : Finding) → Claims line claim
+    → Fails claim job (check_error.Disagrees found) → IsChecked job line (Err Disagrees)
+disagreeing unique job line claim found claims fails = (claim, claims, fails.0, wrong unique claim found fails.1.0 fails.1.1)
 
 -- gathering one more line adds its arrival, if any, to the haul, and its fault, if any, to the diagnostics
 pub come_more : (lines : List (List ℕ)) (line diagnostics : List ℕ) (old new : Held) (before : ℕ) (fault : Option LineFault)

@@ -1,6 +1,6 @@
 -- Lemmas about reading an input line by line.
 use Rattle.std.proofs.Common.{◌≡◌, ◌≢◌, ◌<◌, ◌≤◌, ◌+◌, ◌-◌, ◌^◌, ◌∙◌, ◌++◌, ℕ, zero, suc, ne_eqb}
-use Rattle.std.proofs.Common.{List, [], ◌∷◌, All, Option, None, Some, IfSome, ap, ap₂, append-nil, append_assoc, arith, cond, drop, drop_of_length-le, flat_map, length, length-append, length-take, length-take-le, refl, subst, sym, take, take-append-drop}
+use Rattle.std.proofs.Common.{List, [], ◌∷◌, All, Option, None, Some, IfSome, ap, ap₂, append-nil, append_assoc, arith, cond, drop, drop_of_length-le, flat_map, length, length-append, length-drop, length-take, length-take-le, refl, subst, sym, take, take-append-drop}
 use Rattle.std.proofs.lemmas.Grind.{flat_map-append}
 use Rattle.std.proofs.lemmas.List.Elements.{All-append, All-head, All-push, All-tail}
 use Rattle.std.proofs.KnownBytes.{Consumes-kept, Consumes-trans, prepend_known-read}
@@ -212,6 +212,20 @@ piece_taken old left ahead shown next read same piece kept is end =
       last = λ is. spent old (prepend_known next left) (moved.1 (sym same ∙ piece.last is));
       some = piece.some;
     }
+
+-- a piece and the bytes that are ahead after it are as many as the bytes that were ahead before it
+pub piece_few : (most : ℕ) (ahead shown next : List ℕ) (read : Piece) → shown ≡ ahead → IsPieceOf shown read → next ≡ drop read.size ahead
+    → length ahead ≤ most → read.size + length next ≤ most
+piece_few most ahead shown next read same piece is few =
+    let within = piece.bound in
+    let long = ap length same in
+    let left = ap length is ∙ length-drop read.size ahead in
+    omega (arith, within, long, left, few)
+
+pub piece_left : (most : ℕ) (ahead next : List ℕ) (read : Piece) → next ≡ drop read.size ahead → length ahead ≤ most → length next ≤ most
+piece_left most ahead next read is few =
+    let left = ap length is ∙ length-drop read.size ahead in
+    omega (arith, left, few)
 
 -- ---- how much was read
 

@@ -3,7 +3,9 @@
 ghost use Rattle.std.specs.Prelude.{◌≡◌, ◌≢◌, ◌↔◌, ◌++◌, ◌∷◌, ℕ, [], Err, IfErr, IfOk, List, false, length};
 ghost use Rattle.std.specs.Result.{result_map_both};
 ghost use Rattle.memory.specs.Witness.{out_of_memory};
+ghost use Rattle.plane_core.specs.Outputs.{Writes};
 ghost use Rattle.haul_core.specs.Books.{StandsFor};
+ghost use Rattle.haul_core.specs.HaulTexts.{haul_text};
 ghost use Rattle.haul_core.specs.Missing.{IsComplete, missing_of};
 ghost use Rattle.haul_core.specs.declared.book.arrival.Arrival.{Arrival};
 ghost use Rattle.haul_core.specs.declared.book.arrival.Arrival.TheVariants as arrival;
@@ -11,11 +13,12 @@ ghost use Rattle.pattern_commands.specs.Complaints.{status_of};
 ghost use Rattle.commands.specs.Finish.{Finishes};
 ghost use Rattle.pattern_commands.specs.Streams.{Has, stream};
 
+use haul_core::book::census::Census;
 use haul_core::book::haul::Haul;
 use haul_core::book::haul_text::write_haul;
 use pattern_commands::ending::complaint::Complaint;
 use pattern_commands::ending::status::Status;
-use plane_core::output::Out;
+use plane_core::output::{Out, WriteError};
 use std::io::Write;
 
 /// Closes a haul, writes its haul text, and returns how many soups are missing.
@@ -46,16 +49,23 @@ fn put_haul_text<W: Write>(haul: &Haul, output: &mut Out<W>) -> Result<(), Compl
     ensures prints { (missing : ℕ) → missing ≡ length (missing_of haul.now.terms.ranges haul.now.taken)
         → Finishes haul.now (result_map_both (λ _. missing) (λ complaint. complaint) result)
         (stream W.contents output.old output.new) }
-    ensures accepted { IfErr result (λ complaint. status_of complaint ≢ Status.Refused) }
     ensures no_memory { IfErr result (λ complaint. complaint ≡ Complaint.Memory out_of_memory
         → output.new ≡ output.old) }
 {
     let census = haul.census()?;
-    write_haul(&census, output)?;
+    put_census(&census, output)?;
+    Ok(())
+}
+
+/// Writes the haul text of a census, and flushes it.
+fn put_census<W: Write>(census: &Census, output: &mut Out<W>) -> Result<(), WriteError>
+    requires { output.old.failed ≡ false }
+    ensures { Writes W.contents output.old output.new result (haul_text census.now) }
+{
+    write_haul(census, output)?;
     // Flushed before the line about missing soups is written, so that a reader of that line knows that the text was
     // printed.
-    output.flush()?;
-    Ok(())
+    output.flush()
 }
 
 /// Finishes a haul if `taken` is `Ok`. Otherwise returns the complaint in `taken`, which must not be a refusal, and

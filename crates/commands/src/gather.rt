@@ -27,7 +27,9 @@ ghost use Rattle.commands.specs.GatherSteps.{EndsLine, EndsLinesAt, EndsNext};
 ghost use Rattle.commands.specs.GatherSteps.{HasGatheredLines, HasGatheredShort, HasGatheredTo};
 ghost use Rattle.commands.specs.Lines.{HasReadPart};
 ghost use Rattle.commands.specs.LinesSoFar.{HasCome, HasComeBy, most_ahead};
-ghost use Rattle.commands.specs.GatheredLines.{IsChecked, IsPrefixFault, IsExamined, ComesOf, offer_fault};
+ghost use Rattle.haul_core.specs.ClaimChecks.{Fails};
+ghost use Rattle.haul_core.specs.LawfulClaims.{Claimed};
+ghost use Rattle.commands.specs.GatheredLines.{Claims, IsChecked, IsPrefixFault, IsExamined, ComesOf, offer_fault};
 ghost use Rattle.haul_core.specs.declared.book.refused.OfferError.TheVariants as offer_error;
 
 use crate::finish::finish;
@@ -335,14 +337,25 @@ fn checked_report(
     };
     match claim.check_with_surveyor(alloc, surveyor, job) {
         Ok(report) => Ok(Ok(report)),
-        Err((_, CheckError::OtherJob)) => Ok(Err(LineFault::OtherJob)),
-        Err((_, CheckError::Disagrees { .. })) => {
+        Err((_, error)) => fault_of_check(&error),
+    }
+}
+
+/// Returns the fault of a line whose claim wasn't confirmed because of `error`, in the form in which [`checked_report`]
+/// returns it.
+fn fault_of_check(error: &CheckError) -> Result<Result<Report, LineFault>, OutOfMemory>
+    ensures { (job : Job) (line : List ℕ) (claim : Claimed) → Claims line claim → Fails claim job error.now
+        → IfOk result (IsChecked job line) }
+{
+    match error {
+        CheckError::OtherJob => Ok(Err(LineFault::OtherJob)),
+        CheckError::Disagrees { .. } => {
             // For the prover: a soup has only one finding, so a claim that disagrees with it agrees with no finding of
             // the soup.
             findings_are_determined();
             Ok(Err(LineFault::Disagrees))
         }
-        Err((_, CheckError::Memory(error))) => Err(error),
+        CheckError::Memory(error) => Err(*error),
     }
 }
 

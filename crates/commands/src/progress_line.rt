@@ -95,15 +95,19 @@ impl<W: Write, C: Clock> ProgressLine<W, C> {
 
     /// Returns the text of the line.
     fn line(&self, count: u64, now: Instant) -> Result<String, OutOfMemory> {
-        let whole = self.whole;
         let crew = self.crew()?;
-        let line = match self.rate(count, now) {
-            Some(rate) => format!(in self.alloc;
+        self.line_with(count, now, crew.as_str())
+    }
+
+    /// Returns the text of the line. At its end is `crew`, which says something about the workers or is empty.
+    fn line_with(&self, count: u64, now: Instant, crew: &str) -> Result<String, OutOfMemory> {
+        let whole = self.whole;
+        match self.rate(count, now) {
+            Some(rate) => Ok(format!(in self.alloc;
                 "{count} of {whole} soups, {rate} a second{crew}"
-            )?,
-            None => format!(in self.alloc; "{count} of {whole} soups{crew}")?,
-        };
-        Ok(line)
+            )?),
+            None => Ok(format!(in self.alloc; "{count} of {whole} soups{crew}")?),
+        }
     }
 
     /// Returns what the line says about the workers: nothing if all were started.

@@ -1,5 +1,5 @@
-use Rattle.std.proofs.Common.{inl, rules}
-use Rattle.census.proofs.ProgramLemmas.{is_out_of_memory, is_refused}
+use Rattle.std.proofs.Common.{inl, refl}
+use Rattle.census.proofs.ProgramLemmas.{request_leaves, unasked_does, unasked_leaves}
 use Rattle.census.proofs.request.do_arguments.Goals as goal
 
 pub returns-in-Ok-clause-command : goal.returns-in-Ok-clause-command
@@ -7,28 +7,10 @@ returns-in-Ok-clause-command g c _ = inl (rw c.in-Ok.ensures.asked c.do_request.
 
 pub returns-in-Ok-clause-leaves : goal.returns-in-Ok-clause-leaves
 returns-in-Ok-clause-leaves g c =
-    let spares = c.do_request.ensures.spares in
-    record {
-      usage = search rules;
-      tells_usage = search rules;
-      untouched = search rules;
-      refused = λ code. spares.untouched (is_refused _ code);
-      unread_refused = λ code. rw c.in-Ok.ensures.asked (spares.unread_refused (is_refused _ code));
-      nothing_left = λ code. rw c.in-Ok.ensures.asked (spares.no_memory (is_out_of_memory _ code));
-      unread = rw c.in-Ok.ensures.asked spares.unread;
-    }
+    request_leaves _ _ _ _ _ _ _ _ c.in-Ok.ensures.asked c.do_request.ensures.ends c.do_request.ensures.spares
 
-pub returns-in-Err-Usage-clause-leaves : goal.returns-in-Err-Usage-clause-leaves
-returns-in-Err-Usage-clause-leaves g c = record {
-  usage = search rules;
-  tells_usage = λ code. record {
-    text = c.as_bytes.result.now;
-    says = rw c.as_bytes.ensures.value (rw c.in-Err-Usage.field-0-is at c.in-Err-Usage.ensures.why);
-    line = c.end_with_usage.ensures.line;
-  };
-  untouched = search rules;
-  refused = search rules;
-  unread_refused = search rules;
-  nothing_left = search rules;
-  unread = search rules;
-}
+pub returns-in-Err-clause-command : goal.returns-in-Err-clause-command
+returns-in-Err-clause-command g c = unasked_does _ _ _ _ _ _ c.in-Err.ensures.version c.end_unasked.ensures
+
+pub returns-in-Err-clause-leaves : goal.returns-in-Err-clause-leaves
+returns-in-Err-clause-leaves g c = unasked_leaves _ _ _ _ _ c.in-Err.ensures.usage c.end_unasked.ensures refl refl
