@@ -68,7 +68,7 @@ pub fn do_arguments<T: Threads + Wait + Sync, R: Read, W: Write, E: Write, P: Wr
     }
 }
 
-/// Reports why the arguments ask for nothing.
+/// Reports why the arguments ask for nothing. A failure to write the text is not reported.
 fn end_unasked<E: Write>(unasked: Unasked, errors: &mut Out<E>) -> Status
     requires why { SaysWhy unasked }
     requires errors { errors.old.failed ≡ false }
@@ -78,7 +78,11 @@ fn end_unasked<E: Write>(unasked: Unasked, errors: &mut Out<E>) -> Status
 {
     match unasked {
         Unasked::Usage(text) => end_with_usage(text.as_bytes(), errors),
-        Unasked::Unread(_) => end_without_memory(errors),
+        // By `why`, memory ran out while `clap` read the arguments.
+        Unasked::Unread(_) => {
+            let _ = errors.put(b"census: out of memory\n");
+            Status::Memory
+        }
         Unasked::Memory(error) => Complaint::Memory(error).end_command(errors),
     }
 }
@@ -91,16 +95,6 @@ fn end_with_usage<E: Write>(text: &[u8], errors: &mut Out<E>) -> Status
 {
     let _ = errors.put(text);
     Status::Usage
-}
-
-/// Reports that memory ran out while `clap` read the arguments.
-fn end_without_memory<E: Write>(errors: &mut Out<E>) -> Status
-    requires { errors.old.failed ≡ false }
-    ensures status { result ≡ Status.Memory }
-    ensures line { HasLine (stream E.contents errors.old errors.new) (complaint_line (Complaint.Memory out_of_memory)) }
-{
-    let _ = errors.put(b"census: out of memory\n");
-    Status::Memory
 }
 
 /// Does what a request asks for, and returns the status.
