@@ -16,20 +16,14 @@ use Rattle.plane_core.proofs.engine.leap.run_each.Goals as goal
 abbrev nowhere : LeapWindow
 nowhere = record { left = pos 0; top = pos 0; rows = 0 }
 
-pub run_window-requires-clause-frame : goal.run_window-requires-clause-frame
-run_window-requires-clause-frame g c = c.requires.frame
-
-pub run_window-requires-clause-long : goal.run_window-requires-clause-long
-run_window-requires-clause-long g c = c.requires.long
-
-pub run_window-requires-clause-on_board : goal.run_window-requires-clause-on_board
-run_window-requires-clause-on_board g c = c.is_on_board.ensures c.if-not-is_on_board.false
-
-pub run_window-requires-clause-some : goal.run_window-requires-clause-some
-run_window-requires-clause-some g c = c.requires.some
-
-pub run_window-requires-clause-few : goal.run_window-requires-clause-few
-run_window-requires-clause-few g c = c.requires.few
+pub run_window-requires : goal.run_window-requires
+run_window-requires g c = record {
+  frame = c.requires.frame;
+  long = c.requires.long;
+  on_board = c.is_on_board.ensures c.if-not-is_on_board.false;
+  some = c.requires.some;
+  few = c.requires.few;
+}
 
 pub bounds-requires : goal.bounds-requires
 bounds-requires g c = in_reach c.args.at c.requires.frame _ (c.is_on_board.ensures c.if-not-is_on_board.false)
