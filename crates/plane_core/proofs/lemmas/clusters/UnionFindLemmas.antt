@@ -1,5 +1,5 @@
 -- Forests over the places of a pattern's cells: roots, joined trees, and rows.
-use Rattle.std.proofs.Common.{◌≡◌, ◌≢◌, ℕ, ℤ, ◌+◌, ◌-◌, ◌+ℤ◌, ◌<◌, ◌≤◌, ◌<ℤ◌, ◌≤ℤ◌, max, min, pos, negsuc, true, List, arith, refl, ap, ◌∙◌, sym, subst, inl, inr, ◌⊎◌, length, set, unsigned_abs}
+use Rattle.std.proofs.Common.{◌≡◌, ◌≢◌, ℕ, ℤ, ◌+◌, ◌-◌, ◌+ℤ◌, ◌<◌, ◌≤◌, ◌<ℤ◌, ◌≤ℤ◌, max, min, pos, negsuc, true, List, arith, refl, ap, ◌∙◌, sym, subst, inl, inr, ◌⊎◌, length, set}
 use Rattle.std.specs.Cmp.{int_ranks}
 use Rattle.std.specs.Ordering.{int_cmp, is_lt, ordering_then, MatchOrdering}
 use Rattle.std.specs.declared.cmp.Ordering.{Ordering}
@@ -419,14 +419,14 @@ fresh_first cells place column first k less above left near =
     let wide : distance (cell_of cells k).x (cell_of cells place).x ≤ 2 = omega (arith, near) in absurd (omega (arith, ints, wide, first, left))
 
 -- in a row at most two away, the cells that are at most two columns away are near
-pub near_row : (c d from to : Cell) (dy : ℤ) → from ≡ moved_by (negsuc 1) dy d → to ≡ moved_by (pos 2) dy d → unsigned_abs dy ≤ 2
+pub near_row : (c d from to : Cell) (dy : ℤ) → from ≡ moved_by (negsuc 1) dy d → to ≡ moved_by (pos 2) dy d → negsuc 1 ≤ℤ dy → dy ≤ℤ pos 0
     → c.y ≡ from.y → from.x ≤ℤ c.x → c.x ≤ℤ to.x → king_distance c d ≤ 2
-near_row c d from to dy begin end few row left right =
+near_row c d from to dy begin end low most row left right =
     let first : from.x ≡ (d.x +ℤ negsuc 1) = ap (λ (e : Cell). e.x) begin in
     let last : to.x ≡ (d.x +ℤ pos 2) = ap (λ (e : Cell). e.x) end in
     let level : c.y ≡ (d.y +ℤ dy) = row ∙ ap (λ (e : Cell). e.y) begin in
     let wide : distance c.x d.x ≤ 2 = omega (arith, ints, first, last, left, right) in
-    let high : distance c.y d.y ≤ 2 = omega (arith, ints, level, few) in
+    let high : distance c.y d.y ≤ 2 = omega (arith, ints, level, low, most) in
     omega (arith, wide, high)
 
 -- each place of a row between `from` and `to` that needs to be joined with `place` is joined with it

@@ -1,4 +1,5 @@
 use Rattle.std.proofs.Common.{to_z-of_z, FitsSigned, rules, w32, ◌≡◌, ◌<◌, arith, pos, negsuc, subst}
+use Rattle.std.proofs.lemmas.Int.{ints}
 use Rattle.plane_core.specs.declared.plane.cell.Cell.{Cell}
 use Rattle.plane_core.specs.plane.Cells.{moved_by, on_plane}
 use Rattle.plane_core.specs.clusters.UnionFind.{AreRowsAbove, cell_of}
@@ -53,11 +54,11 @@ pub moved-requires-in-loop-place-3-clause-near : goal.moved-requires-in-loop-pla
 moved-requires-in-loop-place-3-clause-near c = on_then_near _ (all_at on_plane c.args.cells.now c.loop-place.place _ c.loop-place-test.true c.requires.pattern.on_plane)
 
 pub join_row-rows-requires-clause-near : goal.join_row-rows-requires-clause-near
-join_row-rows-requires-clause-near c d = near_row d _ _ _ (negsuc 0) c.moved.ensures c.moved-in-loop-place.ensures (omega arith)
+join_row-rows-requires-clause-near c d = near_row d _ _ _ (negsuc 0) c.moved.ensures c.moved-in-loop-place.ensures (omega (arith, ints)) (omega (arith, ints))
 
 pub join_row-rows-requires-in-loop-place-clause-near : goal.join_row-rows-requires-in-loop-place-clause-near
 join_row-rows-requires-in-loop-place-clause-near c d =
-    near_row d _ _ _ (negsuc 1) c.moved-in-loop-place-2.ensures c.moved-in-loop-place-3.ensures (omega arith)
+    near_row d _ _ _ (negsuc 1) c.moved-in-loop-place-2.ensures c.moved-in-loop-place-3.ensures (omega (arith, ints)) (omega (arith, ints))
 
 pub join_row-rows-requires-clause-fresh : goal.join_row-rows-requires-clause-fresh
 join_row-rows-requires-clause-fresh c =
