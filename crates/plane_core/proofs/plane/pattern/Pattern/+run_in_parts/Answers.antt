@@ -1,9 +1,7 @@
-use Rattle.std.proofs.Common.{◌≡◌, ◌++◌, Option, None, Some, List, rules, arith, subst}
-use Rattle.std.specs.Prelude.{IfOk, IfSome}
-use Rattle.std.proofs.lemmas.Result.{IfOk-weaker}
+use Rattle.std.proofs.Common.{List, arith, subst}
 use Rattle.plane_core.specs.declared.plane.cell.Cell.{Cell}
 use Rattle.plane_core.specs.declared.plane.orientation.Orientation.TheVariants.{Diagonal}
-use Rattle.plane_core.specs.plane.Cells.{IsPattern, set_of}
+use Rattle.plane_core.specs.plane.Cells.{IsPattern}
 use Rattle.plane_core.specs.plane.Orientations.{image}
 use Rattle.plane_core.specs.plane.Parts.{HasRun}
 use Rattle.plane_core.proofs.lemmas.plane.CutLemmas.{is_pattern-drop, is_pattern-take, run_from_parts, run_from_turned}
