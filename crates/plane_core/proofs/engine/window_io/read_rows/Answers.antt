@@ -51,6 +51,3 @@ loop-r-2-preserved g c =
           (λ i inside. read_word c.args.at words c.args.x c.args.y r i word inside
           (joined_left first second shift i low) (joined_right first second shift i fits low inside));
     }
-
-pub loop-r-2-init : goal.loop-r-2-init
-loop-r-2-init g c = c.loop-r.invariant
