@@ -190,20 +190,21 @@ impl Pattern {
         requires cuts { cuts ≤ 40 }
         ensures { IfOk result (λ ran. IfSome ran (HasRun rule.now self.now generations)) }
     {
-        if let Some(cut) = self.cut(2 * generations, cuts) {
+        let far = 2 * generations;
+        if let Some(cut) = self.cut(far, cuts) {
             return self.run_sides(alloc, rule, generations, cuts - 1, cut);
         }
-        if !self.is_worth_a_turn(2 * generations) {
-            return self.run_on(alloc, rule, Frame::round(self, generations), generations);
+        if self.is_worth_a_turn(far) {
+            let turned = self.transposed(alloc)?;
+            if let Some(cut) = turned.cut(far, cuts) {
+                let Some(later) = turned.run_sides(alloc, rule, generations, cuts - 1, cut)? else {
+                    return Ok(None);
+                };
+                let whole = later.transposed(alloc)?;
+                return Ok(Some(whole));
+            }
         }
-        let turned = self.transposed(alloc)?;
-        let Some(cut) = turned.cut(2 * generations, cuts) else {
-            return self.run_on(alloc, rule, Frame::round(self, generations), generations);
-        };
-        let Some(later) = turned.run_sides(alloc, rule, generations, cuts - 1, cut)? else {
-            return Ok(None);
-        };
-        later.transposed(alloc).map(Some)
+        self.run_on(alloc, rule, Frame::round(self, generations), generations)
     }
 
     /// Runs the first `cut` cells and the others separately, as [`run_in_parts`](Pattern::run_in_parts) does, and
@@ -229,7 +230,8 @@ impl Pattern {
         let Some(below) = Pattern::run_side(alloc, rule, generations, cuts, below)? else {
             return Ok(None);
         };
-        above.united(&below).map(Some)
+        let whole = above.united(&below)?;
+        Ok(Some(whole))
     }
 
     /// Runs the cells on one side of a cut, as [`run_in_parts`](Pattern::run_in_parts) does.
@@ -315,5 +317,5 @@ fn shown_after(
     if made < generations {
         return Ok(None);
     }
-    board.pattern(alloc).map(Some)
+    Ok(Some(board.pattern(alloc)?))
 }

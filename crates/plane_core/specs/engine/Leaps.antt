@@ -9,10 +9,10 @@ use Rattle.plane_core.specs.declared.engine.leap_window.LeapWindow.{LeapWindow}
 use Rattle.plane_core.specs.plane.Bounds.{AreSidesWithin}
 use Rattle.plane_core.specs.engine.ActiveBoxes.{HoldDifferences, box_bound}
 use Rattle.plane_core.specs.plane.Cells.{InOrder, cell_at, has}
-use Rattle.plane_core.specs.engine.Frames.{Shows}
+use Rattle.plane_core.specs.engine.Frames.{FillsFrame, IsFrame, Shows}
 use Rattle.plane_core.specs.plane.Generations.{after}
 use Rattle.plane_core.specs.engine.WindowIo.{bit_on, cell_on}
-use Rattle.plane_core.specs.engine.LeapWindows.{MarksDifferences, IsInnerCell, compared_with}
+use Rattle.plane_core.specs.engine.LeapWindows.{MarksDifferences, IsInnerCell, IsOnBoard, compared_with}
 use Rattle.plane_core.specs.plane.Rules.{Numbers}
 use Rattle.plane_core.specs.windows.Windows.{IsShownInside}
 
@@ -20,6 +20,14 @@ use Rattle.plane_core.specs.windows.Windows.{IsShownInside}
 abbrev pub ShowsInner : LeapWindow → List ℕ → List Cell → Type 0
 ShowsInner p rows cells = (r i : ℕ) → 4 ≤ r → r + 4 < p.rows → 4 ≤ i → i < 60
     → has cells (cell_at (p.left +ℤ pos i) (p.top +ℤ pos r)) ≡ (bit_at (slice_index rows r) i == 1)
+
+-- the window can be read from the board, and run for `count` generations
+pub record CanRun (at : Frame) (words : List ℕ) (p : LeapWindow) (count : ℕ) : Type 0 where
+  pub frame : IsFrame at
+  pub long : FillsFrame at words
+  pub on_board : IsOnBoard at p
+  pub some : 1 ≤ count
+  pub few : count ≤ 4
 
 -- A window of n vectors was run for `count` generations. In the new window, all cells at least four inside the border
 -- are correct. The change marks where the last generation differs from the pattern that it is compared with.

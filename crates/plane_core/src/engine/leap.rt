@@ -12,7 +12,7 @@
 ghost use Rattle.std.specs.Prelude.{◌≡◌, ◌*◌, ◌<◌, ◌≤◌, [], All, IfOk, IfSome, OnOk, length, true};
 ghost use Rattle.plane_core.specs.windows.RuleLogic.{rule_of};
 ghost use Rattle.plane_core.specs.engine.Frames.{FillsFrame, IsFrame};
-ghost use Rattle.plane_core.specs.engine.Leaps.{ArePutBack, AreRun, IsRun, IsRunAt};
+ghost use Rattle.plane_core.specs.engine.Leaps.{ArePutBack, AreRun, CanRun, IsRun, IsRunAt};
 ghost use Rattle.plane_core.specs.engine.LeapWindows.{IsOnBoard};
 ghost use Rattle.plane_core.specs.engine.RowSpans.{AreWidened, HoldCovered};
 
@@ -64,14 +64,10 @@ fn run_vectors<const R: usize, const N: usize, A: CellLogic>(
     count: usize,
     held: &mut [u64; 64],
 ) -> Option<DifferenceMask>
-    requires frame { IsFrame at }
-    requires long { FillsFrame at words.now }
-    requires on_board { IsOnBoard at window }
     requires vectors { 0 < N }
     requires rows { R ≡ 4 * N }
     requires height { window.rows ≡ R }
-    requires some { 1 ≤ count }
-    requires few { count ≤ 4 }
+    requires run { CanRun at words.now window count }
     ensures { IfSome result (IsRunAt at words.now (A.rule rule.now) count window held.new) }
 {
     let rows = read_rows::<R>(words, at, column_of(at, window), row_of(at, window));
@@ -91,11 +87,7 @@ fn run_window<A: CellLogic>(
     count: usize,
     held: &mut [u64; 64],
 ) -> Option<DifferenceMask>
-    requires frame { IsFrame at }
-    requires long { FillsFrame at words.now }
-    requires on_board { IsOnBoard at window }
-    requires some { 1 ≤ count }
-    requires few { count ≤ 4 }
+    requires { CanRun at words.now window count }
     ensures { IfSome result (IsRunAt at words.now (A.rule rule.now) count window held.new) }
 {
     match window.rows {

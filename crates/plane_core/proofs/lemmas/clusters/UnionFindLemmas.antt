@@ -418,6 +418,17 @@ pub fresh_first : (cells : List Cell) (place : ℕ) (column : ℤ) → column �
 fresh_first cells place column first k less above left near =
     let wide : distance (cell_of cells k).x (cell_of cells place).x ≤ 2 = omega (arith, near) in absurd (omega (arith, ints, wide, first, left))
 
+-- in a row at most two away, the cells that are at most two columns away are near
+pub near_row : (c d from to : Cell) (dy : ℤ) → from ≡ moved_by (negsuc 1) dy d → to ≡ moved_by (pos 2) dy d → negsuc 1 ≤ℤ dy → dy ≤ℤ pos 0
+    → c.y ≡ from.y → from.x ≤ℤ c.x → c.x ≤ℤ to.x → king_distance c d ≤ 2
+near_row c d from to dy begin end low most row left right =
+    let first : from.x ≡ (d.x +ℤ negsuc 1) = ap (λ (e : Cell). e.x) begin in
+    let last : to.x ≡ (d.x +ℤ pos 2) = ap (λ (e : Cell). e.x) end in
+    let level : c.y ≡ (d.y +ℤ dy) = row ∙ ap (λ (e : Cell). e.y) begin in
+    let wide : distance c.x d.x ≤ 2 = omega (arith, ints, first, last, left, right) in
+    let high : distance c.y d.y ≤ 2 = omega (arith, ints, level, low, most) in
+    omega (arith, wide, high)
+
 -- each place of a row between `from` and `to` that needs to be joined with `place` is joined with it
 abbrev pub JoinsRow : List Cell → List ℕ → ℕ → Cell → Cell → Type 0
 JoinsRow cells parents place from to = (k : ℕ) → k < place → cell_cmp (cell_of cells k) from ≢ Less → cell_cmp to (cell_of cells k) ≢ Less

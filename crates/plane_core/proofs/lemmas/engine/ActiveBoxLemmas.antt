@@ -1,6 +1,6 @@
 -- Lists of boxes: which cells are in one of the boxes, or near one.
 use Rattle.std.proofs.Common.{◌≡◌, ◌≢◌, ◌+◌, ◌-◌, ◌/◌, ◌^◌, ◌<◌, ◌≤◌, ℕ, ℤ, pos, ◌+ℤ◌, ◌-ℤ◌}
-use Rattle.std.proofs.Common.{◌≤ℤ◌, List, [], ◌∷◌, ◌++◌, length, get_or, set, take, get_or-set_other, get_or-set_same}
+use Rattle.std.proofs.Common.{◌≤ℤ◌, All, List, [], ◌∷◌, ◌++◌, length, get_or, set, take, get_or-set_other, get_or-set_same}
 use Rattle.std.proofs.Common.{Bool, true, false, leb, unsigned_abs, refl, arith, ap, ◌∙◌, sym, subst, inl, inr, ◌⊎◌, Option, IsSomeAnd}
 use Rattle.std.specs.Int.{int_max, int_min}
 use Rattle.std.specs.List.{Any, list_all, swap_remove}
@@ -10,6 +10,7 @@ use Rattle.std.proofs.lemmas.Bool.{and_parts, false≢true, leb-true}
 use Rattle.std.proofs.lemmas.Int.{clamps, ints}
 use Rattle.std.proofs.lemmas.List.{get_or-take, get_or_append_left, get_or_default, length-take-le, length_push}
 use Rattle.std.proofs.lemmas.List.Folds.{list_all_at}
+use Rattle.std.proofs.lemmas.List.Elements.{All-push}
 use Rattle.std.proofs.lemmas.List.Quantifiers.{Any-push, any-set}
 use Rattle.plane_core.specs.declared.plane.bounds.Bounds.{Bounds}
 use Rattle.plane_core.specs.declared.plane.cell.Cell.{Cell}
@@ -113,6 +114,10 @@ swapped (inr q) = inl q
 pub any_pushed : {X : Type 0} (P : X → Type 0) (xs new : List X) (y : X) → new ≡ xs ++ y ∷ [] → Any P xs ⊎ P y → Any P new
 any_pushed {X} P xs new y is (inl some) = subst (λ (zs : List X). Any P zs) (sym is) (any_kept P xs y some)
 any_pushed {X} P xs new y is (inr here) = subst (λ (zs : List X). Any P zs) (sym is) (Any-push P xs y here)
+
+-- if all elements and the one that is pushed have the property, then all have it afterwards
+pub all_pushed : {X : Type 0} (P : X → Type 0) (xs new : List X) (y : X) → new ≡ xs ++ y ∷ [] → All P xs → P y → All P new
+all_pushed {X} P xs new y is all here = subst (λ (zs : List X). All P zs) (sym is) (All-push P xs y all here)
 
 -- if one of the first n + 1 elements has the property, then one of the first n elements has it, or element n has it
 pub any_take_more : {X : Type 0} (P : X → Type 0) (xs : List X) (n : ℕ) (d : X) → n < length xs → Any P (take (n + 1) xs)

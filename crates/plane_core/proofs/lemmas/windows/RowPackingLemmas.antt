@@ -46,6 +46,32 @@ four_of x k (suc (suc (suc (suc i)))) j low = absurd (omega (arith, low))
 abbrev pub ArePacked : ℕ → List ℕ → List (List ℕ) → ℕ → Type 0
 ArePacked n rows x k = (m j : ℕ) → m < k → j < 4 → lane_at x m j ≡ slice_index rows (j * n + m)
 
+-- four rows, one from each quarter of the window, are the lanes of vector k
+four_rows : (n k : ℕ) (rows : List ℕ) (j : ℕ) → j < 4
+    → slice_index (slice_index rows k ∷ slice_index rows (n + k) ∷ slice_index rows (2 * n + k) ∷ slice_index rows (3 * n + k) ∷ []) j
+    ≡ slice_index rows (j * n + k)
+four_rows n k rows zero low = ap (slice_index rows) (omega arith)
+four_rows n k rows (suc zero) low = ap (slice_index rows) (omega arith)
+four_rows n k rows (suc (suc zero)) low = ap (slice_index rows) (omega arith)
+four_rows n k rows (suc (suc (suc zero))) low = ap (slice_index rows) (omega arith)
+four_rows n k rows (suc (suc (suc (suc j)))) low = absurd (omega (arith, low))
+
+-- once vector k is packed too, all vectors before k + 1 are packed
+pub packed_one : (n k : ℕ) (rows : List ℕ) (x : List (List ℕ)) → k < length x → ArePacked n rows x k
+    → ArePacked n rows
+    (set x k (slice_index rows k ∷ slice_index rows (n + k) ∷ slice_index rows (2 * n + k) ∷ slice_index rows (3 * n + k) ∷ [])) (k + 1)
+packed_one n k rows x low before m j less lane = split (cases_lt m k)
+  where
+    v : List ℕ
+    v = slice_index rows k ∷ slice_index rows (n + k) ∷ slice_index rows (2 * n + k) ∷ slice_index rows (3 * n + k) ∷ []
+
+    split : (m < k) ⊎ (k ≤ m) → lane_at (set x k v) m j ≡ slice_index rows (j * n + m)
+    split (inl few) = ap (λ (w : List ℕ). slice_index w j) (get_or-set_other x k m v [] (λ e. omega (arith, e, few))) ∙ before m j few lane
+    split (inr least) =
+        let here : k ≡ m = omega (arith, less, least) in
+        subst (λ (m : ℕ). lane_at (set x k v) m j ≡ slice_index rows (j * n + m)) here
+        (ap (λ (w : List ℕ). slice_index w j) (get_or-set_same x k v [] low) ∙ four_rows n k rows j lane)
+
 -- once vectors k to k + 3 are packed too, and the earlier vectors are unchanged, all vectors before k + 4 are packed
 pub packed_four : (n k : ℕ) (rows : List ℕ) (x y : List (List ℕ)) → ArePacked n rows x k
     → ((i j : ℕ) → i < 4 → j < 4 → lane_at y (k + i) j ≡ slice_index rows (j * n + (k + i)))

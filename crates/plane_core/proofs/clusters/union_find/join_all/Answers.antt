@@ -1,10 +1,11 @@
 use Rattle.std.proofs.Common.{to_z-of_z, FitsSigned, rules, w32, ◌≡◌, ◌<◌, arith, pos, negsuc, subst}
+use Rattle.std.proofs.lemmas.Int.{ints}
 use Rattle.plane_core.specs.declared.plane.cell.Cell.{Cell}
 use Rattle.plane_core.specs.plane.Cells.{moved_by, on_plane}
 use Rattle.plane_core.specs.clusters.UnionFind.{AreRowsAbove, cell_of}
 use Rattle.plane_core.proofs.lemmas.plane.CellLemmas.{on_then_near}
 use Rattle.plane_core.proofs.lemmas.plane.TransformLemmas.{all_at}
-use Rattle.plane_core.proofs.lemmas.clusters.UnionFindLemmas.{JoinsRow, joins_before, joins_more, joins_near, joins_rows, keeps-then, later_rows}
+use Rattle.plane_core.proofs.lemmas.clusters.UnionFindLemmas.{JoinsRow, joins_before, joins_more, joins_near, joins_rows, keeps-then, later_rows, near_row}
 use Rattle.plane_core.proofs.clusters.union_find.join_all.Goals as goal
 
 pub loop-place-preserved : goal.loop-place-preserved
@@ -51,6 +52,13 @@ moved-requires-in-loop-place-2-clause-near c = on_then_near _ (all_at on_plane c
 
 pub moved-requires-in-loop-place-3-clause-near : goal.moved-requires-in-loop-place-3-clause-near
 moved-requires-in-loop-place-3-clause-near c = on_then_near _ (all_at on_plane c.args.cells.now c.loop-place.place _ c.loop-place-test.true c.requires.pattern.on_plane)
+
+pub join_row-rows-requires-clause-near : goal.join_row-rows-requires-clause-near
+join_row-rows-requires-clause-near c d = near_row d _ _ _ (negsuc 0) c.moved.ensures c.moved-in-loop-place.ensures (omega (arith, ints)) (omega (arith, ints))
+
+pub join_row-rows-requires-in-loop-place-clause-near : goal.join_row-rows-requires-in-loop-place-clause-near
+join_row-rows-requires-in-loop-place-clause-near c d =
+    near_row d _ _ _ (negsuc 1) c.moved-in-loop-place-2.ensures c.moved-in-loop-place-3.ensures (omega (arith, ints)) (omega (arith, ints))
 
 pub join_row-rows-requires-clause-fresh : goal.join_row-rows-requires-clause-fresh
 join_row-rows-requires-clause-fresh c =

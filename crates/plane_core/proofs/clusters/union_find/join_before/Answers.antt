@@ -58,3 +58,9 @@ returns-then-before-cell-clause-fresh c =
     let fits : FitsSigned w32 c.moved.result.x = search rules in
     let first : c.moved.result.x ≡ ((cell_of c.args.cells.now c.args.place).x +ℤ negsuc 1) = ap (λ (d : Cell). d.x) c.moved.ensures in
     rw (to_z-of_z w32 c.moved.result.x fits) (fresh_first c.args.cells.now c.args.place c.moved.result.x first)
+
+pub returns-clause-joined : goal.returns-clause-joined
+returns-clause-joined c _ _ = c.join.ensures.joined
+
+pub returns-then-before-cell-clause-keeps : goal.returns-then-before-cell-clause-keeps
+returns-then-before-cell-clause-keeps c label labels = labels

@@ -1,7 +1,7 @@
 use borrow.Author.Count.{falls}
 use Rattle.std.proofs.Common.{◌≡◌, ◌<◌, ℕ, arith, inl, inr, length, pos, subst, sym, List}
 use Rattle.std.specs.List.{All}
-use Rattle.std.proofs.lemmas.List.Elements.{All-more, All-nil, All-push, All-same}
+use Rattle.std.proofs.lemmas.List.Elements.{All-more, All-nil, All-same}
 use Rattle.std.proofs.lemmas.Bool.{false≢true}
 use Rattle.std.proofs.lemmas.Result.{IfOk-from_err}
 use Rattle.plane_core.specs.declared.engine.leap_window.LeapWindow.{LeapWindow}
@@ -9,27 +9,21 @@ use Rattle.plane_core.specs.declared.plane.bounds.Bounds.{Bounds}
 use Rattle.plane_core.specs.plane.Bounds.{AreSidesWithin, IsWithin}
 use Rattle.plane_core.specs.engine.ActiveBoxes.{box_bound}
 use Rattle.plane_core.specs.engine.LeapWindows.{IsOnBoard}
-use Rattle.plane_core.proofs.lemmas.engine.ActiveBoxLemmas.{any_pushed, hold_all, in_reach, take_whole}
+use Rattle.plane_core.proofs.lemmas.engine.ActiveBoxLemmas.{all_pushed, any_pushed, hold_all, in_reach, take_whole}
 use Rattle.plane_core.proofs.lemmas.engine.LeapLemmas.{run_more}
 use Rattle.plane_core.proofs.engine.leap.run_each.Goals as goal
 
 abbrev nowhere : LeapWindow
 nowhere = record { left = pos 0; top = pos 0; rows = 0 }
 
-pub run_window-requires-clause-frame : goal.run_window-requires-clause-frame
-run_window-requires-clause-frame g c = c.requires.frame
-
-pub run_window-requires-clause-long : goal.run_window-requires-clause-long
-run_window-requires-clause-long g c = c.requires.long
-
-pub run_window-requires-clause-on_board : goal.run_window-requires-clause-on_board
-run_window-requires-clause-on_board g c = c.is_on_board.ensures c.if-not-is_on_board.false
-
-pub run_window-requires-clause-some : goal.run_window-requires-clause-some
-run_window-requires-clause-some g c = c.requires.some
-
-pub run_window-requires-clause-few : goal.run_window-requires-clause-few
-run_window-requires-clause-few g c = c.requires.few
+pub run_window-requires : goal.run_window-requires
+run_window-requires g c = record {
+  frame = c.requires.frame;
+  long = c.requires.long;
+  on_board = c.is_on_board.ensures c.if-not-is_on_board.false;
+  some = c.requires.some;
+  few = c.requires.few;
+}
 
 pub bounds-requires : goal.bounds-requires
 bounds-requires g c = in_reach c.args.at c.requires.frame _ (c.is_on_board.ensures c.if-not-is_on_board.false)
@@ -62,8 +56,8 @@ loop-k-preserved g c =
           c.loop-k.invariant.run low c.in-Some.ensures c.bounds.ensures.difference
           (λ d some. any_pushed (λ (b : Bounds). IsWithin b d) before later c.in-Some-bounds.bounds c.in_ok-push.ensures.items (inl some))
           (λ d here. any_pushed (λ (b : Bounds). IsWithin b d) before later c.in-Some-bounds.bounds c.in_ok-push.ensures.items (inr (rw c.in-Some-bounds.is at here)))
-          (subst (λ (boxes : List Bounds). All (AreSidesWithin box_bound) boxes) (sym c.in_ok-push.ensures.items)
-          (All-push (AreSidesWithin box_bound) before c.in-Some-bounds.bounds c.loop-k.invariant.run.sides c.in-Some-bounds.ensures.sides));
+          (all_pushed (AreSidesWithin box_bound) before later c.in-Some-bounds.bounds c.in_ok-push.ensures.items
+          c.loop-k.invariant.run.sides c.in-Some-bounds.ensures.sides);
     }
 
 pub loop-k-preserved-in_default-bounds : goal.loop-k-preserved-in_default-bounds

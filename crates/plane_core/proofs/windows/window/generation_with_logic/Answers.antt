@@ -74,3 +74,21 @@ pub next_vector-down-requires : goal.next_vector-down-requires
 next_vector-down-requires g c =
     let inv = c.loop-k-2.invariant in
     (search rules, (omega (arith, c.loop-k-2-test.true), subst (AreBeside c.loop-k-2.here) (sym (inv.rest c.loop-k-2.k (omega arith))) inv.beside))
+
+pub next_vector-third-requires : goal.next_vector-third-requires
+next_vector-third-requires g c =
+    let k = c.loop-k.k in
+    let far = c.loop-k-test.true in
+    let one = made_to_next (g.A.CellLogic.rule c.args.rule.now) g.row.N c.args.window.now _ _ _ _ _ k (k + 1) refl (omega (arith, far)) c.loop-k.invariant c.next_vector-second.ensures in
+    (search rules, (omega (arith, far), subst (AreBeside c.next_vector-second.result) (sym (one.rest (k + 1) (omega arith))) one.beside))
+
+pub next_vector-fourth-requires : goal.next_vector-fourth-requires
+next_vector-fourth-requires g c =
+    let n = g.row.N in
+    let x = c.args.window.now in
+    let rule = g.A.CellLogic.rule c.args.rule.now in
+    let k = c.loop-k.k in
+    let far = c.loop-k-test.true in
+    let one = made_to_next rule n x _ _ _ _ _ k (k + 1) refl (omega (arith, far)) c.loop-k.invariant c.next_vector-second.ensures in
+    let two = made_to_next rule n x _ _ _ _ _ (k + 1) (k + 2) (omega arith) (omega (arith, far)) one c.next_vector-third.ensures in
+    (search rules, (omega (arith, far), subst (AreBeside c.next_vector-third.result) (sym (two.rest (k + 2) (omega arith))) two.beside))
