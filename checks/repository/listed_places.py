@@ -46,7 +46,7 @@ class Place(NamedTuple):
 def value_of(token: str) -> int | None:
     """Returns the value of a literal, or `None` if the token isn't a number."""
     found = re.fullmatch(
-        r"(0x[0-9a-f_]+|0b[01_]+|[0-9][0-9_]*?)_?([iu](8|16|32|64|128|size))?", token
+        r"(0x[0-9a-fA-F_]+|0o[0-7_]+|0b[01_]+|[0-9][0-9_]*?)_?([iu](8|16|32|64|128|size))?", token
     )
     return int(found[1].replace("_", ""), 0) if found else None
 

@@ -83,7 +83,7 @@ def find_beta_quantile(a: int, b: int, chance: float, deviations: float) -> floa
     x = x if 0 < x < 1 else mean
     for _ in range(MOST_STEPS):
         over = compute_beta(a, b, x) - chance
-        # mutant: equal because the step from the value itself is 0
+        # mutant: equal because a search that is at the value comes back to it from either side
         low, high = (low, x) if over > 0 else (x, high)
         slope = compute_beta_density(a, b, x)
         # mutant: equal because the interval also shrinks without Newton's method

@@ -40,10 +40,11 @@ leaf command = built_leaf (inherited (with_leaf_noted (marked_built census_app.t
 abbrev pub help_entry : Entry
 help_entry = record { name = codes "help"; is_named = true; kind = kind.Flag; default = None }
 
--- tests of an argument: it takes a value after its name, or (`stands_alone`) it is a positional value
+-- the argument takes a value after its name
 abbrev pub takes_value : Entry → Bool
 takes_value e = e.is_named && not (is_flag e.kind)
 
+-- the argument is a positional value
 abbrev pub stands_alone : Entry → Bool
 stands_alone e = not e.is_named && not (is_flag e.kind)
 

@@ -147,8 +147,8 @@ offers-closed (r ∷ reports) = ap (λ (more : List Reported). r ∷ more) (offe
 abbrev pub IsOfLawful : Terms → ℕ → List ℕ → Type 0
 IsOfLawful terms n line = (report : Reported) × IsExamined terms.job line (Ok report) × IsLawfulFor terms n report
 
--- Each arrival offers a report. Each lawful report comes from a line, and each number of the set that has a correct
--- line has a lawful report.
+-- Each arrival offers a report. Each number that has a lawful report has a line with one, and each number of the set
+-- that has a correct line has a lawful report.
 pub record AreOfLines (terms : Terms) (lines : List (List ℕ)) (arrivals : List Arrival) : Type 0 where
   pub reports : List Reported
   pub offers : arrivals ≡ map Offer reports

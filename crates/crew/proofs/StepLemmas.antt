@@ -57,7 +57,7 @@ ready_first shared crew workers passes many senders few away receiver room stopp
       stopped = stopped;
     }
 
--- the collector's flag `answered`, which is `not (is_some lacking)`, is true if `lacking` is `None`
+-- the flag `answered` of `Collected`, which is `not (is_some lacking)` here, is true if `lacking` is `None`
 pub heard_if : {E : Type 0} (lacking : Option E) → lacking ≡ None → not (is_some lacking) ≡ true
 heard_if lacking none = ap (λ o. not (is_some o)) none
 

@@ -75,7 +75,7 @@ impl StepError {
 /// that the board is never much wider than the pattern.
 const STRETCH: u32 = 256;
 
-/// How deep cuts may be nested. A part that results from this many nested cuts isn't cut again.
+/// The most cuts that may be nested in one another. A part that results from this many nested cuts isn't cut again.
 const CUTS: u32 = 40;
 
 impl<E: Into<OutOfMemory>> From<E> for StepError {

@@ -60,7 +60,7 @@ impl Board {
             if tries == 0 {
                 break;
             }
-            // In a small box, hardly anything changes except a spaceship.
+            // What changes in a small box is usually a spaceship. Larger boxes are skipped.
             if longer_side(*bounds) >= SPACESHIP || !leads_somewhere(boxes, *bounds) {
                 continue;
             }

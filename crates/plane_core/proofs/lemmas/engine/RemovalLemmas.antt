@@ -92,7 +92,7 @@ shown_fewer at ws S gone c s d i hs hd hi is low shown t y k ht hy hk = row (sam
     new : ℕ
     new = bit_and (get_or ws m 0) (bit_not w64 (1 * 2 ^ i % 2 ^ 64))
 
-    -- any other cell is unchanged if its bit is unchanged
+    -- a cell other than the removed cell c: a bit that hasn't changed still says whether the cell is alive
     kept : (w : ℕ) → bit_at w k ≡ bit_at (slice_index ws (word_of at t y)) k → ((t ≡ s) × (y ≡ d) × (k ≡ i) → ⊥)
         → has (without S (gone ++ c ∷ [])) p ≡ (bit_at w k == 1)
     kept w same apart =
