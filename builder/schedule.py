@@ -1,12 +1,11 @@
 """The order in which crates are proved. Each crate comes after the crates that it uses. Two crates
 are proved side by side if neither is above the other.
 
-The crate with the longest path to the program starts first. It gets a copy of the prover for three
-quarters of the processors. With more copies, it would hardly be proved faster, because a single
-process collects what all copies have proved. Another crate can be proved beside it. That one gets a
-copy for each processor that is left, but at least one, and a higher niceness. No third crate starts
-beside these two: more copies than processors take more processor time, and hardly make the build
-faster. For the same reason, a small crate gets fewer copies.
+The crate with the longest path to the program starts first. It gets a copy of the prover for each
+processor or, if another crate can be proved beside it, for three quarters of the processors. The
+other crate gets a copy for each processor that is left, but at least one, and a higher niceness. No
+third crate starts beside these two: more copies than processors take more processor time, and
+hardly make the build faster. For the same reason, a small crate gets fewer copies.
 """
 
 from __future__ import annotations
@@ -105,10 +104,13 @@ class Schedule:
         self.running: dict[str, int] = {}
 
     def share_of(self, crate: str) -> Share:
-        """Returns the share of a crate that starts now, beside the crates that are running."""
+        """Returns the share of a crate that starts now, beside the crates that are running and
+        before those that are waiting.
+        """
         useful, copies = max(1, self.weights[crate] // COPY_WEIGHT), self.copies()
         if not any(self._rank(other) < self._rank(crate) for other in self.running):
-            return Share(min(useful, copies - copies // 4), 0)
+            is_alone = not self.running and not self.waiting
+            return Share(min(useful, copies if is_alone else copies - copies // 4), 0)
         rank = sorted(self.crates.order, key=self._rank).index(crate)
         left = max(1, copies - sum(self.running.values()))
         return Share(min(useful, left), min(MOST_YIELDING, 1 + rank))
