@@ -150,7 +150,7 @@ module _ {A B V : Type 0} (reads : Bool) (right : List ℕ → Result A Complain
 
 -- ---- how a command ends
 
--- an error is no value
+-- a result that is an error isn't `Ok`
 pub not_ok : {A E : Type 0} (r : Result A E) → IsErr r → is_ok r ≡ false
 not_ok (Ok x) is = sym is
 not_ok (Err error) is = refl

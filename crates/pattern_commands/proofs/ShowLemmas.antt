@@ -15,11 +15,6 @@ use Rattle.pattern_commands.specs.Found.{Finds, answer_with}
 use Rattle.pattern_commands.specs.PatternText.{pattern_text}
 use Rattle.pattern_commands.specs.Show.{reader_complaint, show_answer, text_in, wechsler_complaint}
 
--- if the code's text can be read as a pattern, the answer is this pattern, printed in the given form
-pub show_answer-pattern : (form : PatternForm) (code text : List ℕ) (cells : List Cell) → text_in code ≡ Ok text → wechsler_read text ≡ Ok cells
-    → show_answer form code ≡ Ok (pattern_text form cells)
-show_answer-pattern form code text cells is read = rw (is, read) refl
-
 show_answer-fault : (form : PatternForm) (code text : List ℕ) (fault : WechslerFault) → text_in code ≡ Ok text → wechsler_read text ≡ Err fault
     → show_answer form code ≡ Err (wechsler_complaint fault)
 show_answer-fault form code text fault is read = rw (is, read) refl

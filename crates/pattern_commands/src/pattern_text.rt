@@ -14,8 +14,8 @@ use plane_core::plane::pattern::Pattern;
 use requests::form::PatternForm;
 use std::io::Write;
 
-/// Ends a command that has found a pattern, or why there is none: writes the pattern in this form, or the line of the
-/// complaint, and returns the status. A failure to write the line is not reported.
+/// Ends a command: writes the pattern that the command has found, in this form, or the line of the complaint, and
+/// returns the status. A failure to write the line is not reported.
 pub(crate) fn end_with_pattern<W: Write, E: Write>(
     found: Result<Pattern, Complaint>,
     form: PatternForm,
