@@ -42,15 +42,15 @@ class Built:
         return self._called("basis")
 
     def cpu(self) -> str:
-        """Returns the level of this machine's processor, by its name in `LEVELS`."""
+        """Returns the level of this machine's processor, which is a key of `LEVELS`."""
         return self._called('get_cpu && printf %s "$cpu"') or ""
 
     def is_fresh(self) -> bool:
         return self._called("is_fresh") is not None
 
     def write_stamp(self, basis: str, cpu: str) -> bool:
-        """Writes the stamp of the program, unless the basis differs from the given one. Returns
-        whether the stamp was written.
+        """Writes the stamp of the program, unless the sources or the toolchain have changed since
+        `basis` was computed. Returns whether the stamp was written.
         """
         return self._called('write_stamp "$(cat)" "$1"', cpu, given=basis) is not None
 

@@ -30,6 +30,9 @@ class Build:
     kept: Kept
     # Returns the number of copies of the prover for the crate with the longest path to the program.
     copies: Callable[[], int] = copies_for_longest
+    # The folder in which the proofs of the program's crate are kept for its next build, or `None` if
+    # each build proves this crate anew.
+    proofs: Path | None = None
 
     def part_of(self, crate: str) -> str:
         return part_of(self.basis, self.crates, crate)
@@ -41,6 +44,12 @@ class Build:
     def with_made(self, made: Path) -> Build:
         """Returns the same build with another folder of kept crates."""
         return replace(self, kept=replace(self.kept, made=made))
+
+    def with_proofs_kept(self) -> Build:
+        """Returns the same build, but after the program has been built for one level of processors,
+        its crate isn't proved again for the other.
+        """
+        return replace(self, proofs=self.kept.made / "proofs")
 
     def build_program(self, cpu: str) -> None:
         """Proves and keeps the crates that aren't kept yet, and builds the program for a level of
@@ -62,7 +71,7 @@ class Work:
         self.build, self.cpu, self.log = build, cpu, log
         self.commands = Commands(build.lock)
         self.prover = Prover(
-            build.places, build.kit, build.crates, build.kept, cpu, self.commands, log
+            build.places, build.kit, build.crates, build.kept, cpu, self.commands, log, build.proofs
         )
         self.progress = Progress(self.prover.room, len(build.crates.order))
 

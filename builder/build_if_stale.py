@@ -19,7 +19,7 @@ def tell_what_is_done() -> None:
     """
     meanwhile = " (bin/unproved runs it in a minute, without proof)" if is_terminal() else ""
     say(
-        "building the program, which is proved first: that takes some 10 minutes the first time with four processors"
+        "building the program, which is proved first: that takes 10 to 25 minutes the first time with four processors"
         f"{meanwhile}. Ctrl-C keeps the crates that are proved, and the next call goes on from there"
     )
 

@@ -39,8 +39,8 @@ class Kept:
     crates: Crates
 
     def name(self, crate: str, cpu: str) -> str:
-        """Returns the name under which a crate is kept, without a suffix. The program has a
-        different name for each level of processors.
+        """Returns the name under which a crate is kept, without an ending such as `.verdict`. The
+        program has a different name for each level of processors.
         """
         return f"{crate}-{LEVELS[cpu]}" if crate == PROGRAM else crate
 

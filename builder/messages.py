@@ -8,7 +8,7 @@ import sys
 
 def tell(text: str) -> None:
     """Writes to standard error in a single write, since other processes share it. A write that
-    fails is ignored, since nobody may be reading any more.
+    fails is ignored, since the process that read standard error may have ended.
     """
     try:
         os.write(2, text.encode())

@@ -5,11 +5,11 @@ from __future__ import annotations
 from dataclasses import dataclass
 from pathlib import Path
 
-# The crate of the program. All others are libraries.
+# The crate of the program. All crates below it are libraries.
 PROGRAM = "census"
 # The levels of processors for which the program is built, as named by `rattle --cpu`, each with the
-# suffix of the program's name. The first is the lowest level for which the toolchain builds. On
-# processors of the other level, the program that is built for them is faster.
+# suffix of the program's name. `LEAST` is the lowest level for which the toolchain builds. On a
+# processor of the level x86-64-v3, the program for that level is faster than the one for `LEAST`.
 LEAST = "default"
 LEVELS = {LEAST: "v2", "x86-64-v3": "v3"}
 

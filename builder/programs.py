@@ -22,7 +22,7 @@ from builder.lock import take_lock
 from builder.messages import say, tell
 from builder.places import LEAST, LEVELS, PROGRAM, Places
 
-# The files in the folder, apart from `from`.
+# The files that bin/programs puts into its folder, besides the file `from` that has their digests.
 FILES = [*(f"{PROGRAM}-{level}" for level in LEVELS.values()), "verdicts"]
 # The length of the digests that `b2sum -l 256` prints.
 DIGEST_BYTES = 32
@@ -46,12 +46,13 @@ def make_programs(places: Places, asked: Asked) -> None:
             take_from_ci(own, asked.ci_log, asked.again)
             # A second copy of the prover would load the libraries again, and the rest of `rt ci`
             # needs the processors.
-            build_both(replace(own, copies=lambda: 1))
+            own = replace(own, copies=lambda: 1)
+            build_both(own.with_proofs_kept() if asked.again else own)
             fill_folder(own, asked.folder)
     elif asked.again:
         with own_folder(build) as own:
             take_libraries(build, own)
-            build_both(own)
+            build_both(own.with_proofs_kept())
             fill_folder(own, asked.folder)
     else:
         build_both(build)
@@ -60,13 +61,13 @@ def make_programs(places: Places, asked: Asked) -> None:
 
 @contextmanager
 def own_folder(build: Build) -> Iterator[Build]:
-    """Yields the build with a temporary folder of kept crates."""
+    """Yields the same build, but with an empty temporary folder for the crates that it keeps."""
     with tempfile.TemporaryDirectory(dir=build.places.out, prefix="made.") as made:
         yield build.with_made(Path(made))
 
 
 def link_copy(origin: Path, copy: Path) -> None:
-    """Copies a file or a folder with hard links."""
+    """Copies a file or a folder by making hard links, so that no contents are copied."""
     if origin.is_dir():
         shutil.copytree(origin, copy, copy_function=os.link)
     else:
@@ -165,7 +166,7 @@ def fill_folder(build: Build, folder: Path) -> None:
 
 
 def digests_of(folder: Path) -> str:
-    """Returns what `b2sum -l 256` prints for the files in a folder, apart from `from`."""
+    """Returns what `b2sum -l 256` prints for those of `FILES` that are in a folder."""
     there = [name for name in FILES if (folder / name).is_file()]
     return "".join(
         f"{hashlib.blake2b((folder / name).read_bytes(), digest_size=DIGEST_BYTES).hexdigest()}  {name}\n"
@@ -174,8 +175,9 @@ def digests_of(folder: Path) -> str:
 
 
 def look_at(places: Places, folder: str) -> int:
-    """Compares a folder's programs with this checkout. Returns 0 if they belong together. Otherwise
-    writes the reason to standard error, and returns 1.
+    """Checks whether a folder's programs were built from the sources and by the toolchain that are
+    here, and haven't changed since. Returns 0 if so. Otherwise writes the reason to standard error,
+    and returns 1.
     """
     wrong = fault_of(places, folder)
     if wrong:

@@ -62,12 +62,12 @@ class Log:
 
 @dataclass
 class Commands:
-    """The commands of a build. Each runs in its own process group, so that all of them can be
-    stopped.
+    """The commands of a build. Each runs in its own process group, so that `end` also stops the
+    processes that a command has started.
     """
 
-    # Each command inherits the lock, so that the next call waits for a prover that outlives this
-    # process.
+    # The file descriptor of the lock for builds. Each command inherits it, so that the next build
+    # waits for a prover that outlives this process.
     lock: int
     running: set[int] = field(default_factory=set)
     turn: threading.Lock = field(default_factory=threading.Lock)
@@ -116,7 +116,7 @@ class Commands:
 
 @dataclass(frozen=True)
 class Prover:
-    """The prover and the linker, which are called for one crate at a time."""
+    """The prover and the linker. A call is for one crate, and several may run at the same time."""
 
     places: Places
     kit: Path
@@ -126,6 +126,8 @@ class Prover:
     cpu: str
     commands: Commands
     log: Log
+    # The folder in which the proofs of the program's crate are kept, or `None`.
+    proofs: Path | None
 
     @property
     def room(self) -> Path:
@@ -159,6 +161,8 @@ class Prover:
         words = ["build", *words_for(crate, self.crates.uses, self.kit, self.kept.made)]
         if crate == PROGRAM and self.cpu != LEAST:
             words.append(f"--cpu={self.cpu}")
+        if crate == PROGRAM and self.proofs is not None:
+            words += ["--incremental", str(self.proofs)]
         words += ["--jobs", str(copies)]
         return (
             [*words, "--toolchain", f"{self.kit}/toolchain"]

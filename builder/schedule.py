@@ -1,11 +1,12 @@
 """The order in which crates are proved. Each crate comes after the crates that it uses. Two crates
-are proved side by side if neither is above the other.
+can be proved side by side if neither is above the other.
 
 The crate with the longest path to the program starts first. It gets a copy of the prover for each
 processor or, if another crate can be proved beside it, for three quarters of the processors. The
 other crate gets a copy for each processor that is left, but at least one, and a higher niceness. No
 third crate starts beside these two: more copies than processors take more processor time, and
-hardly make the build faster. For the same reason, a small crate gets fewer copies.
+hardly make the build faster. A small crate gets fewer copies, since each copy takes some processor
+time before it can begin.
 """
 
 from __future__ import annotations
@@ -36,8 +37,8 @@ MEMORY = Path("/proc/meminfo")
 
 
 def copies_for_longest() -> int:
-    """Returns the number of copies of the prover for the crate with the longest path, on this
-    machine.
+    """Returns how many copies of the prover the crate with the longest path gets on this machine,
+    if it isn't small and no other crate can be proved beside it.
     """
     try:
         available = next(
@@ -73,16 +74,16 @@ class Work(Protocol):
     """The functions that a schedule calls."""
 
     def is_kept(self, crate: str) -> bool:
-        """Checks whether an earlier call has proved the crate."""
+        """Checks whether the crate is kept from an earlier build of the same sources."""
 
     def begin(self, crate: str) -> None:
         """Called in the main thread when the crate starts."""
 
     def prove(self, crate: str, share: Share) -> None:
-        """Proves the crate in another thread. Raises an exception if that fails."""
+        """Proves the crate, or raises an exception. Called outside the main thread."""
 
     def show(self) -> None:
-        """Called about once a second, and after each proof."""
+        """Shows the progress. Called about once a second, and after each proof."""
 
     def end_all(self) -> None:
         """Stops all proofs."""
@@ -100,7 +101,7 @@ class Schedule:
         self.copies = copies
         # The crates that can be proved now.
         self.waiting: list[str] = []
-        # The copies of each crate that is being proved.
+        # The number of copies of the prover for each crate that is being proved.
         self.running: dict[str, int] = {}
 
     def share_of(self, crate: str) -> Share:

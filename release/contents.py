@@ -25,8 +25,9 @@ LIBEXEC = "libexec/gokzerd"
 
 
 def places_of(checkout: Checkout, zsh: str) -> dict[str, str]:
-    """Maps each released file of the repository to its place below the folder of an installation.
-    `zsh` is the name of the folder for zsh's completions, which depends on the system.
+    """Maps each file of the repository that is installed as a separate file to its place below the
+    folder of an installation. `zsh` is the name of the folder for zsh's completions, which depends
+    on the system.
     """
     places = {"release/census": "bin/census", "release/processor.sh": f"{LIBEXEC}/processor.sh"}
     places |= {

@@ -8,8 +8,8 @@ from pathlib import Path
 
 from release import Failed
 
-# The levels of processors, each of which has a program of its own. The program for v2 comes first,
-# since it runs on each processor that a release supports.
+# The levels of processors, each of which has a program of its own. The program for v2 runs on each
+# processor that a release supports, and the program for v3 is faster.
 LEVELS = ("v2", "v3")
 
 
@@ -29,7 +29,7 @@ def call(top: Path, words: list[str]) -> None:
 
 
 def said_version(programs: Path) -> str:
-    """Returns the version that a program states."""
+    """Returns the version that the program for v2 states."""
     try:
         said = subprocess.run(
             [str(programs / "census-v2"), "--version"],

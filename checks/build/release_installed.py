@@ -1,5 +1,5 @@
-"""Tests a release that is installed or unpacked in any folder: each command of both programs, the
-manuals, the pages and a recipe."""
+"""Tests a release that is installed or unpacked in any folder: most commands of both programs, the
+manuals, the links of the pages, and a recipe."""
 
 from __future__ import annotations
 
@@ -16,6 +16,9 @@ COMPARED = re.compile(rb"^xq4_153 +91 +91 .* glider$", re.MULTILINE)
 LISTED = re.compile(rb"^ +[0-9]+ +xq4_153 +91 .* glider$", re.MULTILINE)
 RARE = re.compile(rb"^xq7_3nw17862z6952 \(loafer\): none in 100000000 soups", re.MULTILINE)
 SETTLED = re.compile(rb"^9 soups, 0 unsettled, . for good$", re.MULTILINE)
+# A switch engine is left by this soup. The growth is that of the block-laying switch engine.
+GROWING, GROWTH = "223932", re.compile(rb"^223932 linear growth: \+16 cells in 144 generations")
+GLIDER = b"OOO\n..O\n.O.\n"
 # The first soup of a search of ten soups, and the code of the object that the search finds.
 FIRST, FIND = "23285", "xs12_330f96"
 FIND_FIELDS = [FIND, "-", "23290"]
@@ -33,7 +36,7 @@ class Installed:
         self.trial.count.holds(f"{self.name}: {what}", condition, seen)
 
     def equal(self, what: str, got: Ended, output: bytes) -> None:
-        """Counts a check that a call ended with status 0 and printed only this."""
+        """Counts a check that a call ended with status 0, and printed `output` and no errors."""
         self.trial.count.equal(f"{self.name}: {what}", got, Ended(0, output, b""))
 
     def finds(self, what: str, got: Ended, pattern: re.Pattern[bytes]) -> None:
@@ -74,6 +77,9 @@ class Installed:
             taken = self.census("take", f"--first={first}", f"--count={count}")
             part.write_bytes(taken.output)
         self.equal("haul join", self.haul("join", *parts), self.trial.haul)
+        index = self.trial.room / "index"
+        index.write_bytes(self.haul("index", *parts).output)
+        self.equal("haul index", self.haul("check", index, parts[1]), b"9+31: right\n")
         self.finds("haul compare", self.haul("compare", "--whole", file, file), COMPARED)
         self.finds("haul page", self.haul("page", file), re.compile(rb"xq4_153"))
         self.finds("haul rarity", self.haul("rarity", "loafer"), RARE)
@@ -106,6 +112,10 @@ class Installed:
         soup = self.census("soup", "1").output
         written = self.haul("rle", given=soup).output
         self.equal("haul rle and cells", self.haul("cells", given=written), soup)
+        self.equal("census show", self.census("show", "xq4_153"), GLIDER)
+        self.equal("census run", self.census("run", "4", given=GLIDER), GLIDER)
+        self.equal("census name", self.census("name", given=GLIDER), b"settled 0\nxq4_153 1\n")
+        self.finds("haul why", self.haul("why", GROWING), GROWTH)
 
     def try_one_file(self) -> None:
         files = [path for path in self.prefix.rglob("haul*") if path.is_file()]

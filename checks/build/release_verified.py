@@ -1,4 +1,4 @@
-"""Tests `bin/release --verify` on the files that were made, on damaged copies of them, and on a
+"""Tests `bin/release --verify` on the files of a release, on damaged copies of them, and on a
 checkout with changes."""
 
 from __future__ import annotations
@@ -27,7 +27,8 @@ class Damaged(NamedTuple):
 
 
 class Copies:
-    """Copies of the files that were made. In each copy, one file is damaged in a different way."""
+    """Copies of the folder with the release's files. Each copy has one damaged file. The copies
+    differ in which file is damaged, or how."""
 
     def __init__(self, trial: Trial) -> None:
         self.trial = trial
@@ -103,8 +104,9 @@ def count_verified(trial: Trial, name: str, said: Ended, status: int, end: str) 
 
 
 def try_verify(trial: Trial) -> None:
-    """Checks a single call for all files. It must say that each file that was made is the same, and
-    say what is wrong with each damaged file."""
+    """Checks a single call of `--verify` with the release's files and all damaged copies. It must
+    say that only the release's files are the same as those that the checkout makes, and say what is
+    wrong with each damaged file. A call with only the release's files must succeed."""
     copies = Copies(trial)
     copies.damage()
     made = sorted(trial.dist.iterdir())
@@ -140,7 +142,8 @@ def try_provenance(trial: Trial, folder: Path) -> None:
 
 
 def try_refusals(trial: Trial) -> None:
-    """Checks what is refused: a checkout with changes, other programs, and no toolchain."""
+    """Checks that bin/release refuses a checkout with changes and changed programs, and that it
+    can't verify a release without a toolchain."""
     count, none = trial.count, trial.room / "none"
     archive = trial.dist / trial.archive_name
     readme, more = trial.clone / "README.md", trial.clone / "haul/more.py"

@@ -4,8 +4,8 @@ from __future__ import annotations
 
 from builder.crates import Crates, uses_in
 
-# `low` is below all other crates, `long` is on the path that takes longest, and `side` is on a path
-# of its own. `apart` isn't part of the program.
+# All other crates use `low`, directly or through others. The program uses `long`, which takes
+# longest to prove, and `side`, which doesn't depend on `long`. `apart` isn't part of the program.
 LIST = """\
 # a comment: with a colon
 low: core

@@ -31,7 +31,8 @@ class Trial:
     def __init__(self, room: Path, count: Count, version: str) -> None:
         self.room, self.count, self.version = room, count, version
         self.clone, self.dist = room / "clone", room / "dist"
-        # The folder with the programs of both levels.
+        # The folder with the programs for the processor levels v2 and v3. checks/build/releases
+        # sets it.
         self.programs = room / "no programs"
         self.archive_name = f"gokzerd-{version}-x86_64-linux.tar.gz"
         self.package_name = f"gokzerd_{version}_amd64.deb"
@@ -52,7 +53,7 @@ class Trial:
         self.haul_file.write_bytes(self.haul)
 
     def archives(self) -> list[str]:
-        """Returns the names of the archives that a release has on this machine."""
+        """Returns the name of the archive and, if dpkg-deb is installed, that of the package."""
         return [self.archive_name, *([self.package_name] if shutil.which("dpkg-deb") else [])]
 
     def release(
@@ -68,8 +69,8 @@ class Trial:
         return run(call, env=with_variables(**(variables or {})), umask=umask)
 
     def away(self, *words: str | Path, given: bytes = b"", **variables: str) -> Ended:
-        """Calls a command in an empty folder. Its environment has only `variables`, HOME, LC_ALL,
-        and a PATH without a toolchain."""
+        """Calls a command in a folder that is empty at the first call. The command's environment
+        has only `variables`, HOME, LC_ALL, and a PATH without a toolchain."""
         return run(words, given=given, cwd=self.room / "away", env=self.bare | variables)
 
     # ---- The clone
@@ -78,8 +79,8 @@ class Trial:
         return run([*GIT, "-C", self.clone, *words])
 
     def make_clone(self) -> str:
-        """Makes a clone of this checkout. If the checkout has changes, makes a copy of its files
-        and commits them. Returns what is wrong."""
+        """Makes a clone of this checkout. If the checkout has changes, makes a new repository
+        instead, and commits copies of the checkout's files there. Returns what is wrong."""
         changes = run([*GIT, "-C", TOP, "status", "--porcelain"])
         if changes.status == 0 and not changes.output:
             return run([*GIT, "clone", "-q", "--no-hardlinks", "--", TOP, self.clone]).fault()

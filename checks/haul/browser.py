@@ -207,8 +207,8 @@ def cells_in_picture(driver: Driver, selector: str) -> tuple[Cells, float]:
 
 
 def cells_of_path(path: str) -> Cells:
-    """Returns the cells that a picture's path draws, moved to the corner. Each run of cells is a
-    bar.
+    """Returns the cells that a picture's path draws, moved to the corner. The path draws each
+    horizontal run of cells as one rectangle.
     """
     runs = re.findall(r"M(\d+) (\d+)h(\d+)v1h-\d+z", path)
     return to_corner((int(x) + k, int(y)) for x, y, length in runs for k in range(int(length)))
@@ -310,8 +310,9 @@ def seconds_to_open(driver: Driver, path: Path) -> float:
 
 
 def seconds_worked(driver: Driver) -> float:
-    """Returns for how many seconds the page's main thread has worked since it was made. Only the
-    thread's own processor time counts, so other work on the machine hardly matters.
+    """Returns a running total of the seconds for which the page's main thread has worked. The
+    caller must have enabled the metrics with the time domain `threadTicks`. Then only the thread's
+    own processor time counts, so other work on the machine hardly matters.
     """
     metrics = driver.execute_cdp_cmd("Performance.getMetrics", {})["metrics"]
     return float(next(metric["value"] for metric in metrics if metric["name"] == "TaskDuration"))

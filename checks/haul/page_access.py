@@ -70,7 +70,8 @@ for (const one of all('[tabindex]')) if (one.tabIndex > 0) fault('tabindex', one
 if (!document.documentElement.lang) faults.push('html-has-lang');
 if (document.querySelectorAll('main').length !== 1 || document.querySelectorAll('h1').length !== 1) faults.push('landmark-one-main');
 
-// ---- The order of the focus is that of sight: nothing goes up, unless into a column to the right, and nothing goes left in a row.
+// ---- The focus moves in the order in which the page is read: never left within a row, and up only
+// to the right of the previous control, or into another column.
 const CONTROLS = 'a[href], button, input, select, textarea, summary', boxOf = one => (one.closest('label') ?? one).getBoundingClientRect();
 const stops = all(`${CONTROLS}, [tabindex="0"]`).filter(one => isSeen(one) && !one.disabled);
 const columnOf = one => one.closest('.columns > div, figure, li, .card');
@@ -81,7 +82,9 @@ stops.slice(1).forEach((one, at) => {
   if (isInRow && now.right <= before.left + 1) fault('focus-order-semantics, left', one);
 });
 
-// ---- Targets are 24 points high and wide, or so far apart. A link in a sentence may be smaller.
+// ---- Targets are at least 24 points high and wide. Around the middle of a smaller one, a circle
+// 24 points wide may touch neither a target of that size nor such a circle around another smaller
+// one. A link in a sentence doesn't count.
 const isInText = one => one.tagName === 'A' && getComputedStyle(one).display === 'inline' && one.closest('p, dd, footer') !== null;
 const targets = stops.filter(one => one.matches(CONTROLS) && !isInText(one)).map(one => {
   const { left, right, top, bottom, width, height } = boxOf(one);

@@ -79,7 +79,9 @@ def try_focus_in_dialog(driver: Driver, page: Path, width: int) -> None:
 
 
 def try_telephone(driver: Driver, two: Path) -> None:
-    """Checks that only the search stays visible, and that a button shows the other choices."""
+    """Checks that a telephone's bar of controls has only the search and a button, which shows and
+    hides the other controls.
+    """
     look_like(driver, 390)
     opened(driver, two)
     height = "return document.querySelector('#controls').offsetHeight"

@@ -129,7 +129,9 @@ def try_orders(driver: Driver, totals: dict[str, int], by_total: list[str]) -> N
 
 
 def try_charts(driver: Driver, folder: Path) -> None:
-    """Checks the charts, and how frequencies are written at the bound between the two notations."""
+    """Checks the charts, and that cards say `.. per soup` if there are more than half as many
+    objects as soups, and `≤ 1 in .. soups` otherwise.
+    """
     path = page_of(
         folder / "charts.html",
         haul_of(

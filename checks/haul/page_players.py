@@ -25,7 +25,7 @@ return count;"""
 
 def try_players(driver: Driver, path: Path, haul: bytes) -> None:
     """Checks that ten soups, played to their ends, have as many live cells as `census` reports, and
-    a ring around each object of the code.
+    a ring around each object of the code of which they are a sample.
     """
     opened(driver, path, "#&parts=0")
     labels: dict[str, str] = driver.execute_script(

@@ -1,4 +1,4 @@
-"""The counter with which all checks in Python count and print."""
+"""The counter with which each check file in Python counts and prints its results."""
 
 from __future__ import annotations
 
@@ -8,7 +8,7 @@ from collections.abc import Callable, Iterable
 from dataclasses import dataclass
 from typing import NoReturn
 
-# In CI everything must be installed, so that nothing is skipped there unnoticed.
+# In CI, `lack` counts a missing package as a failure, so that its checks aren't skipped unnoticed.
 IN_CI = os.environ.get("CI") == "true"
 
 
@@ -29,7 +29,7 @@ class Count:
         self.check(name, "" if got == wanted else f"{got!r}, and not {wanted!r}")
 
     def holds(self, name: str, condition: bool, seen: object = "") -> None:
-        """Counts a check that a condition holds. `seen` is what was seen instead."""
+        """Counts a check that a condition holds. If the check fails, `seen` is printed."""
         self.check(name, "" if condition else f"it doesn't hold{f': {seen}' if seen else ''}")
 
     def add(self, faults: Iterable[str]) -> None:

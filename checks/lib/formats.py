@@ -19,7 +19,7 @@ ONE_CHECKPOINT = Profile(1, 1, 1, 0)
 # Two checkpoints.
 TWO_CHECKPOINTS = Profile(1, 1, 1, 1)
 LIFE = "b3s23"
-# A rule under which all cells die, and a rule under which no cell dies.
+# A rule under which all cells die, and a rule under which nothing changes.
 DEADLY, STILL = "bs", "bs012345678"
 
 # The most samples of a code.
@@ -42,7 +42,7 @@ def profile_pairs(profile: Profile) -> list[str]:
 NEVER = profile_words(ONE_CHECKPOINT)
 # Under this rule and profile every soup is dead at the second checkpoint.
 DEAD = [*profile_words(TWO_CHECKPOINTS), f"--rule={DEADLY}"]
-# Under this rule and profile every soup is at rest at generation 0, since no cell dies.
+# Under this rule and profile every soup is at rest at generation 0, since nothing changes.
 ALL_LIVE = [*profile_words(ONE_CHECKPOINT), f"--rule={STILL}"]
 
 

@@ -1,5 +1,6 @@
 """Checks links in the pages below a folder. Each must lead to a file that exists. If the link names
-a heading, an element or a line, the file must have it.
+a heading, an element or a line, the file must have it. Links with a scheme, such as `https:`,
+aren't checked.
 
 usage: python3 -m checks.lib.links FOLDER        prints the links that lead nowhere, and fails if
 there is one
@@ -24,14 +25,14 @@ ELEMENT = re.compile(r' id="([^"]*)"')
 
 
 class Link(NamedTuple):
-    """A link of a page, and what is wrong with it, or nothing if it is right."""
+    """A link of a page. `fault` says what is wrong with it, and is empty if the link is right."""
 
     name: str
     fault: str
 
 
 def links_below(top: Path) -> Iterator[Link]:
-    """Yields the links to files in all pages below a folder."""
+    """Yields the links to files in all pages below a folder, except in folders named `out`."""
     for page in sorted(path for path in top.rglob("*") if path.suffix in (".md", ".html")):
         if "out" not in page.parts:
             for target in targets_in(page):

@@ -16,7 +16,7 @@ Cell = tuple[int, int]
 Cells = frozenset[Cell]
 
 DIGITS = "0123456789abcdefghijklmnopqrstuvwxyz"
-# The most columns and rows of a pattern that has a text.
+# The most columns and rows of a pattern that has an extended Wechsler text.
 MOST_SIDE = 40
 # The number of rows of a strip.
 STRIP = 5
@@ -126,8 +126,8 @@ def strip_text(columns: list[int]) -> str:
 
 
 def wechsler(cells: Cells) -> str | None:
-    """Returns the text of a pattern at the corner, or `None` if its bounding box is larger than 40
-    by 40.
+    """Returns the extended Wechsler text of a pattern whose bounding box begins at (0, 0), or
+    `None` if the box has more than 40 columns or more than 40 rows.
     """
     width, height = max(x for x, _ in cells) + 1, max(y for _, y in cells) + 1
     if width > MOST_SIDE or height > MOST_SIDE:

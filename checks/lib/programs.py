@@ -12,16 +12,17 @@ from checks.lib.program import TOP
 
 # The folder of the programs, which git ignores.
 PROGRAMS = TOP / "crates" / "census" / "out" / "programs"
-# The file with the output of `rt ci`, if there is one. The libraries that `rt ci` has proved are
-# used.
+# The path of the file with the output of `rt ci`, or empty if there is none. With this file, the
+# programs are built from the libraries that `rt ci` has proved.
 CI_LOG = os.environ.get("CI_LOG", "")
 
 
 def find_programs() -> Path | None:
     """Returns the folder with the programs, or `None` if they can't be built.
 
-    The first check that needs them builds them: from what `rt ci` has proved, or otherwise with
-    bin/programs, which proves what isn't kept.
+    The first check that needs the programs builds them with bin/programs, from what `rt ci` has
+    proved. If there is no `CI_LOG`, or if this fails, bin/programs builds them from what is kept,
+    and proves the rest.
     """
     PROGRAMS.parent.mkdir(parents=True, exist_ok=True)
     with PROGRAMS.with_name("programs.lock").open("w") as lock:

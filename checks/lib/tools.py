@@ -15,7 +15,8 @@ DEBIANS_PYTHON = "/usr/bin/python3"
 def has_module(name: str) -> bool:
     """Checks whether a module can be imported.
 
-    If it can't, the script is first restarted with the Python that can import Debian's packages.
+    If it can't, the script starts anew with `DEBIANS_PYTHON`, and checks again there. So the answer
+    is `False` only if that Python is missing or can't import the module either.
     """
     if importlib.util.find_spec(name):
         return True

@@ -31,7 +31,7 @@ COUNTS = ["0", "3", "9", "11", "16777216", "16777217", "x", "+10", ""]
 SETS = ["8 --also 8+2", "0 --also=0+4,4+6", "9 --first=1 --also 0+1"]
 # A program that writes its arguments to a file, and then calls another program with them.
 NOTES = '#!/bin/sh\necho "$*" >> "%s"\nexec "%s" "$@"\n'
-# The beginning of an error line of a program that reads the files.
+# The beginning of an error line from a tool that `gather` calls, and not from `census`.
 OTHER_PROGRAM = re.compile(r"(xargs|awk|sh):")
 
 

@@ -24,11 +24,13 @@ from checks.program.recipes import (
     work,
 )
 
-# After this time, `wait_until` gives up. Everything that it waits for happens sooner.
+# After this time, `wait_until` gives up. Everything that it waits for happens sooner, unless
+# something is wrong.
 MOST_SECONDS = 60
-# A file's old date, in seconds since 1970.
+# A date long past, in seconds since 1970. A file keeps this date if it isn't written again.
 OLD = 978_307_200
-# The number of checks of hauls with Slurm. Each of the two refusals has three checks.
+# The number of checks in `try_slurm`: one for each of four hauls, and three for each of two calls
+# that are refused.
 CHECKS_WITH_SLURM = 10
 
 
@@ -120,8 +122,9 @@ def try_two_at_once(recipes: Recipes) -> None:
 
 
 def try_hauls(recipes: Recipes) -> None:
-    """Takes the hauls of parts, which together must be the haul of `take`. A complete part isn't
-    taken again, but a part that has grown is taken again."""
+    """Takes the hauls of parts. Each must be what `take` prints for the soups of the part, and a
+    complete part must not be taken again. With Slurm, the hauls of all parts are also joined, and
+    the census grows."""
     count, out = recipes.count, recipes.room / "hauls"
     recipes.well("hauls: one part", recipes.call("take-part", out, "7", "3", "1"))
     haul = census("take", "--first=3", "--count=3")

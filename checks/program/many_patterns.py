@@ -228,7 +228,8 @@ def kinds() -> Iterator[Call]:
 
 def profiles() -> Iterator[Call]:
     """Yields calls of `name` with seven cells in a row under many horizons, strides and limits,
-    with a blinker that never settles, and with four known patterns under each period.
+    with a blinker under a period of 1, so that it never settles, and with four known patterns under
+    each period.
     """
     row = frozenset((x, 0) for x in range(7))
     first = next(
@@ -365,8 +366,8 @@ def spaceships() -> Iterator[Call]:
 
 
 def soups_by_number() -> Iterator[Call]:
-    """Yields calls of `soup`, which must print the square that the digest of the seed and the
-    number gives, cropped to its bounding box.
+    """Yields calls of `soup`, which must print the cells that the digest of the seed and the number
+    gives, in their bounding box.
     """
     draw = random.Random("seeds")
     seeds = ["".join(chr(draw.randint(33, 126)) for _ in range(length)) for length in range(65)]

@@ -97,7 +97,9 @@ def may_follow(before: list[bytes], field: bytes) -> bool:
 
 
 def fault_in(line: bytes) -> int | None:
-    """Returns the place of a line's first fault, or `None` if the line is valid."""
+    """Returns the number of bytes before the first field that is wrong, the length of the line if a
+    field is missing, or `None` if the line is valid.
+    """
     fields = line.split(b" ")
     place = 0
     for number, field in enumerate(fields):
@@ -182,7 +184,7 @@ class Book:
 
 
 def answer(job: Job, ranges: list[Range], workers: int, given: bytes) -> tuple[int, str, str]:
-    """Returns the status, the output and the error output of `gather`."""
+    """Returns the status, the output and the error output that `gather` must give."""
     book, told = Book(job, ranges, workers), []
     lines = given.split(b"\n")
     if not lines[-1]:

@@ -1,4 +1,4 @@
-"""Calls the recipes in cluster/, and makes the checks that `cluster` needs for several recipes."""
+"""Functions with which checks/program/cluster calls the recipes in cluster/ and checks them."""
 
 from __future__ import annotations
 
@@ -18,7 +18,7 @@ STUB = '#!/bin/sh\ncase "$*" in *"--count 0"*) exit 0 ;; esac\n'
 
 
 class Recipes:
-    """The recipes, and the folder in which they work."""
+    """The recipes, and the folder in which the checks make files."""
 
     def __init__(self, room: Path, count: Count) -> None:
         self.room, self.count = room, count

@@ -21,8 +21,9 @@ from checks.repository.product_code import OPEN, Code, File
 
 LIST = TOP / "checks" / "repository" / "allocations.md"
 
-# The calls that the code uses, and whether a number says how much memory they request. A function
-# of the repository may have the same name.
+# Names of calls that may take memory, and whether a number says how much memory such a call
+# requests. Each such call in the code must be here. A function of the repository may have the same
+# name.
 KNOWN = {
     "with_capacity": True,
     "reserve": True,
@@ -194,8 +195,8 @@ def compare_list(asked: Counter[Row], known: Counter[Row], count: Count) -> None
 def compare_calls(files: Iterable[File], count: Count) -> None:
     """Compares the calls of all files with allocations.md."""
     takers, asked = memory_takers(), Counter[Row]()
-    # Each call that is `True` in `KNOWN` belongs to the libraries. If the search misses one, it may
-    # miss others, too.
+    # Each call that is `True` in `KNOWN` belongs to the libraries. If `memory_takers` misses one,
+    # it may miss others, too.
     count.check(
         "calls that may take memory",
         ", ".join(

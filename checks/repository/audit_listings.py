@@ -12,8 +12,8 @@ HEADLINE = TOP / "crates" / "census" / "specs" / "Headline.antt"
 
 
 def contract(path: str, name: str, clauses: list[str]) -> tuple[int, list[str], Names]:
-    """Returns the line of a public function, its lines from its head to its body (only the clauses
-    that count), and the imports of its file.
+    """Returns the line of a public function, its lines from its head to its body, and the imports
+    of its file. If `clauses` isn't empty, the clauses that it doesn't name are left out.
     """
     text = (TOP / path).read_text()
     lines, names = text.splitlines(), Names()

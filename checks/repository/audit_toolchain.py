@@ -159,7 +159,7 @@ def is_meant(key: Key) -> bool:
 
 
 def told_rows(keys: Iterable[Key]) -> list[str]:
-    """Returns a row for each of the toolchain's definitions that carry meaning, by name."""
+    """Returns the rows of the table of the toolchain's definitions, sorted by name."""
     found = {
         (told.path, key[1]): told
         for key in keys

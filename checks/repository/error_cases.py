@@ -18,7 +18,7 @@ LEXED = [
 ]
 
 
-# Code after a comment that doesn't end would be hidden.
+# A comment that doesn't end would hide the code after it from the search, so it must be refused.
 UNENDED = "/* a comment /* in a comment */ AllocError"
 
 
@@ -76,7 +76,7 @@ PASSED = [
     "impl Drop for A { fn drop(self) { let A { b, c: _, } = self; drop(b); } }",
 ]
 
-# A file's name, its source on one line, and whether that line is listed.
+# A file's name, its source on one line, and whether this line must be listed in places.md.
 PLACES: list[tuple[str, str, list[str]]] = [
     (name, source, [source] * is_listed)
     for name, source, is_listed in [

@@ -33,8 +33,8 @@ def end_of_item(tokens: Code, place: int) -> int:
 
 
 def code_of(tokens: Code) -> Code:
-    """Returns the tokens without those for the prover: attributes, ghost items and the conditions
-    of contracts.
+    """Returns the tokens without attributes, and without those for the prover: ghost items and the
+    conditions of contracts.
     """
     code: Code = []
     place = 0

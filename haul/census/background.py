@@ -16,7 +16,7 @@ from haul.census.client import FAILED, Ended, check_ending
 from haul.census.starters import LAUNCH_CENSUS
 from haul.formats.report_lines import LINE_LIMIT
 
-# The launcher's mode for the program of `haul search --finds`.
+# The mode of `launcher.py` that runs the program of `haul search --finds`.
 FIND = "find"
 # mutant: equal because the size of a read doesn't change what is printed
 BYTES_AT_A_TIME = 65_536
@@ -29,7 +29,8 @@ SECONDS_TO_END = 0.05
 # The progress line of `census take`.
 PROGRESS = re.compile(rb"([0-9]{1,8}) of [0-9]{1,8} soups")
 # How a report line of `census take` begins, and the expression that finds the soup's number in it.
-# If there are more than twice `MOST_REPORTS` such lines, only `MOST_REPORTS` of them are kept.
+# Whenever more than twice `MOST_REPORTS` such lines have been collected, only the `MOST_REPORTS`
+# lines with the lowest soup numbers are kept.
 REPORT_BEGINS = b"report "
 MOST_REPORTS = 100_000
 REPORT_OF = re.compile(rb"report [^\n]*? soup=([0-9]{1,13}) ")
@@ -66,7 +67,7 @@ class BackgroundProgram:
         self, waiter: StreamWaiter, how: str, words: list[str], stderr: int | None
     ) -> None:
         """Starts a program with `launcher.py`, in the mode `how`: `LAUNCH_CENSUS` or `FIND`. Raises
-        `OSError` if the start fails."""
+        `OSError` if `launcher.py` can't be started."""
         self.waiter = waiter
         self.process = children.start(words, subprocess.PIPE, stderr, apart=how)
         self.printed, self.complained = bytearray(), bytearray()
@@ -146,7 +147,7 @@ class BackgroundTake(BackgroundProgram):
         self.reports: list[tuple[int, bytes]] = []
         self.reported = 0
         self.reported_bytes = 0
-        # The number of soups in the latest progress line.
+        # The number of soups run so far, according to the latest progress line.
         self.latest = 0
         super().__init__(waiter, LAUNCH_CENSUS, words, subprocess.PIPE)
 

@@ -26,9 +26,10 @@ NOT_THERE = (
     errno.ENAMETOOLONG,
     errno.EINVAL,
 )
-# How long the starter of a program may take to end everything that the program has started.
+# How many seconds `launcher.py` has after SIGTERM to kill its program and everything that the
+# program has started. Then `launcher.py` itself is killed.
 MOST_SECONDS_TO_END = 2.0
-# The number of bytes that fit into a pipe before anyone reads from it, on every Linux.
+# The number of bytes that fit into a pipe before anyone reads from it, by default on Linux.
 BYTES_OF_A_PIPE = 65_536
 
 
@@ -87,7 +88,8 @@ class Children:
         apart: str | None = None,
     ) -> subprocess.Popen[bytes]:
         """Starts a program. If `apart` is given, it is a mode of `launcher.py`, which then runs the
-        program in a session of its own. Raises `OSError` if the start fails."""
+        program in a session of its own. Raises `OSError` if the program can't be started. With
+        `apart`, `OSError` is raised only if `launcher.py` can't be started."""
         starter = [] if apart is None else list_starter_words(apart)
         with block_interrupts() if starter else nullcontext():
             return self.add(
@@ -113,7 +115,7 @@ class Children:
             self.running.remove(process)
 
     def heed(self, stopping: SignalHandler) -> None:
-        """Passes signals to `stopping` from now on. This work ends by itself after a signal."""
+        """Passes each signal from now on to the work `stopping`, which then ends by itself."""
         self.stopping = stopping
 
     @contextmanager
@@ -141,8 +143,8 @@ children = Children()
 
 @contextmanager
 def block_interrupts() -> Iterator[None]:
-    """Blocks Ctrl-C, which mustn't end a starter before the starter is in its own session. The
-    starter drops a Ctrl-C that came earlier."""
+    """Blocks Ctrl-C while `launcher.py` is started, since Ctrl-C mustn't end `launcher.py` before
+    it is in a session of its own. `launcher.py` drops a Ctrl-C that came before that."""
     mask = signal.pthread_sigmask(signal.SIG_BLOCK, {signal.SIGINT})
     try:
         yield
@@ -152,8 +154,8 @@ def block_interrupts() -> Iterator[None]:
 
 def kill_apart(program: subprocess.Popen[bytes]) -> None:
     """Kills a program that `launcher.py` runs in a session of its own, and all processes that the
-    program has started. `program` is the launcher. It is sent SIGTERM, after which it kills the
-    others, and is then killed itself."""
+    program has started. The argument `program` is the process of `launcher.py` itself: on SIGTERM,
+    it kills all the others, and then it is killed, too."""
     if program.poll() is None:
         program.terminate()
         with suppress(subprocess.TimeoutExpired):
@@ -199,7 +201,7 @@ def start_child(
 ) -> Iterator[subprocess.Popen[bytes]]:
     """Starts a program with `Children.start`. The program has ended when the context is left. If
     `stderr` is `None`, the program writes to this process's standard error. Raises `NoCensus` if
-    there is no program at the path."""
+    there is no program at the path, unless `apart` is given: then `launcher.py` reports this."""
     try:
         program = children.start(words, stdout, stderr, stdin, apart)
     except OSError as error:

@@ -80,8 +80,9 @@ class Census:
     def ask_in_parts(
         self, ask: Callable[[list[Asked]], Said], asked: list[Asked], size: int, done_what: str
     ) -> Iterator[Said]:
-        """Splits a list into parts of `size`, asks about several parts at a time, and yields the
-        answers in order. `done_what` is the end of the progress line."""
+        """Splits a list into parts of at most `size` elements, and calls `ask` with each part.
+        Several calls run at a time, and their answers are yielded in order. `done_what` is the end
+        of the progress line."""
         parts = [asked[start : start + size] for start in range(0, len(asked), size)]
         done = 0
         # mutant: equal because the number of threads doesn't change what is printed
@@ -121,7 +122,8 @@ class Census:
                 start_thread(watcher)
                 shutil.copyfileobj(program.stdout, out)
             except BaseException:
-                # Otherwise, leaving the block would wait for the program, perhaps for hours.
+                # Otherwise, the exception would be raised only after the program has run all its
+                # soups.
                 program.terminate()
                 raise
             finally:

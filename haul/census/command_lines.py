@@ -118,8 +118,9 @@ def format_soup_commands(job: Job) -> tuple[str, str]:
 
 
 def format_unsettled_command(haul: Haul) -> str:
-    """Returns the command that lists the unsettled soups of a haul. If the haul has more than
-    `RANGES_TO_COPY` ranges, `..` stands for the others."""
+    """Returns the command that lists the unsettled soups of a haul. It has calls of `census work`,
+    each for a range or a piece of a range. If more than `RANGES_TO_COPY` calls are needed, `..`
+    stands for the others."""
     options = [*list_quoted_seed(haul.job), *list_changed_options(haul.job)]
     ranges = [range_ for piece in split_ranges(haul.ranges) for range_ in piece]
     calls = [

@@ -53,8 +53,8 @@ def drop_interrupts() -> None:
 
 
 def end_with(parent: int, number: int) -> None:
-    """Asks for the signal `number` when the parent ends. If the parent has ended already, ends this
-    process at once."""
+    """Makes the system send the signal `number` to this process when the parent ends. If the parent
+    has ended already, ends this process at once."""
     call_prctl(PR_SET_PDEATHSIG, number)
     if os.getppid() != parent:
         os._exit(FAILED)
@@ -141,7 +141,7 @@ def become(parent: int, writing: int, words: list[str], closes_streams: bool) ->
 
 
 def end_session() -> None:
-    """Kills all descendants, then all processes of this session, including this one."""
+    """Kills all descendants, then all processes of this process group, including this one."""
     end_descendants()
     os.killpg(os.getpgrp(), SIGKILL)
 

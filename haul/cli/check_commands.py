@@ -90,11 +90,9 @@ def check_apgsearch_haul(
         check = ApgsearchCheck(Census(asked.census, streams.terminal), haul)
         if asked.totals:
             return list(check.find_other_totals(asked.first or 0, asked.workers)) or [RIGHT]
-        unchecked = check.list_unchecked()
-        if unchecked:
+        for reason, codes in check.list_unchecked().items():
             streams.terminal.complain(
-                f"{format_place(name)}not checked, since census doesn't count such objects: "
-                f"{' '.join(unchecked)}"
+                f"{format_place(name)}not checked, since {reason}: {' '.join(codes)}"
             )
         return list(check.find_wrong_samples()) or [RIGHT]
     except CantCheck as why:

@@ -30,8 +30,8 @@ HAS_BEGUN, SECONDS_TO_BEGIN = 128, 10.0
 def run_heeding_signals(work: Callable[[], int]) -> int:
     """Does the work in a separate thread, and returns its status. If a signal comes, the programs
     that were started are ended, and then the signal ends this process, too. If the work handles
-    signals itself (`children.stopping`), it is notified instead, and decides whether it goes on. If
-    the work then ends because of the signal, the same signal ends this process.
+    signals itself (`children.stopping`), it is notified instead, and decides whether it goes on.
+    When the work has ended, the signal that it has noted as `number`, if any, ends this process.
 
     Python checks for signals between two steps of its main thread. If a signal came just before the
     main thread started to wait, Python would notice the signal only after the wait. Therefore the

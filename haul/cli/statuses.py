@@ -2,6 +2,6 @@
 
 from __future__ import annotations
 
-# All except the last one mean the same as for `census`. The last one means that a check has found a
-# fault.
+# `NOT_RIGHT` means that `haul check` has found something that isn't right. The other statuses mean
+# the same as for `census`.
 DONE, USAGE, REFUSED, NO_MEMORY, FAILED, NOT_RIGHT = 0, 2, 3, 4, 5, 7

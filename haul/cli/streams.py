@@ -16,7 +16,7 @@ from haul.formats.haul_reader import read_any_haul
 from haul.formats.report_files import INPUT_LIMIT
 from haul.terminal import Terminal
 
-# The most bytes that a pattern may have, as in `census`.
+# The most bytes that a pattern may have, as in `census`, unless it is given as coordinates.
 PATTERN_LIMIT = 2**24
 # Every line of coordinates is shorter than this.
 MOST_LINE = 64

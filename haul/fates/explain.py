@@ -18,7 +18,8 @@ from haul.census.command_lines import (
 from haul.census.forks import work_apart
 from haul.census.soup_runs import SOUPS_IN_A_CALL, draw_soup
 from haul.fates.fate import (
-    MOST_GENERATIONS,
+    GENERATIONS_OF_SIZES,
+    MOST_LIMIT,
     Fate,
     Size,
     tell_activity,
@@ -27,15 +28,12 @@ from haul.fates.fate import (
     tell_rest,
     tell_settled,
 )
-from haul.fates.growth import GENERATIONS, MOST_CYCLE, find_growth
+from haul.fates.growth import find_growth
 from haul.fates.rest import look_for_rest
 from haul.formats.haul import Job
 from haul.life.field import pack, unpack
 from haul.life.generations import read_rule
 
-# Linear growth is looked for in this many generations after the limit.
-GENERATIONS_OF_SIZES = GENERATIONS + MOST_CYCLE
-MOST_LIMIT = MOST_GENERATIONS - GENERATIONS_OF_SIZES
 FINDING = re.compile(rb"settled (0|[1-9][0-9]{0,5})\n|unsettled\n")
 CELL = re.compile(rb"(0|-?[1-9][0-9]{0,5}) (0|-?[1-9][0-9]{0,5})\n")
 SIZE = re.compile(rb"([0-9]{1,6}) (?:0|([1-9][0-9]{0,9})(?: -?[0-9]{1,6}){4})\n")

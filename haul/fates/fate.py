@@ -6,14 +6,16 @@ from collections import Counter
 from dataclasses import dataclass
 from enum import Enum
 
-from haul.fates.growth import Growth
+from haul.fates.growth import GENERATIONS, MOST_CYCLE, Growth
 from haul.fates.rest import Rest
 from haul.names.objects import find_name
 from haul.plurals import write_count
 
 # The most generations by which `census run` advances a pattern.
 MOST_GENERATIONS = 100_000
-USUAL_LIMIT = 30_300
+# Linear growth is looked for in this many generations after the limit.
+GENERATIONS_OF_SIZES = GENERATIONS + MOST_CYCLE
+USUAL_LIMIT, MOST_LIMIT = 30_300, MOST_GENERATIONS - GENERATIONS_OF_SIZES
 
 
 class Kind(Enum):
@@ -95,7 +97,7 @@ def tell_collision(generation: int) -> Fate:
 
 def tell_activity(size: Size, limit: int) -> Fate:
     """Returns the fate of a pattern about which nothing else was found. The explanation suggests a
-    limit that may show more."""
-    more = min(max(2 * limit, USUAL_LIMIT), MOST_GENERATIONS)
+    limit that may show more, if there is a larger one."""
+    more = min(max(2 * limit, USUAL_LIMIT), MOST_LIMIT)
     extent = f"{write_count(size.cells, 'cell')}, {size.width:,} by {size.height:,}"
-    return Fate(Kind.ACTIVE, f"{extent}; try --limit {more}")
+    return Fate(Kind.ACTIVE, f"{extent}; try --limit {more}" if more > limit else extent)

@@ -103,8 +103,8 @@ def find_late_recurrence(rule: Rule, cells: set[int]) -> Recurring | None:
 
 
 def find_meeting(field: Field, groups: list[Group], last: int) -> int | None:
-    """Advances a pattern up to generation `last`. Returns the first generation in which two groups
-    are near one another, or `None` if there is none."""
+    """Advances a pattern, which is at generation `2 * PERIOD`, up to generation `last`. Returns the
+    first generation in which two groups are near one another, or `None` if there is none."""
     owners = {
         cell: number
         for number, group in enumerate(groups)
@@ -151,7 +151,7 @@ def are_independent(
     rule: Rule, clusters: list[set[int]], wanted: list[set[int]], most: int
 ) -> bool:
     """Checks whether each cluster recurs within `most` generations when it is run alone, and
-    whether the clusters share no cell and together make up the phases `wanted`."""
+    whether these runs share no cell in any generation and together make up the phases `wanted`."""
     together: list[set[int]] = [set() for _ in wanted]
     for cluster in clusters:
         runs = list(run_alone(rule, cluster, max(len(wanted), most)))

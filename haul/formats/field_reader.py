@@ -68,7 +68,7 @@ class FieldReader:
         )
 
     def is_missing(self, back: int) -> int:
-        """Returns 1 if the line has fields, but not the field `back` fields before the next one,
+        """Returns 1 if the line has fields, but ends before the field that `bad_field` reports,
         otherwise 0. `bad_field` subtracts this from the column, since there is no space before a
         missing field."""
         return 1 if self.read - back >= len(self.fields) and self.fields else 0

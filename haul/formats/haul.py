@@ -13,7 +13,7 @@ SYMMETRY = "C1"
 NUMBER_LIMIT = 2**40
 # Every total is below this.
 TOTAL_LIMIT = 2**64
-# The most samples that a code has.
+# The most samples that a code has in a haul of `census`.
 MOST_SAMPLES = 3
 
 Range = tuple[int, int]
@@ -53,7 +53,7 @@ class Haul:
     # The number of objects that a haul of apgsearch claims. The sum of its totals may differ.
     said_objects: int | None = None
     # The line of the input in which the haul begins.
-    # mutant: equal because only the line of a haul that was read is printed
+    # mutant: equal because the line is printed only for hauls that were read
     line: int = 1
 
     def objects(self) -> int:

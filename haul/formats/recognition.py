@@ -1,4 +1,4 @@
-"""Recognises texts that aren't hauls, so that an error message can say what they look like."""
+"""Recognises texts that aren't hauls of `census`, so that errors can say what they look like."""
 
 from __future__ import annotations
 

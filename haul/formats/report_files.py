@@ -18,7 +18,7 @@ HAUL = re.compile(rb"@VERSION ")
 COMMENT = b"#"
 # The progress line is updated after this many lines.
 LINES_BETWEEN_PROGRESS = 10_000
-# The most skipped lines that are reported one by one. Further ones are only counted.
+# The most skipped lines that get a message each. Further skipped lines are only counted.
 MOST_TOLD = 1000
 # The most bytes that an input may have, as for `census gather`.
 INPUT_LIMIT = 2**32
@@ -29,7 +29,7 @@ class BadLines(Exception):
 
 
 class Reports:
-    """The reports that have been read from one or more inputs."""
+    """Reads the reports of one or more inputs. Keeps their job and the numbers of their soups."""
 
     def __init__(self, terminal: Terminal) -> None:
         self.terminal = terminal
@@ -37,7 +37,7 @@ class Reports:
         self.job: Job | None = None
         self.soups: set[int] = set()
         self.lines = 0
-        # The number of skipped lines, including those that weren't reported one by one.
+        # The number of skipped lines, including those without a message of their own.
         self.skipped = 0
 
     def read(self, stream: IO[bytes], place: str) -> Iterator[Report]:
@@ -68,13 +68,14 @@ class Reports:
                 yield report
 
     def skip(self, why: str) -> None:
-        """Reports that a line is skipped, unless too many have been reported."""
+        """Counts a skipped line. Writes the message `why` about it, unless `MOST_TOLD` messages
+        have been written before."""
         self.skipped += 1
         if self.skipped <= MOST_TOLD:
             self.terminal.complain(why)
 
     def tell_skipped(self) -> None:
-        """Reports how many more lines were skipped."""
+        """Writes how many lines were skipped without a message, if there were any."""
         if self.skipped > MOST_TOLD:
             self.terminal.complain(f"{self.skipped - MOST_TOLD} more lines are skipped")
 
@@ -82,15 +83,12 @@ class Reports:
 def split_lines(stream: IO[bytes]) -> Iterator[bytes]:
     """Yields the lines of an input without their line feeds. If a line is too long, yields only its
     first `LINE_LIMIT + 1` bytes. Raises `OSError` if the input is too long."""
-    size = 0
+    size, is_begun = 0, False
     # mutant: equal because a longer line is refused, however much of it is read
-    while line := stream.readline(LINE_LIMIT + 1):
-        size += len(line)
+    while piece := stream.readline(LINE_LIMIT + 1):
+        size += len(piece)
         if size > INPUT_LIMIT:
             raise OSError(errno.EFBIG, f"input longer than {INPUT_LIMIT} bytes")
-        yield line.removesuffix(b"\n")
-        # mutant: equal because only the last line lacks its line feed
-        while len(line) > LINE_LIMIT and not line.endswith(b"\n"):
-            # mutant: equal because a longer line is refused, however much of it is read
-            line = stream.readline(LINE_LIMIT + 1)
-            size += len(line)
+        if not is_begun:
+            yield piece.removesuffix(b"\n")
+        is_begun = not piece.endswith(b"\n")

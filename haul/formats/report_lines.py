@@ -67,7 +67,8 @@ class Report:
     soup: int
     # The checkpoint at which the soup has settled, or `None` if it is unsettled.
     settled: int | None
-    # Whether the soup settled for good, or `None` if the line doesn't say so.
+    # Whether the soup settled for good. `None` if it is unsettled, or if the line has version 1,
+    # which doesn't say this.
     for_good: bool | None
     # The number of objects of each code that the soup left.
     counts: dict[str, int]

@@ -1,4 +1,4 @@
-"""Reads the tables that are kept beside the code of `haul`: lines of fields separated by tabs."""
+"""Reads the tables that come with `haul`, such as names.tsv: lines of fields separated by tabs."""
 
 from __future__ import annotations
 

@@ -19,6 +19,9 @@ from haul.plurals import pluralize
 LINEAR_GROWTH = "linear growth isn't counted here"
 FALLS_APART = "it is several clusters in every phase"
 NO_CODE = "census has no such code"
+# Why the samples of a code aren't checked.
+NOT_COUNTED = "census doesn't count such objects"
+NOT_DRAWN = "such a code doesn't draw its object"
 
 
 class CantCheck(Exception):
@@ -59,10 +62,14 @@ class ApgsearchCheck:
                 if code not in parts[number]:
                     yield f"{code}: soup {number} leaves no such part"
 
-    def list_unchecked(self) -> list[str]:
-        """Returns the codes whose samples aren't checked, because `census` doesn't count their
-        objects."""
-        return [code for code in self.haul.samples if not self.is_known(code)]
+    def list_unchecked(self) -> dict[str, list[str]]:
+        """Returns the codes whose samples aren't checked, by the reason."""
+        unchecked = [code for code in self.haul.samples if not self.is_known(code)]
+        reasons = {
+            NOT_COUNTED: [code for code in unchecked if not is_large(code)],
+            NOT_DRAWN: [code for code in unchecked if is_large(code)],
+        }
+        return {reason: codes for reason, codes in reasons.items() if codes}
 
     def find_other_totals(self, first: int, workers: int) -> Iterator[str]:
         """Takes the census of as many soups as the haul has, from soup `first` on. Yields a message
@@ -83,7 +90,7 @@ class ApgsearchCheck:
                 )
 
     def is_known(self, code: str) -> bool:
-        """Checks whether `census` counts objects with this code."""
+        """Checks whether a code draws an object that `census` counts. An `ov_` code draws none."""
         return is_counted(self.rule, code)
 
     def find_reason(self, code: str, unsettled: int) -> str:

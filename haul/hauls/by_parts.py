@@ -75,7 +75,8 @@ class Objects:
                 self.show_progress(done, codes)
 
     def separate_share(self, codes: list[str]) -> list[Separation]:
-        """Separates objects in a child process, or in this process if no child can be started."""
+        """Separates objects in a child process, or in this process if the child can't be started,
+        fails or is killed."""
         with suppress(OSError):
             return work_apart(partial(self.separate_list, codes))
         return self.separate_list(codes)

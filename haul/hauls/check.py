@@ -15,7 +15,7 @@ from haul.formats.haul_reader import read_one_haul
 from haul.formats.haul_writer import format_header, format_sample_row
 from haul.hauls.join import Joining
 
-# Soups are run by several calls at a time, each with at most this many soups.
+# The most sample soups in one call of `census`. Several calls run at a time.
 SAMPLES_IN_A_CALL = 500
 
 

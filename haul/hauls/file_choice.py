@@ -16,8 +16,8 @@ FILES_FOR_ONE_WRONG = 100
 
 
 class FileChoice:
-    """A choice of `number` files or parts: those with the lowest SHA-256 digests of the text
-    `choice`, a space and the name."""
+    """A choice of `number` files, or of `number` parts of an index: those with the lowest SHA-256
+    digests of the text `choice`, a space and the name."""
 
     def __init__(
         self, files: list[str], number: int, choice: str | None, thing: str = "file"

@@ -1,8 +1,9 @@
 """Small patterns as the bits of a number. A generation is then a few operations on that number,
 which take a tenth of the time that sets of cells take.
 
-Bit `STRIDE * y + x` is the cell (x, y). The bounding box of a pattern begins at the cell (`MARGIN`,
-`MARGIN`), and its *room* is that box with `MARGIN - 1` more columns and rows on each side:
+Bit `STRIDE * y + x` is the cell (x, y). A pattern that is read is moved so that its bounding box
+begins at the cell (`MARGIN`, `MARGIN`). Its *room* in all generations is this box with `MARGIN - 1`
+more columns and rows on each side:
 
     . . . . . . . . . .     Two cells (O) in their room (r), if the margin were three. No room has
     . r r r r r r . . .     cells in the first or in the last column. So the last cell of a row and

@@ -40,7 +40,8 @@ class Run:
 
 
 class Blocks:
-    """The blocks of an object, and the generations of each block when it is run by itself."""
+    """The blocks of an object, which are sets of its islands, and the generations of each block
+    when it is run by itself."""
 
     def __init__(self, rule: Rule, runs: dict[Cells, Run], recurrence: Recurrence) -> None:
         self.rule = rule
@@ -84,8 +85,8 @@ class Blocks:
                     yield from self.completed([*runs, run], left - block)
 
     def is_separation(self, runs: list[list[Cells]]) -> bool:
-        """Checks whether the blocks with these `runs` never have a cell in common, and together
-        make up the object in each generation."""
+        """Checks whether the blocks, each run by itself, never share a cell, and together make up
+        the object in each generation. `runs` has the generations of each block."""
         return all(
             sum(map(len, live)) == len(together) and frozenset().union(*live) == together
             for together, *live in zip(self.generations, *runs, strict=True)

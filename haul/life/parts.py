@@ -107,8 +107,8 @@ class Separator:
 
 
 def is_counted(rule: Rule, code: str) -> bool:
-    """Checks whether `census` counts objects with this code. It does if the code draws an object
-    whose cells are one cluster in some phase."""
+    """Checks whether a code draws an object that `census` counts, which is one cluster in some
+    phase. Returns `False` for an `ov_` code, which draws no object."""
     recurrence = read_object(rule, code)
     return recurrence is not None and any(map(is_cluster, recurrence.phases))
 

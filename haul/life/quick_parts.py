@@ -1,6 +1,6 @@
 """A quick way to separate small objects, with each pattern as the bits of a number. It finds the
-same parts as the class `Blocks` of haul/life/blocks.py, but gives up on large objects, and on
-objects that don't recur as their codes say."""
+same parts as the class `Blocks` of haul/life/blocks.py, but gives up on objects that are large,
+leave their room (see haul/life/bitmaps.py), or don't recur as their codes say."""
 
 from __future__ import annotations
 
@@ -154,9 +154,9 @@ class QuickBlocks:
 
 
 def is_separation(generations: Generations, runs: list[Generations]) -> bool:
-    """Checks whether the blocks with these `runs` never have a cell in common, and together make up
-    the object in each generation. The sum of the blocks' bitmaps equals their union only if no two
-    blocks have a cell in common."""
+    """Checks whether the blocks, each run by itself, never share a cell, and together make up the
+    object in each generation. `runs` has the generations of each block. The sum of the blocks'
+    bitmaps equals their union only if no two blocks share a cell."""
     return all(
         sum(live) == together == reduce(or_, live)
         for together, *live in zip(generations, *runs, strict=True)

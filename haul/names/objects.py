@@ -1,7 +1,7 @@
 """Names of objects on LifeWiki (conwaylife.com/wiki), from the file names.tsv.
 
-The file has only names that are certain. haul/tests/pictures.txt has a picture for each of them,
-and a test checks that the object in the picture has the code in names.tsv.
+The file has only names that are certain. haul/tests/pictures.txt has a picture of each object, and
+a test checks that the object in the picture has the code in names.tsv.
 """
 
 from __future__ import annotations
@@ -15,7 +15,7 @@ from haul.formats.tables import BadTable, read_table
 
 FILE = "names.tsv"
 HEADS = ["code", "name", "also"]
-# The separator between several other names.
+# The separator between the names in the column `also`.
 BETWEEN = "; "
 
 

@@ -163,8 +163,9 @@ def count_cells(code: str) -> int | None:
 def list_soups(side: Side, codes: list[str]) -> dict[int, list[object]]:
     """Returns a haul's sample soups for these codes, indexed by number. Each entry has the soup's
     256 cells. If `census` was asked about the soup, the entry also has the checkpoint at which the
-    soup settled, and the fewest and the most live cells at that checkpoint. If the checkpoint or
-    the cells aren't known, a single zero takes the place of these three numbers."""
+    soup settled, and the fewest and the most live cells that its objects can have then, since
+    `census` doesn't report their phases. If the soup didn't settle, or an object's number of cells
+    isn't known, a single zero takes the place of these three numbers."""
     return {
         number: [encode_soup(f"{side.haul.job.seed}{number}"), *describe_end(side, number)]
         for number in side.soups(codes)
@@ -186,7 +187,8 @@ def encode_soup(text: str) -> str:
 
 
 def list_intervals(sides: Sides) -> dict[int, tuple[float, float]]:
-    """Returns the interval of each total if the page compares hauls, otherwise no intervals."""
+    """Returns the interval of each total of objects if the page compares hauls, otherwise no
+    intervals. The intervals of parts are in the result of `describe_rates`."""
     if len(sides.all) == 1:
         return {}
     totals = {side.haul.totals.get(code, 0) for side in sides.all for code in sides.known}

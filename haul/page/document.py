@@ -1,7 +1,7 @@
 """A page about one or several hauls: a single HTML 5 file that loads no other file.
 
-Its script makes the page from the data in the file. For readers without JavaScript, there is a
-table in a `noscript` element.
+Its script shows the objects and plays soups, with the data in the file. For readers without
+JavaScript, there is a table in a `noscript` element.
 """
 
 from __future__ import annotations
@@ -42,12 +42,12 @@ PIECES = re.compile(r"\$(?:table|lives|data)_pieces")
 def make_page(
     census: Census, hauls: list[Haul], least: int, play: int, lives: Lives | None = None
 ) -> Iterator[str]:
-    """Yields the page, piece by piece. Codes with fewer than `least` objects in each haul are left
-    out. `census` finds out when the sample soups of the first `play` codes settle. Only the page
-    of a single haul may have `lives`, the section *Long lives*."""
+    """Yields the page, piece by piece. A code is left out if no haul has at least `least` objects
+    or parts with it. `census` finds out when the sample soups of the first `play` codes settle.
+    Only the page of a single haul may have `lives`, the section *Long lives*."""
     sides = make_sides(hauls, least, play, census.terminal)
-    # All data is computed before the first byte is written, so a page is either complete or
-    # missing.
+    # `census` is called and the objects are described before the first piece is yielded. So if
+    # either fails, nothing of the page is written.
     sides.ask(census)
     objects = describe_objects(sides, census.terminal)
     before, between, middle, after = map(Template, PIECES.split(read_file("page.html")))

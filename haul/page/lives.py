@@ -18,7 +18,7 @@ from haul.life.drawing import draw_path
 from haul.life.soups import SOUP_SIDE, make_soup
 from haul.plurals import pluralize, write_count
 
-# The most soups in each list: the longest-lived soups, and the unsettled soups.
+# At most this many of the longest-lived soups are listed, and at most this many unsettled soups.
 MOST_SHOWN = 20
 # The chart of lifespans has at most one bar more than `BARS`. `WIDTH` and `HEIGHT` are its size.
 BARS, WIDTH, HEIGHT = 24, 640, 100
@@ -137,8 +137,9 @@ def describe_lives(lives: Lives) -> list[dict[str, object]]:
 
 
 def list_end(life: LongLife) -> list[int]:
-    """Returns the generation up to which a soup plays, and the fewest and the most live cells
-    there, or a zero if the soup doesn't settle."""
+    """Returns the generation in which a soup settled, where the player stops, and its number of
+    live cells then, as both the fewest and the most. Returns a single zero if the soup doesn't
+    settle."""
     return [0] if life.generation is None else [life.generation, life.cells, life.cells]
 
 

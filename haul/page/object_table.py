@@ -101,7 +101,7 @@ def write_counts(side: Side, code: str, reference: str = "") -> str:
 
 
 def describe_frequency(soups: int, total: int) -> str:
-    """Returns how often an object occurs, in the same words as the script."""
+    """Returns how often an object occurs, in the same words as the JavaScript of the page."""
     if not soups:
         return "none"
     if total * 2 <= soups:

@@ -58,7 +58,7 @@ class Sides:
     all: list[Side]
     # A code is on the page if some haul has at least this many objects or parts with the code.
     least: int
-    # The number of parts and objects about whose sample soups `census` is asked.
+    # `census` is asked about the sample soups of at most this many codes.
     play: int
     # The codes of the objects and of the parts on the page, the most frequent first.
     codes: list[str]

@@ -19,7 +19,8 @@ MOST_RANGES = 12
 NO_NUMBER = "–"
 COUNTED = "the formally verified program <code>census</code> counted the objects that they left"
 
-# Explanations of facts in the table of compared hauls. They don't depend on the hauls' profiles.
+# The explanations in the heads of the table of compared hauls. A head is about all hauls, so its
+# explanation can't depend on the profile of a haul.
 MEANINGS = {
     "of these strict": "not made of smaller objects",
     "settled for good": "proved to be at rest forever",
@@ -259,22 +260,37 @@ def write_verification(sides: Sides) -> str:
         f"<p>If {these} is in the file <code>{name}</code>, <code>haul check {name}</code> runs the "
         f"whole census again and compares, and {samples} runs only the sample soups."
     )
-    if all(haul.apgsearch for haul in hauls):
+    totals = f"<code>haul check --totals {name}</code>"
+    by_apgsearch = [side.letter for side in sides.all if side.haul.apgsearch]
+    if len(by_apgsearch) == len(hauls):
         text = (
             f"<p>If {these} is in the file <code>{name}</code>, {samples} runs its sample soups, and "
-            f"<code>haul check --totals {name}</code> takes a census of as many soups."
+            f"{totals} takes a census of as many soups."
+        )
+    elif by_apgsearch:
+        text += (
+            f" For {name_hauls(by_apgsearch, sides)}, which apgsearch made, {totals} takes a census "
+            "of as many soups instead."
         )
     missing = [side.letter for side in sides.all if has_missing_soups(side.haul)]
     if missing:
-        which = (
-            "this haul"
-            if len(hauls) == 1
-            else f"the haul {' and '.join(missing)}"
-            if len(missing) == 1
-            else f"the hauls {', '.join(missing)}"
+        text += (
+            f" Soups are missing from {name_hauls(missing, sides)}, so only {samples} works there."
         )
-        text += f" Soups are missing from {which}, so only {samples} works there."
+    others = [side.letter for side in sides.all if side.haul.job.symmetry != SYMMETRY]
+    if others:
+        text += (
+            f" But none of this works for {name_hauls(others, sides)}, since <code>census</code> "
+            f"runs the symmetry {SYMMETRY} only."
+        )
     return fold("How to verify it", text + "</p>\n")
+
+
+def name_hauls(letters: list[str], sides: Sides) -> str:
+    """Returns how a text refers to the hauls with these letters, such as `the hauls A, C`."""
+    if len(sides.all) == 1:
+        return "this haul"
+    return f"the haul {letters[0]}" if len(letters) == 1 else f"the hauls {', '.join(letters)}"
 
 
 def write_definitions(sides: Sides) -> str:

@@ -29,8 +29,8 @@ STATE = re.compile(rb"[.A-X]|[p-y][A-X]")
 
 
 class BadRle(Exception):
-    """Raised if a text isn't RLE, or if its pattern can't be written as plaintext. Gives the place
-    of the fault."""
+    """Raised if a text isn't RLE, or if `census` can't run its pattern under its rule. Gives the
+    place of the fault."""
 
     def __init__(self, text: bytes, place: int, why: str) -> None:
         line, begins = text.count(b"\n", 0, place) + 1, text.rfind(b"\n", 0, place) + 1

@@ -19,8 +19,8 @@ def compute_p_value(one: float, soups: int, other: float, other_soups: int) -> f
     if not one + other:
         return 1.0
     share = other_soups / (soups + other_soups)
-    # The probability of fewer than `other` and the probability of more, each plus half of the
-    # probability of `other`.
+    # The smaller of two probabilities, doubled: that the second count is below `other`, and that it
+    # is above, each plus half of the probability that it is exactly `other`.
     # mutant: equal because the smaller tail is at most 1/2
     return min(1.0, 2 * min(compute_tail(one, other, 1 - share), compute_tail(other, one, share)))
 

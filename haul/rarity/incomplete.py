@@ -12,7 +12,8 @@ from collections.abc import Iterator
 from itertools import count
 from math import exp, lgamma, log, log1p
 
-# A fraction has converged if its last factor differs from 1 by less than this.
+# A continued fraction has converged if the factor of its last step differs from 1 by less than
+# this, and a series if its last term is smaller than this share of its sum.
 NEAR = 1e-13
 # The replacement for a denominator of 0.
 TINY = 1e-300
@@ -64,8 +65,9 @@ def compute_gamma_tail(a: float, x: float) -> float:
 
 
 def sum_gamma_series(a: float, x: float) -> float:
-    """Returns the regularized lower incomplete gamma function (8.7.1), divided by
-    `x**a * exp(-x) / gamma(a)`."""
+    """Returns the regularized lower incomplete gamma function, divided by
+    `x**a * exp(-x) / gamma(a)`. The series is 8.7.1 in the NIST Digital Library of Mathematical
+    Functions."""
     term = total = 1 / a
     for n in count(1):
         term *= x / (a + n)

@@ -29,7 +29,8 @@ class Plan:
 
     # The number of the next soup.
     next: int
-    # The number of soups at which the search ends, or `None` if there is no limit.
+    # The search ends when the haul has this many soups, including those of earlier searches. `None`
+    # if there is no limit.
     until: int | None
     # The number of soups in a batch.
     batch_size: int
@@ -39,7 +40,8 @@ class Plan:
     # Under Life, a part is a find only if fewer than one in this many soups of the reference has
     # it.
     rarer: int
-    # The first generation at which a soup is late, or `None` if late soups aren't kept.
+    # A soup is late if it settles at this generation or later. `None` if neither late nor unsettled
+    # soups are kept.
     late: int | None = None
     # Whether late and unsettled soups are reported.
     tells_late: bool = False

@@ -9,7 +9,7 @@ from collections.abc import Callable
 from haul.census.background import FIND, BackgroundProgram, StreamWaiter
 from haul.census.launcher import DONE
 
-# A call is ended after this time.
+# A call that runs longer than this is killed.
 MOST_SECONDS = 60.0
 
 
@@ -47,7 +47,7 @@ class FindCalls:
 
     def step(self) -> None:
         """Starts the next call if none is running. Otherwise checks whether the running call has
-        ended, and ends it after `MOST_SECONDS`."""
+        ended, and reports how if it failed. Kills a call that has run for `MOST_SECONDS`."""
         if self.running is None and self.waiting:
             self.begin(self.waiting.popleft())
         elif self.running is not None and self.running.is_ended():

@@ -85,8 +85,8 @@ class Unread:
         return kind in self.codes and code in self.codes[kind]
 
     def holders(self, parts: Iterable[str]) -> list[set[str]]:
-        """Returns the objects that can have one of these parts beside other parts, as one nonempty
-        set for each kind of object."""
+        """Returns the objects that can have one of these parts and at least one other part: a set
+        for each kind that has such objects."""
         kinds = {kind for part in parts if (kind := read_kind(part)) is not None}
         return [
             codes
@@ -95,14 +95,15 @@ class Unread:
         ]
 
     def holding(self, parts: Iterable[str]) -> int:
-        """Returns the number of objects that can have one of these parts beside other parts."""
+        """Returns the number of objects that can have one of these parts and at least one other
+        part."""
         return sum(map(len, self.holders(parts)))
 
 
 def can_hold(whole: Kind, part: Kind) -> bool:
-    """Checks whether an object of the kind `whole` can have a part of the kind `part` beside other
-    parts. The period of a part divides the period of the object, a part moves if and only if the
-    object does, and a part of a still life has fewer cells than the still life."""
+    """Checks whether an object of the kind `whole` can have a part of the kind `part` and at least
+    one other part. The period of a part divides the period of the object, a part moves if and only
+    if the object does, and a part of a still life has fewer cells than the still life."""
     if whole.letter == "s":
         return part.letter == "s" and part.number < whole.number
     return (part.letter == "q") == (whole.letter == "q") and whole.number % part.period() == 0

@@ -1,4 +1,4 @@
-"""Chooses the haul that a search continues or begins."""
+"""Begins the haul of a search, or checks that the arguments agree with the haul in its file."""
 
 from __future__ import annotations
 
@@ -21,7 +21,7 @@ class Disagrees(Exception):
 
 
 def begin_haul(asked: argparse.Namespace) -> Haul:
-    """Returns a haul without soups for the job in the arguments. If there is no seed, one is
+    """Returns a haul without soups for the job in the arguments. If they don't give a seed, one is
     drawn."""
     seed = asked.seed
     if seed is None:

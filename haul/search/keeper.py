@@ -31,7 +31,7 @@ SECONDS_FOR_LOCK, SECONDS_BETWEEN_TRIES = 2.0, 0.02
 
 
 class CantKeep(Exception):
-    """Raised if a file can't be kept. Gives the reason."""
+    """Raised if a search can't use FILE or FILE.late. Gives the reason."""
 
 
 class Displaced(OSError):
@@ -51,8 +51,8 @@ class Beside(NamedTuple):
 class Keeper:
     """A file with a haul, and a lock that prevents a second search from keeping the same file.
 
-    The lock is FILE.lock, which remains when the search ends. A new text is written to FILE.new,
-    which then replaces FILE.
+    The running search holds the lock on FILE.lock. That file remains after the search. A new text
+    is written to FILE.new, which then replaces FILE.
     """
 
     def __init__(self, name: str) -> None:

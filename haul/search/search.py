@@ -222,8 +222,8 @@ class Search:
         return Untold(self.job, min(since, default=NUMBER_LIMIT), self.telling.list_untold() + late)
 
     def keep_untold(self) -> None:
-        """Writes what hasn't been reported to FILE.finds, for the next search. Removes FILE.finds
-        if everything has been reported."""
+        """Writes FILE.finds, so that the next search reports what this one hasn't. Removes
+        FILE.finds if everything has been reported."""
         untold = self.list_untold([], [])
         if untold.is_empty():
             if self.kept.finds_file.known is not None:
@@ -277,8 +277,8 @@ class Search:
 
     def report_rest(self) -> None:
         """Reports the remaining finds and waits for the calls of the `--finds` program. After a
-        signal that ends the search at once, reports what it can in one second and makes no
-        calls."""
+        signal that ends the search at once, reports what it can in one second, starts no further
+        call, and kills the running one."""
         began = time.monotonic()
 
         def is_reported() -> bool:

@@ -19,18 +19,18 @@ class Status:
 
     # The number of soups in the haul, plus the soups that later batches have run so far.
     soups: int
-    # The number of soups that this call has run.
+    # The number of soups that this call of `haul search` has run.
     run: int
     objects: int
     codes: int
     finds: int
-    # The running time of this call, in seconds.
+    # The running time of this call of `haul search`, in seconds.
     seconds: float
     # The number of soups that remain to be run, or `None` if the search has no end.
     left: int | None
 
     def rate(self) -> float:
-        """Returns the number of soups per second that this call has run."""
+        """Returns the number of soups per second that this call of `haul search` has run."""
         return self.run / self.seconds if self.seconds > 0 else 0.0
 
     def text(self) -> str:

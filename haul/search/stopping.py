@@ -7,8 +7,8 @@ import signal
 import time
 from contextlib import suppress
 
-# After a signal to end at once, the work has this many seconds to end. A signal that comes later
-# ends the program.
+# If the work hasn't ended this many seconds after a signal to end at once, the next signal ends the
+# program, unless the work is writing.
 SECONDS_TO_END = 10.0
 
 
@@ -44,7 +44,7 @@ class Stopping:
         return True
 
     def hear(self) -> None:
-        """Reads the bytes that have been written to the pipe."""
+        """Reads the bytes in the pipe, so that they don't wake the work again."""
         with suppress(BlockingIOError):
             # mutant: equal because the size of a read doesn't change what is printed
             os.read(self.reading, 4096)

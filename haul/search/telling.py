@@ -1,4 +1,7 @@
-"""Reports finds: prints each find, and queues a call of the `--finds` program for it."""
+"""Reports finds: prints each find, and queues a call of the `--finds` program for it.
+
+Late and unsettled soups are reported in the same way, and are called finds here, too.
+"""
 
 from __future__ import annotations
 

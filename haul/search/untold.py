@@ -44,7 +44,7 @@ class Untold:
     # An object still has to be examined if the lowest soup that left it is `since` or higher.
     since: int = NUMBER_LIMIT
     finds: list[list[str]] = field(default_factory=list)
-    # The number of finds that were left out.
+    # How many finds an earlier search left out of the file, because there were too many.
     left_out: int = 0
 
     def is_empty(self) -> bool:

@@ -31,9 +31,9 @@ def make_stamp(found: os.stat_result) -> Stamp:
 @contextmanager
 def write_new_text(path: str, lines: Iterable[bytes], rights_of: str) -> Iterator[Stamp | None]:
     """Writes a new text beside a file, with the permissions of the file `rights_of`, and yields
-    what will identify the new version. When the context is left, the new text replaces the file.
-    The file keeps its old text until the new text is safely on disk, even if an exception is
-    raised."""
+    what will identify the new version. When the context is left normally, the new text, which is
+    then safely on disk, replaces the file. If the new text can't be written, or if an exception
+    leaves the context, the file keeps its old text and the new text is removed."""
     new = f"{path}.new"
     # A search that was killed may have left a new text behind.
     with suppress(FileNotFoundError):

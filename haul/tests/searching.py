@@ -117,7 +117,8 @@ class Searches(unittest.TestCase):
         return running.returncode, output.decode(), errors.decode()
 
     def stub(self, script: str, name: str = "stub") -> str:
-        """Writes a shell script, in which `real` is the census program, and returns its path."""
+        """Writes a shell script and returns the path of the script. In the script, `real` replaces
+        the shell by the census program."""
         path = self.folder / name
         path.write_text(f'#!/bin/bash\nreal() {{ exec "{CENSUS}" "$@"; }}\n{script}\n')
         path.chmod(0o755)

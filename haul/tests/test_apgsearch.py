@@ -146,14 +146,20 @@ class Apgsearch(unittest.TestCase):
             )
 
     def test_samples(self) -> None:
-        """`haul check --samples` runs each sample soup, and lists the codes that `census` doesn't
-        count."""
+        """`haul check --samples` runs the sample soups of the codes that it can check, and lists
+        the other codes, with the reason."""
         status, printed, told = run("check", "--samples", self.file)
         self.assertEqual((status, printed), (0, "right\n"))
         self.assertEqual(
             told,
             f"haul: {self.file}: not checked, since census doesn't count such objects: "
             f"PATHOLOGICAL {GROWTH}\n",
+        )
+        large = self.write("large", TEXT.replace("PATHOLOGICAL", "ov_p12"))
+        self.assertEqual(
+            run("check", "--samples", large)[2],
+            f"haul: {large}: not checked, since census doesn't count such objects: {GROWTH}\n"
+            f"haul: {large}: not checked, since such a code doesn't draw its object: ov_p12\n",
         )
         wrong = self.write("wrong", TEXT.replace("xs4_33 1", "xs4_33 0"))
         status, printed, _ = run("check", "--samples", wrong)

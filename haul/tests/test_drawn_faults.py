@@ -138,7 +138,8 @@ class Calls(DrawnFaults):
         self.assert_most_are_made()
 
     def test_beside_a_file_of_another_program(self) -> None:
-        """If FILE.mine exists, it is a correct haul, even if `haul` is killed while writing."""
+        """Another program changes FILE, so the search writes its haul to FILE.mine. If FILE.mine
+        exists afterwards, it is a correct haul, even if `haul` was killed while writing it."""
         draw = random.Random("calls with FILE.mine")
         other, begins = census("take", "--seed=other", "--count=3"), self.folder / "begins"
         for _ in range(6):

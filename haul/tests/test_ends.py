@@ -25,7 +25,7 @@ from haul.tests.called import CENSUS, HAUL, TOP, call, census, read_terminal, ru
 from haul.tests.drawn import text_of
 from haul.tests.test_text import SMALL
 
-# A wrong haul with so many soups that its census takes hours.
+# A wrong haul with so many soups that its census takes much longer than the test.
 LONG = (
     SMALL.replace("@RANGE 0 4", f"@RANGE 0 {2**24}")
     .replace("SOUPS 2", f"SOUPS {2**24}")
@@ -58,8 +58,8 @@ def fill(folder: str, script: str) -> None:
 
 def in_shell(command: str, script: str = "", few: str = "") -> tuple[int, str, str]:
     """Runs a shell command in a folder that `fill` has filled. In the command, `haul` calls
-    bin/haul, and `$few` is the text `few`, a program in Python. Returns the status and what is
-    written to standard output and standard error."""
+    bin/haul, and `$few` is the value of the argument `few`, a Python program. Returns the status
+    and what is written to standard output and standard error."""
     with tempfile.TemporaryDirectory() as folder:
         fill(folder, script)
         shell = f'haul() {{ "{sys.executable}" "{HAUL}" "$@"; }}; {command}'
@@ -344,7 +344,8 @@ class Starter(unittest.TestCase):
             ) as program:
                 time.sleep(moment * 0.003)
                 program.send_signal(signal.SIGINT)
-                # The input stays open until `haul` has ended, since an empty haul is a fault.
+                # The input stays open until `haul` has ended, since `haul` would report an empty
+                # input as a bad haul.
                 program.wait(60)
                 errors = program.communicate()[1]
             self.assertEqual((program.returncode, errors), (-signal.SIGINT, b""))
@@ -608,8 +609,9 @@ class Signals(unittest.TestCase):
         return found
 
     def ended_by(self, number: int, words: list[str], least: int) -> None:
-        """Checks that a signal ends `haul`, at least `least` running calls of the program, and
-        everything that was started for them."""
+        """Starts `haul`, and waits until at least `least` calls of its census program run at once.
+        Checks that a signal then ends `haul`, these calls, and everything that was started for
+        them."""
         with tempfile.TemporaryDirectory() as folder:
             Path(folder, "long").write_text(LONG)
             Path(folder, "many").write_text(MANY)

@@ -830,9 +830,9 @@ class Pace(Searches):
         os.close(keeper.lock)
 
     def test_how_long_it_waits(self) -> None:
-        """The search waits for streams for up to half a second, or until the status is due. If
-        there are objects to examine, the search examines them for a fiftieth of a second, and
-        doesn't wait. After a signal, it examines them for a second."""
+        """The search waits for streams for up to half a second, or until the status is due if that
+        is sooner. If there are objects to examine, the search examines them for a fiftieth of a
+        second, and doesn't wait. After SIGTERM, it examines them for a second."""
         keeper, stopping = Keeper(str(self.file)), Stopping()
         said, told = io.StringIO(), io.StringIO()
         client = Census(CENSUS, Terminal(said))
@@ -897,7 +897,7 @@ class Pace(Searches):
         os.close(keeper.lock)
 
     def test_a_signal_while_batches_wait(self) -> None:
-        """After a signal, the batches that wait to be written are written, and the running batch is
+        """After SIGTERM, the batches that wait to be written are written, and the running batch is
         dropped."""
         keeper, stopping = Keeper(str(self.file)), Stopping()
         search = make_search(

@@ -211,8 +211,8 @@ class Told(LateSearches):
         self.assertEqual(said, output)
 
     def test_under_another_rule(self) -> None:
-        """Under another rule, unsettled soups are kept, but are reported only if `--late` is
-        given."""
+        """Under a rule other than Life, unsettled soups are kept, but are reported only if `--late`
+        is given."""
         words = ["--seed=a", "--rule=b2s", "--limit=0"]
         self.assertEqual(self.search(*words, "--until=20"), (0, "", ""))
         header, lines = self.kept()
@@ -278,7 +278,7 @@ class OtherFiles(LateSearches):
 
 
 class Reports(LateSearches):
-    """Tests the report lines that the census program prints about a batch."""
+    """Tests how a search reads the report lines that the census program prints about a batch."""
 
     def test_wrong_lines(self) -> None:
         """The search refuses a census program that prints a line about a soup of another batch,

@@ -1,5 +1,5 @@
-"""The single file into which `release/zipped.py` packs `haul`: its contents, and that it does the
-same as `haul` in a checkout."""
+"""Tests of the single file into which `release/zipped.py` packs `haul`: it has the right contents,
+and does the same as `haul` in a checkout."""
 
 from __future__ import annotations
 
@@ -18,7 +18,7 @@ from haul.tests.called import CENSUS, TOP, census, run
 from haul.tests.searching import Searches
 from release.zipped import is_packed, packed, paths_in
 
-# The beginning of the file, which the shell reads.
+# The beginning of the packed file, which the shell reads.
 HEAD = b"""#!/bin/sh
 # The companion `haul` of Gokzerd: these lines for the shell, and a zip archive for Python, which `unzip -l` lists.
 [ -d /dev/stdin ] && { echo 'haul: Is a directory' >&2; exit 5; }
@@ -128,8 +128,8 @@ class Packed(Searches):
         return ended.returncode, ended.stdout.decode(), ended.stderr.decode()
 
     def test_each_command(self) -> None:
-        """For each command, the packed file prints what `haul` prints in the checkout. It leaves no
-        other file in its folder."""
+        """For most commands and for some faults, the packed file prints what `haul` prints in the
+        checkout. It leaves no other file in its folder."""
         haul, soup, lines = (
             census("take", "--count", "20"),
             census("soup", "1"),

@@ -9,6 +9,7 @@ import re
 import subprocess
 import tempfile
 import unittest
+from dataclasses import replace
 from html import unescape
 from pathlib import Path
 from unittest.mock import patch
@@ -154,6 +155,31 @@ and <code>haul check --samples all.haul</code> runs only the sample soups.</p>
         )
         self.assertIn("Soups are missing from the haul B, so only", compared(whole, some))
         self.assertIn("Soups are missing from the hauls A, C, so only", compared(some, whole, some))
+
+    def test_verification_of_apgsearch(self) -> None:
+        """The page says which hauls are apgsearch's, and which `haul check` can't check."""
+        one = Haul(
+            Job("", "b3s23", Profile(1, 1, 1, 0)),
+            ranges=[(0, 2)],
+            soups=2,
+            unsettled=0,
+            for_good=0,
+            totals={},
+            samples={},
+        )
+        other = replace(one, apgsearch="v5.4-ll2.2")
+        text = page(other, 0)
+        self.assertIn("--totals all.haul</code> takes a census of as many soups.", text)
+        self.assertNotIn("instead", folds(text)["How to verify it"])
+        said = (
+            "For the haul B, which apgsearch made, <code>haul check --totals a.haul</code> takes a "
+            "census of as many soups instead."
+        )
+        self.assertIn(said, compared(one, other))
+        glide = replace(other, job=replace(other.job, symmetry="G1"))
+        said = "But none of this works for this haul, since <code>census</code> runs the symmetry C1 only."
+        self.assertIn(said, page(glide, 0))
+        self.assertIn("But none of this works for the hauls B, C,", compared(one, glide, glide))
 
     def test_ranges(self) -> None:
         """At most twelve ranges are listed, followed by the number of the remaining ones. A range
@@ -702,8 +728,8 @@ class Comparing(unittest.TestCase):
         )
 
     def test_each_under_its_rule(self) -> None:
-        """The object "table on table" has two parts only under the rule of B. Each list has a value
-        for each haul."""
+        """The object "table on table" has two parts only under the rule of B. The lists `made`,
+        `objects` and `parts` have a value for each haul."""
         objects = objects_of(compared(self.LIFE, self.OTHER))
         self.assertEqual(
             without_rates(objects["xs12_raar"]),
@@ -879,9 +905,9 @@ class Ends(unittest.TestCase):
             self.assertEqual(read_end(life, fields), end)
 
     def test_which_have_one(self) -> None:
-        """Only the sample soups of the first `play` codes have ends. The codes of parts come first,
-        beginning with the most frequent part: 16 blinkers in pairs, 9 blocks, and 7 objects that
-        couldn't be separated."""
+        """The page says only for the sample soups of the first `play` codes when they settle. The
+        codes of parts come first, beginning with the most frequent part: 16 blinkers in pairs, 9
+        blocks, and 7 objects that couldn't be separated."""
         haul = made(
             {"xp2_1110s": 8, "xs4_33": 7, "xs8_rr": 1, "ov_p3": 7},
             [(0, 9)],

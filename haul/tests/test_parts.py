@@ -211,8 +211,9 @@ class Parts(unittest.TestCase):
         for count in (MOST_ISLANDS, MOST_ISLANDS + 1, 30):
             row = "0".join("1" * count)
             self.assertEqual(parts(f"xs{count}_{row}", STILL), Separation(("xs1_1",) * count))
-        # Six bi-blocks in a row are twelve blocks. Two stacked tables beside nine blocks have
-        # eleven islands, two of which aren't parts.
+        # Six bi-blocks in a row are twelve blocks. Two stacked tables are one part, which has two
+        # islands. With eight blocks beside the tables, there are ten islands, and the object is
+        # separated. With nine blocks, there are eleven islands, and the object isn't separated.
         self.assertEqual(parts("xs48_" + "rr0" * 6), Separation(("xs4_33",) * 12))
         for blocks, wanted in ((8, Separation(("xs12_raar", *["xs4_33"] * 8))), (9, None)):
             code = f"xs{12 + 4 * blocks}_raar" + "0rr" * (blocks // 2) + "w33" * (blocks % 2)
@@ -247,9 +248,9 @@ class Parts(unittest.TestCase):
         self.assertEqual((len(left), len(right), left | right), (4, 4, found.phases[0]))
         one, other = [left, left], [right, right]
         self.assertTrue(blocks.is_separation([one, other]))
-        # None of these is a separation: two blocks that share a cell, although together they are
-        # the object; the same block twice, which has as many cells as the object; and a single
-        # block.
+        # None of these is a separation: the left block with an added cell of the right block, and
+        # the right block (together they are the object, but they share that cell); the left block
+        # twice (together they have as many cells as the object); and only the left block.
         shared = left | {min(right)}
         self.assertFalse(blocks.is_separation([[shared, shared], other]))
         self.assertFalse(blocks.is_separation([one, one]))
@@ -419,8 +420,8 @@ class Tables(unittest.TestCase):
         )
 
     def test_strict(self) -> None:
-        """`--strict` shows only objects of a single part, and objects that aren't separated (with a
-        note). Each has its rank among all objects."""
+        """`--strict` shows only objects of a single part, and objects that aren't separated, which
+        are marked `not separated`. Each has its rank among all objects."""
         strict = [
             ["1", "xs4_33", "block"],
             ["5", "xp2_7", "blinker"],
@@ -509,8 +510,8 @@ class Tables(unittest.TestCase):
         self.assertIn("not allowed with argument", errors)
 
     def test_an_enormous_code(self) -> None:
-        """If an object has an enormous code, a table has a row for this object and for each other
-        object."""
+        """A table has a row for each object of a haul, even if one of the objects has an enormous
+        code."""
         code = "xp2_1" + "yz" * 30 + "1"
         with tempfile.TemporaryDirectory() as folder:
             Path(folder, "a").write_text(haul("b3s23", 100, {code: 2, "xs4_33": 1}))

@@ -416,8 +416,8 @@ class Pages(unittest.TestCase):
         )
 
     def test_options_of_a_sample(self) -> None:
-        """The command has an option for each number of the profile that isn't standard, and no
-        other options."""
+        """In the commands for a sample soup of Life, `census name` has an option for each number of
+        the profile that isn't standard, and no other options."""
         for profile, words in (
             (Profile(64, 512, 101, 30300), ""),
             (Profile(64, 512, 100, 30300), " --stride=100"),
@@ -434,8 +434,8 @@ class Pages(unittest.TestCase):
                 )
 
     def test_codes_that_name_nothing(self) -> None:
-        """A haul may be valid although the program can't draw some of its codes. The page shows
-        everything else in the haul."""
+        """A haul may be valid although some of its codes can't be drawn. The page has a row for
+        each of these codes, too."""
         codes = ["xs4_33", "xs4_y", "yl3_1", "zz_"]
         haul = Haul(
             Job("", "b3s23", Profile(64, 512, 101, 30300)),

@@ -30,7 +30,7 @@ LIFE = read_rule("b3s23")
 
 
 def bits_of(cells: Cells) -> int:
-    """Returns the bitmap of these cells. Their columns and rows count from the corner."""
+    """Returns the bitmap of these cells, which has the cell (0, 0) at (`MARGIN`, `MARGIN`)."""
     return sum(1 << STRIDE * (y + MARGIN) + x + MARGIN for x, y in cells)
 
 
@@ -204,9 +204,10 @@ class Quick(unittest.TestCase):
         self.assertIsNone(quick.run_part(bits, 8))
 
     def test_each_condition_of_a_block(self) -> None:
-        """Each island of a bi-block meets the conditions, and so do both islands together. Three
-        cells of an island don't meet them, since they become four cells, one of which isn't in the
-        object. Two cells that die don't recur with the object."""
+        """Each island of a bi-block meets the conditions, and so do both islands together. If the
+        object lacks one cell of an island, the other three don't meet the conditions, since they
+        become four cells, one of which isn't in the object. Two cells that die don't recur with the
+        object."""
         two = read_bitmap("rr") or 0
         blocks = QuickBlocks(LIFE, [two, two], bitmaps.find_islands([two]))
         one = blocks.islands[0]

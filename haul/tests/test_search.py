@@ -1,5 +1,5 @@
-"""`haul search`: which soups it takes, what it refuses, and that FILE is a correct haul whatever
-happens."""
+"""Tests of `haul search`: which soups it takes, what it refuses, and whether FILE is a correct haul
+whatever happens."""
 
 from __future__ import annotations
 
@@ -412,7 +412,7 @@ class Faults(Searches):
 
 
 class Signals(Searches):
-    """After a signal, only the running batch is lost, and no process is left running."""
+    """After a signal, at most the running batch is lost, and no process is left running."""
 
     # With this program, the batch from soup 40 on takes a long time.
     SLOW = 'case "$*" in *--first=40*) echo census >&2; touch slow; exec sleep 1000 ;; *) real "$@" ;; esac'
@@ -458,7 +458,7 @@ class Signals(Searches):
                     output, errors = program.communicate(timeout=60)
                 self.assertEqual((program.returncode, output), (-numbers[-1], b""))
                 self.assertEqual(len(errors.splitlines()), len(numbers) - 1)
-                # The batches in memory are written first.
+                # Before the search ends, it writes the finished batches that aren't in FILE yet.
                 self.assertEqual(self.soups(), 40)
                 self.assert_right()
                 self.assert_nothing_runs()
@@ -524,7 +524,7 @@ class Programs(Searches):
 
 
 class Stops(unittest.TestCase):
-    """Tests what signals ask of the work."""
+    """Tests `Stopping`, which notes whether work must finish its running part or end at once."""
 
     def test_what_is_noted(self) -> None:
         interrupt, term = signal.SIGINT, signal.SIGTERM

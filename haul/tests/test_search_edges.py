@@ -19,7 +19,7 @@ from haul.tests.searching import QUICK, Searches
 
 
 class Programs(Searches):
-    """Tests that no process that a program has started is left running."""
+    """Tests unusual programs, and that no process that they have started is left running."""
 
     def test_finds_in_another_session(self) -> None:
         program = self.stub("cd ..; setsid -f sleep 77.5 < /dev/null > /dev/null 2>&1", "finder")
@@ -159,6 +159,16 @@ class Reports(Searches):
             self.assertEqual(len(list(report_files.split_lines(io.BytesIO(line)))), 1)
             with self.assertRaisesRegex(OSError, "input longer than"):
                 list(report_files.split_lines(io.BytesIO(line + b"\n")))
+
+    def test_rest_of_a_long_line(self) -> None:
+        """The rest of a line that is too long is skipped, but counts for the length of the
+        input."""
+        text = io.BytesIO(b"0123456789\nx\n")
+        with patch.object(report_files, "LINE_LIMIT", 3):
+            self.assertEqual(list(report_files.split_lines(text)), [b"0123", b"x"])
+            with patch.object(report_files, "INPUT_LIMIT", 6):
+                with self.assertRaisesRegex(OSError, "input longer than"):
+                    list(report_files.split_lines(io.BytesIO(b"0123456789")))
 
 
 class Memory(Searches):

@@ -436,7 +436,8 @@ def population(seed: str, soup: int, rule: str, generations: int) -> int:
 class UnsettledSoups(unittest.TestCase):
     def test_populations(self) -> None:
         """After the number of the soup, the columns are the last checkpoint, the population there,
-        and the growth of the population since generation 0."""
+        and the growth of the population in the thousand generations before. Here the last
+        checkpoint is generation 20, so the growth is measured from generation 0."""
         for rule in ("b3s23", "b36s23"):
             lines = census("work", "--count=12", "--worker=1", f"--rule={rule}", *SHORT)
             soups = [

@@ -509,8 +509,8 @@ in A alone: xq4_153 xs8_rr; in B alone: xp15_4r4z4r4
 
     def test_stars(self) -> None:
         """If parts are counted under Life with the standard profile, a star marks a rate that
-        differs significantly from the rate in A. The test for this uses the dispersion in the
-        reference."""
+        differs significantly from the rate in A. The p-value that decides this is computed with the
+        dispersion in the reference."""
         Path(self.folder.name, "l").write_text(haul("b3s23", 1000, {"xs4_33": 700, "xp2_7": 20}))
         Path(self.folder.name, "m").write_text(haul("b3s23", 500, {"xs4_33": 700, "xp2_7": 12}))
         lines = self.printed("compare", "--parts", "--intervals", "l", "m").splitlines()

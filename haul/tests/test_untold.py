@@ -65,7 +65,7 @@ class NotPrinted(UntoldFinds):
         self.assertEqual(self.search(*words), (0, "", ""))
 
     def test_a_search_that_runs_no_soup(self) -> None:
-        """A search that runs no soup also prints the finds."""
+        """Even a search that runs no soup prints the finds that an earlier one couldn't print."""
         self.to_device(*WORDS, "--until=700")
         output = self.search("--until=700")[1]
         self.assertEqual(len(self.told(output)), 3)
@@ -80,8 +80,8 @@ class NotPrinted(UntoldFinds):
         self.assertIn(CLOCK, self.told(self.search("--until=700", "--rarer=10000")[1]))
 
     def test_a_call_that_does_not_end(self) -> None:
-        """If the call for a find doesn't end, the next search reports this find again, and also the
-        finds that wait for their calls."""
+        """If a search is killed while the call for a find still runs, the next search reports this
+        find again, and also the finds that waited for their calls."""
         program = self.stub("sleep 1000", "finder")
         with self.start(*WORDS, "--until=700", "--finds", program) as running:
             assert running.stdout

@@ -317,8 +317,8 @@ class Compares(unittest.TestCase):
         self.assertGreater(rows, 1000)
 
     def test_order(self) -> None:
-        """Codes are ordered by the higher of the two rates, which is 0 in a haul without the code.
-        Codes with equal rates are in ASCII order."""
+        """Codes are ordered by the higher of their two rates. In a haul without the code, the rate
+        is 0. Codes with equal rates are in ASCII order."""
         one = made({"xs4_33": 5, "xs5_253": 1, "xq4_153": 1}, [(0, 10)])
         other = made({"xs4_33": 30, "xp2_7": 4, "xs6_696": 3, "xs8_rr": 99}, [(0, 1000)])
         for pair in ([one, other], [other, one]):

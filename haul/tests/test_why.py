@@ -16,7 +16,7 @@ from unittest.mock import patch
 from haul.census.children import children
 from haul.census.forks import work_apart
 from haul.fates import rest
-from haul.fates.fate import Fate, Kind
+from haul.fates.fate import MOST_LIMIT, Fate, Kind, Size, tell_activity
 from haul.fates.growth import GENERATIONS, MOST_CYCLE, Growth, find_growth
 from haul.fates.rest import Rest, look_for_rest
 from haul.formats.profile import STANDARD
@@ -161,9 +161,10 @@ class WiderRest(unittest.TestCase):
             self.assertEqual(look_for_rest(LIFE, field.live, STANDARD), Rest(), rle)
 
     def test_two_that_blink_by_themselves(self) -> None:
-        """The cells of two blinkers are near one another only in successive generations, so the
-        blinkers are one group. The group isn't an object that falls apart, since each of its
-        clusters evolves in the same way if it is run by itself."""
+        """No cells of the two blinkers are near one another in the same generation. But some cells
+        of one blinker are near cells that the other has a generation later, so the blinkers are one
+        group. The group isn't an object that falls apart, since each of its clusters evolves in the
+        same way if it is run by itself."""
         cells = cells_of_rows("OOO.....\n.....O..\n.....O..\n.....O..")
         groups = Watched(Field(LIFE, cells), 2).groups()
         self.assertEqual(len(groups), 1)
@@ -253,6 +254,17 @@ class Growths(unittest.TestCase):
             (5, 30, None),
         ):
             self.assertEqual(Growth(cells, generations).engine(), name)
+
+
+class Hints(unittest.TestCase):
+    """Tests the limit that is suggested for a pattern that is still active."""
+
+    def test_larger_limit(self) -> None:
+        size = Size(9, 5, 4)
+        for limit, more in ((0, 30_300), (20_000, 40_000), (MOST_LIMIT - 1, MOST_LIMIT)):
+            told = f"9 cells, 5 by 4; try --limit {more}"
+            self.assertEqual(tell_activity(size, limit).why, told)
+        self.assertEqual(tell_activity(size, MOST_LIMIT).why, "9 cells, 5 by 4")
 
 
 class Told(unittest.TestCase):

@@ -3,11 +3,12 @@
 A count has a Poisson distribution if events occur one by one. Objects don't: a soup often leaves
 several of the same kind. So `find_dispersed_interval` also takes the dispersion of the kind into
 account: the variance of the number of its objects in a soup, divided by the mean of that number.
-The reference census (`haul.rarity.reference`) has it, for Life with the standard profile.
+The reference census (`haul.rarity.reference`) has the dispersions for Life with the standard
+profile.
 
-The low end is the mean for which a count at least this high has a probability of 2.5 %. The high
-end is the mean for which a count at most this high has a probability of 2.5 %. Both are found by
-bisection.
+The low end is the mean for which a count at least as high as the given one has a probability of
+2.5 %. The high end is the mean for which a count at most as high as the given one has this
+probability. Both are found by bisection.
 """
 
 from __future__ import annotations

@@ -86,8 +86,8 @@ def round_down(number: float) -> int:
 
 
 def list_rarity_words(occurrence: Occurrence | None) -> list[str]:
-    """Returns the three columns of rarity for a reader. `none` means that a number doesn't exist,
-    and `-` that `census` doesn't count such objects."""
+    """Returns the three columns of rarity for a reader. If no soup of the reference has the object,
+    the first and the third are `none`. If `census` doesn't count such objects, all are `-`."""
     if occurrence is None:
         return ["-"] * len(RARITY_HEADS)
     return [

@@ -82,11 +82,11 @@ class Longest(SoupList):
 
 @dataclass
 class Unsettled(SoupList):
-    """The unsettled soups, each with its population at the last checkpoint and its growth before
-    that checkpoint."""
+    """The unsettled soups, each with its population at the last checkpoint and its growth in up to
+    1,000 generations before that checkpoint."""
 
     census: Census
-    # Whether the table has the fate of each soup.
+    # Whether the table has the kind of each soup's fate.
     says_why: bool = False
     soups: list[int] = field(default_factory=list)
 

@@ -52,8 +52,8 @@ stands_alone e = not e.is_named && not (is_flag e.kind)
 abbrev pub lone : Command → Text
 lone command = option_map_or (λ e. e.name) (find stands_alone command.parameters) []
 
--- what a walk holds: these rows, and perhaps an argument with values that aren't settled yet; no flags of a bundle are
--- to be skipped
+-- what a walk holds: these rows, and perhaps an argument with values that aren't settled yet; no letters of a bundle
+-- such as `-abc` are to be skipped
 abbrev pub holding : List Row → Option (Text × List Text) → Held
 holding rows pending = record { rows = rows; pending = pending; skip = 0 }
 
@@ -142,7 +142,8 @@ takes_name name a = not (is_some a.index) && has_long a name
 
 -- Facts about one argument of a command: the effect of a flag, of `--name=value`, of `--name` before a value, of this
 -- value, and of a positional value; how a value that is held is settled; whether the argument is positional; that no
--- other argument of the command has its name; that its limit is below 2^64; and what a request takes from its default.
+-- other argument of the command has its name; that its highest value, if its values are numbers, is below 2^64; and
+-- what a request takes from its default.
 pub record ParameterFacts : Type 0 where
   pub flagged : Held → ℕ → Option Met
   pub attached : Held → ℕ → Text → Option Met

@@ -43,7 +43,7 @@ unfolding clap_on_literals
 census_is_free = refl
 
 module _ (app : App) (arguments : List Text) (is : app ≡ census_app) (other : false ≡ asks_version arguments) where
-  -- if a parse succeeds, the arguments ask for the request in the values that it found
+  -- if a parse succeeds, the arguments ask for the request that is made from the values that the parse found
   pub asked_by-found : (found : Option (Text × List Row)) → (is_simple_and_free app ≡ true → fault_of app arguments ≡ [])
       → (is_simple app ≡ true → found ≡ subcommand_of app arguments) → asked_by arguments ≡ option_and_then request_in found
   asked_by-found found faultless finds =
@@ -63,7 +63,7 @@ module _ (app : App) (arguments : List Text) (is : app ≡ census_app) (other : 
 
 -- ---- the name of a command
 
--- if a command follows, the program's own defaults and checks have no fault
+-- if a command is given, the program's own defaults and checks have no fault
 top_fine : or_else (defaults_fault [] census_built.top.rules) (check_fault census_built.top (finished census_built.top.rules nothing_held) true) ≡ []
 unfolding clap_on_literals
 top_fine = refl
@@ -97,8 +97,8 @@ module _ (command : Command) (here : IsIn command commands) (program : Text) whe
       asked_by-called (program ∷ command.name ∷ arguments) (not_version program command.name arguments (ap (λ (f : CommandFacts). f.version) k))
       ∙ rw (faults, matches) refl
 
-  -- lawful arguments ask for the request in their rows, with the defaults filled in, or for nothing if a required
-  -- argument is missing
+  -- lawful arguments ask for the request that is made from their rows, with the defaults filled in, or for nothing if a
+  -- required argument is missing
   pub asks_uses : (uses : List Use) (missing : Bool) → AreUses command uses → lacks_some command uses ≡ missing
       → asked_by (program ∷ command.name ∷ arguments_in uses)
       ≡ unless_faulty (or_else (check_kinds false false missing) []) (request_in ((leaf command).name, completed (leaf command) (rows_in uses)))
@@ -133,7 +133,8 @@ plan_taken uses rows more (seed, (first, (count, (also, (period, (horizon, (stri
   others,
 )
 
--- a call of a command asks for the request that is made from its values
+-- to show what a call of a command asks for, it is enough to show which request is made from the rows of the call,
+-- given that a request takes the given value of each argument from these rows
 asks_what : (command : Command) (here : IsIn command commands) (asked : List Use → Option Request)
     → ((uses : List Use) → AllTaken command.parameters uses (rows_for command uses)
     → request_in ((leaf command).name, rows_for command uses) ≡ asked uses) → AsksForWhat command asked

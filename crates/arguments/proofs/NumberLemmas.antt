@@ -39,7 +39,7 @@ parser_for kind.Flag = parser.Bool
 parser_for (kind.Number least most) = parser.Unsigned least most
 parser_for (kind.OptionalNumber least most) = parser.Unsigned least most
 
--- a test: if values of this kind are numbers, their limit is below 2^64
+-- a test: if values of this kind are numbers, the highest of them is below 2^64
 abbrev pub is_small : ValueKind → Bool
 is_small (kind.Number least most) = nat_lt most (2 ^ 64)
 is_small (kind.OptionalNumber least most) = nat_lt most (2 ^ 64)

@@ -56,7 +56,8 @@ word_faulty : (s : Shape) (h : Held) (position : ℕ) (argument : Text) (more : 
 unfolding walked walk_fault
 word_faulty s h position argument more f = faulty_first _ _ (faulty_first (turn_kinds s position (met s idle h position argument)) _ f)
 
--- a letter of a bundle such as `-abc` is a fault if it belongs to no option, or to an option whose long name is a fault
+-- a letter of a bundle such as `-abc` is a fault if it belongs to no option, or to an option that would be a fault if
+-- it were given by its long name
 letter_faulty : (s : Shape) (b : Bool) (o : Option Rule) (flags : Text) (h : Held) (next : Held → Kinds)
     → IsFaulty (long_fault s.rules s.args_override_self o None h)
     → IsFaulty (short_fault s.rules s.args_override_self (cond b o None) flags (record h { skip = 0 }) next)

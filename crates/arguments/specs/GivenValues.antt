@@ -30,7 +30,7 @@ number_if_given entry uses = if is_used entry.name uses then Some (number_given 
 abbrev pub form_given : List Use → PatternForm
 form_given uses = pattern_form (is_used table.coordinates.name uses)
 
--- what a call of `run` prints, or `None` if its options contradict each other
+-- what a call of `run` prints, or `None` if its arguments contradict each other
 abbrev pub run_form_given : List Use → Option RunForm
 run_form_given uses = run_form (form_given uses) (number_given table.generations uses) (number_if_given table.sizes uses)
 

@@ -45,7 +45,7 @@ may_lack kind.Flag = true
 may_lack (kind.OptionalNumber least most) = true
 may_lack _ = false
 
--- the argument must be given: it has no default, and arguments of its kind may not be left out
+-- the argument must be given: it has no default, and an argument of its kind can't be left out without one
 abbrev pub is_required : Entry → Bool
 is_required entry = not (may_lack entry.kind) && not (is_some entry.default)
 

@@ -11,7 +11,7 @@ use Rattle.arguments.specs.Plans.{plan_in, profile_in}
 use Rattle.arguments.specs.Table.{code, coordinates, generations, number, progress, report_from, rule, seed, sizes, worker, workers}
 use Rattle.arguments.specs.Values.{is_given, number_found, text_found}
 
--- for each command: its request, or `None` if a needed value wasn't found or options of `run` contradict each other
+-- for each command: its request, or `None` if a needed value wasn't found or arguments of `run` contradict each other
 abbrev pub run_from : PatternForm → Option ℕ → Option ℕ → Option Text → Option Request
 run_from form from (Some n) (Some rule) = option_map (λ printed. Run n printed rule) (run_form form n from)
 run_from form from _ _ = None

@@ -40,6 +40,6 @@ asks_version _ = false
 abbrev pub called_by : List Text → Option Request
 called_by arguments = unless_faulty (fault_of census_app arguments) (option_and_then request_in (subcommand_of census_app arguments))
 
--- the request that the arguments make, or `None` if they ask for nothing; the first argument is the program's name
+-- what the arguments ask for: the version, what `clap` reads, or nothing (`None`); the first is the program's name
 abbrev pub asked_by : List Text → Option Request
 asked_by arguments = if asks_version arguments then Some Version else called_by arguments

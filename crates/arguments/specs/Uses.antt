@@ -44,7 +44,7 @@ arguments_in uses = flat_map arguments_of uses
 abbrev pub is_used : Text → List Use → Bool
 is_used name uses = list_any (λ u. bytes_eq (entry_in u).name name) uses
 
--- an argument of this kind is a flag, which has no value
+-- an argument of this kind is a flag, which is given without a value
 abbrev pub is_flag : ValueKind → Bool
 is_flag kind.Flag = true
 is_flag _ = false

@@ -30,7 +30,7 @@ use std::convert::AsStr;
 /// The usage text if the text of `clap`'s error is empty.
 const NOT_UNDERSTOOD: &str = "error: the words are not understood";
 
-/// The usage text if `clap` finds no fault, but the arguments give no request. This happens only if options of `run`
+/// The usage text if `clap` finds no fault, but the arguments give no request. This happens only if arguments of `run`
 /// contradict each other.
 const CONTRADICTION: &str =
     "error: `--sizes` can't be used with `--coordinates`, and its FROM is at most N\n\n\
@@ -61,8 +61,8 @@ impl<E: Into<OutOfMemory>> From<E> for Unasked {
 ///
 /// # Errors
 ///
-/// - [`Unasked::Usage`] if `clap` finds a fault in the arguments, if options of `run` contradict each other, or if the
-///   arguments ask for help.
+/// - [`Unasked::Usage`] if `clap` finds a fault in the arguments, if arguments of `run` contradict each other, or if
+///   the arguments ask for help.
 /// - [`Unasked::Unread`] and [`Unasked::Memory`] if memory runs out.
 pub fn request_of<'a, S: AsStr>(alloc: Global, arguments: &'a [S]) -> Result<Request<'a>, Unasked>
     ensures asked { IfOk result (λ request. asked_by (map S.text arguments.entry.now) ≡ Some request) }
@@ -95,8 +95,8 @@ pub fn commands_ask_for_their_values()
     ensures { AskForTheirValues }
 {}
 
-/// The law that a call of a command asks for nothing if a required argument is missing, an argument is given twice, a
-/// value is out of its range, an option is unknown, or `--help` is given.
+/// The law that a call of a command asks for nothing if a required argument is missing or if, after lawful arguments,
+/// an argument is given twice, a value is out of its range, an option is unknown, or `--help` is given.
 #[tactic(auto, using(crate::proofs::RefuseLemmas::others_ask_for_nothing))]
 pub fn others_ask_for_nothing()
     ensures { OthersAskForNothing }
@@ -126,7 +126,7 @@ pub fn asks_version<S: AsStr>(arguments: &[S]) -> bool
 }
 
 /// Returns the request of the command that `clap` found, or `None` if it found no command, a value is missing, or
-/// options of `run` contradict each other.
+/// arguments of `run` contradict each other.
 fn request_in<'a>(matches: &ArgMatches<'a>) -> Option<Request<'a>>
     ensures request { result ≡ option_and_then request_in (subcommand_rows_of matches.now) }
     ensures ranges { IfSome result AreInTheirRanges }
@@ -136,7 +136,7 @@ fn request_in<'a>(matches: &ArgMatches<'a>) -> Option<Request<'a>>
 }
 
 /// Returns the request of the command with this name, or `None` if there is no such command, a value is missing, or
-/// options of `run` contradict each other.
+/// arguments of `run` contradict each other.
 fn request_named<'a>(name: &str, found: &ArgMatches<'a>) -> Option<Request<'a>>
     ensures request { result ≡ request_in (name.now, rows_of (found_of found.now)) }
     ensures ranges { IfSome result AreInTheirRanges }

@@ -1,8 +1,8 @@
 //! The one table of the program's options and positional arguments, with a row for each. `commands` has the list of
 //! rows of each command.
 //!
-//! How `clap` reads arguments, what a request takes from them, and the laws about arguments all come from these rows. A
-//! new option is one more row here, and each command that has the option lists the row.
+//! These rows decide how `clap` reads arguments, and what a request takes from them. The rows are proved to agree with
+//! those of `specs/Options.antt`, which the laws use. `docs/NEW-OPTIONS.md` says what to edit for a new option.
 
 /// The kind of value that an argument has.
 #[derive(Clone, Copy)]

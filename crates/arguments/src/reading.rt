@@ -144,7 +144,7 @@ fn rule_in<'a>(found: &ArgMatches<'a>) -> Option<Text<'a>>
     text_found(found, &options::RULE)
 }
 
-/// Returns the request of `run`, or `None` if a value that it needs is missing or the options contradict each other.
+/// Returns the request of `run`, or `None` if a value that it needs is missing or its arguments contradict each other.
 pub(crate) fn run_request<'a>(found: &ArgMatches<'a>) -> Option<Request<'a>>
     ensures request { result ≡ run_request (rows_of (found_of found.now)) }
     ensures ranges { IfSome result AreInTheirRanges }

@@ -1,4 +1,4 @@
-//! The value of an argument: what `clap` found for it, looked up by its row in the table.
+//! The value of an argument: what `clap` found for it, looked up by its row, a [`Parameter`] in the table of `options`.
 
 ghost use Rattle.std.specs.Prelude.{◌≡◌, ◌≤◌, IfSome, option_and_then};
 ghost use Rattle.clap.specs.Words.{found_of, rows_of};

@@ -195,7 +195,7 @@ name_prints arguments reader before after errors missing done uses call =
 
 -- ---- what `gather` printed
 
--- if `IsOfCorrectLines` holds for what `gather` made, its census is over the soups of the call with a correct line
+-- if `IsOfCorrectLines` holds for what `gather` made, the census is over the call's soups that have a correct line
 gathered_of : (uses : List Use) (bytes : List ℕ) (made : Made) (code : ℕ)
     → (lines : IsOfCorrectLines (plan_given uses) (number_given table.workers uses) bytes made) → (code ≡ 0) ↔ (made.missing ≡ 0)
     → IsCensusOfLines uses bytes code lines.tells.census
@@ -267,7 +267,8 @@ prints_if_done contents arguments reader given None errors done = absurd done
 prints_if_done contents arguments reader given (Some writer) errors done =
     prints_what_is_asked arguments reader (contents given) (contents writer) errors done
 
--- if soups are missing, `gather` has printed the census of the correct lines, and ends with exit code 6
+-- if a request was done, except that soups are missing, `GatherPrintsItsLines` holds with exit code 6 for the writer
+-- that the program gives back
 pub prints_if_incomplete : {V : Type 0} (contents : V → Option (List ℕ)) (arguments : List Text) (reader : Option (List ℕ)) (given : V)
     (back : Option V) (errors : Stream)
     → IsSomeAnd back (λ writer. (less : ℕ) × IsDone arguments reader (contents given) (contents writer) errors (suc less))

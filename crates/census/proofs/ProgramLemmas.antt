@@ -1,4 +1,5 @@
--- What the writer below the buffer has received when the program ends, and with which status the program ends.
+-- Proves how the program ends: with which status, what the writer below the buffer has received, and what is left
+-- unchanged.
 use Rattle.std.proofs.Common.{◌≡◌, ◌∙◌, ℕ, zero, suc, List, [], true, false, Option, None, Some, Ok, Err, IsSomeAnd, IfSome}
 use Rattle.std.proofs.Common.{◌≢◌, ◌⊎◌, Bool, arith, cond, inl, inr, refl, rules, sym, ap, subst, append-nil}
 use Rattle.std.specs.Io.KnownBytes.{Appends, Keeps, append_known}
@@ -71,9 +72,9 @@ nothing_more (Some xs) None after first second = absurd first
 nothing_more (Some xs) (Some ys) None first second = absurd second
 nothing_more (Some xs) (Some ys) (Some zs) first second = second ∙ append-nil ys ∙ first
 
--- ---- the end of a command that printed
+-- ---- the end of a command that has printed its whole text
 
--- no complaint has the status of a command that printed
+-- `has_printed` is false for the status of a complaint
 unprinted : (complaint : Complaint) → has_printed (status_of complaint) ≡ false
 unprinted complaint = search rules
 
@@ -81,7 +82,7 @@ unprinted complaint = search rules
 quiet : (request : Request) (bytes : List ℕ) (made : Made) → writes_lines request ≡ false → right_for request bytes (Ok made) → made.diagnostics ≡ []
 quiet request bytes made mute is = search rules
 
--- the stream has the last line, which is empty if no soup is missing
+-- `HasLast` implies `HasLine` for the last line, which is empty if no soup is missing
 told_last : (missing : ℕ) (s : Stream) → HasLast (Ok missing) s → HasLine s (last_line (Ok missing))
 told_last zero s last = subst (λ b. MatchBool b (HasPrefix s []) (Has s [])) (sym last.1) last.0
 told_last (suc n) s last = last
@@ -90,8 +91,9 @@ told_none : (missing : ℕ) (s : Stream) → missing ≡ 0 → HasLast (Ok missi
 told_none zero s none last = last.0
 told_none (suc n) s none last = cc
 
--- A command printed, and the writer below the buffer has all of it. The status says whether soups are missing. If none
--- is missing, and the request writes no lines, there are no diagnostics.
+-- A command has printed its whole text, and the writer below the buffer has received this text. The status says whether
+-- soups are missing. If none is missing, and `writes_lines` is false for the request, standard error has received
+-- nothing.
 pub record Prints (arguments : List Text) (reader before below : Option (List ℕ)) (status : Status) (errors : Stream) : Type 0 where
   pub missing : ℕ
   pub status_is : status ≡ status_after (Ok missing)
@@ -187,7 +189,7 @@ request_leaves arguments reader request status written errors input output asked
   unread = rw asked spares.unread;
 }
 
--- if the arguments ask for nothing, all is left unchanged
+-- `LeavesAlone` holds if the arguments ask for nothing, standard error says why, and nothing was read or printed
 usage_leaves : (arguments : List Text) (code : ℕ) (errors : Stream) (input output : Type 0) → asked_by arguments ≡ None → TellsUsage errors → input
     → output → LeavesAlone arguments code errors input output output
 usage_leaves arguments code errors input output nothing tells same unchanged = record {
@@ -200,7 +202,7 @@ usage_leaves arguments code errors input output nothing tells same unchanged = r
   unread = rw nothing tt;
 }
 
--- with exit code 4, neither the reader nor the writer, if it is returned, has changed
+-- `LeavesAlone` holds with exit code 4 if the reader is unchanged and the writer, if it is returned, is unchanged too
 memory_leaves : (arguments : List Text) (status : Status) (errors : Stream) (input output unprinted : Type 0) → status ≡ statuses.Memory → input
     → unprinted → LeavesAlone arguments (exit_code status) errors input output unprinted
 memory_leaves arguments status errors input output unprinted is same unchanged =
@@ -268,7 +270,7 @@ prints_or_fails statuses.Refused failed = inr (ap exit_code (failed (λ is. cc))
 prints_or_fails statuses.Memory failed = inr (ap exit_code (failed (λ is. cc)))
 prints_or_fails statuses.Incomplete failed = inr (ap exit_code (failed (λ is. cc)))
 
--- with exit code 0 or 5, the only thing that has to be left unchanged is the input
+-- `LeavesAlone` holds with exit code 0 or 5 if the reader is unchanged, whatever was printed
 printing_leaves : (arguments : List Text) (code : ℕ) (errors : Stream) (input output unprinted : Type 0) → (code ≡ 0) ⊎ (code ≡ 5) → input
     → LeavesAlone arguments code errors input output unprinted
 printing_leaves arguments code errors input output unprinted either same = record {
@@ -316,7 +318,7 @@ unasked_does arguments reader before failed status errors no_version (inl told) 
 unasked_does arguments reader before failed status errors no_version (inr memory) asked =
     lacks_memory arguments reader before failed status errors no_version memory.0 memory.1
 
--- if the arguments gave no request, all is left unchanged
+-- `LeavesAlone` holds if the arguments gave no request, and nothing was read or printed
 pub unasked_leaves : (arguments : List Text) (status : Status) (errors : Stream) (input output : Type 0) {U : Type 0} → (U → asked_by arguments ≡ None)
     → (U × (status ≡ statuses.Usage) × TellsUsage errors)
     ⊎ ((status ≡ statuses.Memory) × HasLine errors (complaint_line (complaint.Memory out_of_memory))) → input → output
@@ -350,7 +352,7 @@ ends_without_buffer contents arguments reader status given errors input no_versi
 
 -- ---- arguments that couldn't be read
 
--- if the command didn't print, its exit code is neither 0 nor 6
+-- if `has_printed` is false for a status, its exit code is neither 0 nor 6
 pub code_of_unprinted : (status : Status) → has_printed status ≡ false → (exit_code status ≢ 0) × (exit_code status ≢ 6)
 code_of_unprinted status unprinted = (
   λ code. let bad : false ≡ true = sym unprinted ∙ ap has_printed (is_done status code) in cc,
@@ -359,11 +361,11 @@ code_of_unprinted status unprinted = (
 
 -- ---- the flush
 
--- a command that printed doesn't have the status `Usage`
+-- if `has_printed` is true for a status, the status isn't `Usage`
 pub printed_is_no_usage : (status : Status) → has_printed status ≡ true → status ≢ statuses.Usage
 printed_is_no_usage status printed usage = let bad : true ≡ false = sym printed ∙ ap has_printed usage in cc
 
--- a status that neither a command that printed nor a failed flush has was the command's status before the flush
+-- if the status after the flush is neither `Done`, `Incomplete` nor `Failed`, the status before the flush was the same
 still : (status result own : Status) → (has_printed status ≡ false → result ≡ status) → (result ≢ status → result ≡ statuses.Failed)
     → has_printed own ≡ false → own ≢ statuses.Failed → result ≡ own → status ≡ own
 still status result own kept failed unprinted unfailed is = go (has_printed status) refl
@@ -378,8 +380,8 @@ if_asked_more : {P Q : Type 0} (test : Request → Bool) (expected : Bool) (aske
 if_asked_more test expected None more holds = tt
 if_asked_more test expected (Some request) more holds = λ is. more (holds is)
 
--- what is left unchanged after the flush, if the writer is unchanged whenever the command has neither written nor
--- printed anything
+-- what is left unchanged after the flush, if the writer below the buffer is unchanged whenever the command wrote
+-- nothing to the buffer and ended with a status other than `Done` and `Incomplete`
 pub sent_leaves : {V : Type 0} (arguments : List Text) (status result : Status) (errors later : Stream) (input output : Type 0) (given back : V)
     → LeavesAlone arguments (exit_code status) errors input output output → (has_printed status ≡ false → result ≡ status)
     → (result ≢ status → result ≡ statuses.Failed) → (result ≡ status → later ≡ errors) → (has_printed status ≡ false → output → back ≡ given)

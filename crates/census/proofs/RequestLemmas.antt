@@ -1,4 +1,4 @@
--- A request was done if its command ended as the request's behaviour allows. What its command leaves unchanged.
+-- Proves how the command of a request ends (`DoesRequest`), and what it leaves unchanged (`Spares`).
 use Rattle.std.proofs.Common.{◌≡◌, ◌≢◌, ◌∙◌, ◌&&◌, ℕ, zero, suc, Bool, true, false, List, Option, Result, Ok, Err, is_ok, refl, rules, sym, subst}
 use Rattle.std.specs.Prelude.{IsErr}
 use Rattle.pattern_commands.specs.declared.ending.complaint.Complaint.{Complaint}
@@ -12,7 +12,7 @@ use Rattle.pattern_commands.proofs.AnswerLemmas.{some_input}
 use Rattle.arguments.specs.declared.request.Request.{Request}
 use Rattle.census.specs.Requests.{DoesRequest, Spares, behaviour_of, is_whole, reads_input, refuses_input}
 
--- if, for every input, a command ended as the behaviour of a request allows, the request was done
+-- `DoesRequest` holds if, for every input, the command ended as the behaviour of the request allows
 pub does : {reader : Option (List ℕ)} {status : Status} {output errors : Stream} (request : Request) (behaviour : Behaviour)
     → behaviour ≡ behaviour_of request → ((reader : Option (List ℕ)) (bytes : List ℕ) → Ends behaviour reader bytes status output errors)
     → DoesRequest reader status output errors request
@@ -20,7 +20,7 @@ does {reader} {status} {output} {errors} request behaviour is ends =
     let some = some_input reader in
     record { bytes = some.0; input = some.1; ends = subst (λ (t : Behaviour). Ends t reader some.0 status output errors) is (ends reader some.0) }
 
--- what a command leaves unchanged that didn't read its input
+-- what is left unchanged by a command that didn't read its input
 pub spares_unread : (request : Request) (status : Status) (input output : Type 0) → input → (status ≡ statuses.Refused → output)
     → (status ≡ statuses.Memory → output) → Spares request status input output
 spares_unread request status input output same untouched no_memory = record {
@@ -30,7 +30,8 @@ spares_unread request status input output same untouched no_memory = record {
   no_memory = λ is _. no_memory is;
 }
 
--- what a command leaves unchanged that reads its input, or refuses it, only if what it is given is valid
+-- what is left unchanged by a command that reads its input, and may refuse it, only if its arguments (its rule, for
+-- example) are valid
 pub spares_unless_valid : (request : Request) (status : Status) (input output : Type 0) (valid : Bool) → reads_input request ≡ valid
     → refuses_input request ≡ valid → (valid ≡ false → input) → (status ≡ statuses.Refused → output)
     → (status ≡ statuses.Memory → is_whole request ≡ true → output) → Spares request status input output

@@ -27,9 +27,9 @@ pub record LeavesAlone (arguments : List Text) (code : ℕ) (errors : Stream) (i
 -- afterwards, or `None` if there was no memory for its buffer. `input` says that the reader is unchanged.
 pub record ProgramEnds {V : Type 0} (contents : V → Option (List ℕ)) (arguments : List Text) (reader : Option (List ℕ)) (code : ℕ) (given : V)
     (back : Option V) (errors : Stream) (input : Type 0) : Type 0 where
-  -- code 0: what the arguments ask for was done, and the writer has its whole text
+  -- code 0: what the arguments ask for was done, and the writer has received the whole text
   pub done : code ≡ 0 → IsSomeAnd back (λ writer. IsDone arguments reader (contents given) (contents writer) errors 0)
-  -- code 0: only `gather`, and `take` with `--report-from`, write to standard error
+  -- code 0: apart from the progress line, only `gather`, and `take` with `--report-from`, write to standard error
   pub silent : code ≡ 0 → IfSome (asked_by arguments) (λ request. writes_lines request ≡ false → Has errors [])
   -- code 6: what the arguments ask for was done, except that soups are missing
   pub incomplete : code ≡ 6 → IsSomeAnd back (λ writer. (less : ℕ) × IsDone arguments reader (contents given) (contents writer) errors (suc less))

@@ -68,7 +68,8 @@ pub fn do_arguments<T: Threads + Wait + Sync, R: Read, W: Write, E: Write, P: Wr
     }
 }
 
-/// Reports why the arguments ask for nothing. A failure to write the text is not reported.
+/// Reports why the arguments give no request: writes the usage text, or that memory ran out. A failure to write this is
+/// not reported.
 fn end_unasked<E: Write>(unasked: Unasked, errors: &mut Out<E>) -> Status
     requires why { SaysWhy unasked }
     requires errors { errors.old.failed ≡ false }

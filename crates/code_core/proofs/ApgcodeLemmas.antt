@@ -79,7 +79,8 @@ character_bytes (b ∷ bs) all =
     let parts = and_parts (is_character b) (list_all is_character bs) all in
     and_from _ _ (rw parts.0 refl) (character_bytes bs parts.1)
 
--- the ending (with the text), the opening and the letter are short, and have only bytes that an apgcode may have
+-- the ending (`_` and the text) has at most 328 bytes, the opening 1 to 3, and the letter 1; each of these bytes may
+-- be in an apgcode
 ending_bytes : (text : Option (List ℕ)) → IfSome text HasTextShape → list_all is_code_byte (ending text) ≡ true
 unfolding is_character
 ending_bytes None shape = refl

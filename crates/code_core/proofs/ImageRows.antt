@@ -353,7 +353,7 @@ fits-image Flip b = fits_same b
 fits-image Diagonal b = fits_to (distance b.top b.bottom) (distance b.left b.right) ∙ fits_same b
 fits-image AntiDiagonal b = fits_to (distance b.top b.bottom) (distance b.left b.right) ∙ fits_same b
 
--- the text that spells the tokens of a pattern at the corner; the pattern's box has the size of this box
+-- the text that the tokens of a pattern at the corner spell, if the pattern's box has the size of the given box
 abbrev pub spelled_in : List Cell → Bounds → List ℕ
 spelled_in cells b = flat_map spelling (tokens_of cells (distance b.left b.right) (distance b.top b.bottom))
 

@@ -1,4 +1,4 @@
--- A pattern that is moved keeps its name.
+-- A pattern that is moved keeps its apgcode.
 use Rattle.std.proofs.Common.{◌≡◌, ◌∙◌, sym, ap, refl, subst, ℕ, zero, suc, ℤ, ◌+ℤ◌, neg_ℤ, List, [], ◌∷◌, length, arith}
 use Rattle.std.proofs.lemmas.Int.{ints}
 use Rattle.plane_core.specs.declared.plane.cell.Cell.{Cell}
@@ -88,13 +88,13 @@ text-unshifted dx dy rule cells period t order h =
     subst (λ (S : List Cell). IsImageText rule S period t) (shifted-back dx dy cells)
     (text-shifted (neg_ℤ dx) (neg_ℤ dy) rule (shifted dx dy cells) period t (in_order-shifted dx dy cells order) h)
 
--- the number in a name is the same for two patterns with the same kind, recurrence and population
+-- the number in an apgcode is the same for two patterns with the same kind, recurrence and population
 pub number-same : (kind : Kind) (S T : List Cell) (r : Recurrence) → length S ≡ length T → number_of kind S r ≡ number_of kind T r
 number-same Still S T r is = is
 number-same Oscillator S T r is = refl
 number-same Ship S T r is = refl
 
--- a moved pattern has the name of the pattern
+-- a moved pattern has the apgcode of the pattern
 pub codes_moved : CodesMoved
 codes_moved dx dy rule cells limit code order h = record {
   recurrence = h.recurrence;

@@ -1,5 +1,5 @@
--- The cells of tokens: there are cells if and only if a token is a column, and the cells of a short text are on the
--- plane.
+-- The cells of tokens: there are cells if and only if a token is a column, and the cells of few enough tokens are on
+-- the plane.
 use Rattle.std.proofs.Common.{◌≡◌, ◌<◌, ◌≤◌, ◌+◌, ◌-◌, ◌*◌, ℕ, zero, suc, pos, Bool, true, false, ◌||◌, ◌&&◌, cond, List, [], ◌∷◌, ◌++◌, length, map}
 use Rattle.std.proofs.Common.{filter, get_or, refl, sym, ◌∙◌, ap, subst, arith, length-append, append-nil, append_assoc, Option, None, Some, Result}
 use Rattle.std.proofs.Common.{Ok, Err, nat_lt, true≢false}

@@ -21,7 +21,7 @@ use Rattle.code_core.specs.ReadingSteps.{has_character}
 use Rattle.code_core.proofs.TokenReading.{Outcome, tokens_at-outcome, Stops, IsBad, IsShort, Stops-bad, Stops-short, tokens_at-Stops_bad}
 use Rattle.code_core.proofs.TokenReading.{tokens_at-Stops_short, tokens_at-Spells, Spells-tokens_at}
 
--- a text of at most 10,000 bytes is read as its pattern or its fault, and a longer text is too long
+-- a text of at most 10,000 bytes is read as its pattern or its fault, and a longer text has the fault `TooLong`
 read-short : (text : List ℕ) → length text ≤ 10000 → wechsler_read text ≡ wechsler_pattern text
 read-short text h = let e : nat_lt 10000 (length text) ≡ false = grind (arith, nat_tests) in rw e refl
 

@@ -39,7 +39,7 @@ follows-none rule cells latest is = record {
 next_of : (rule : Numbers) (cells latest later : List Cell) (n : ℕ) → latest ≡ after rule cells n → later ≡ next rule latest → later ≡ after rule cells (n + 1)
 next_of rule cells latest later n is next_is = next_is ∙ ap (next rule) is ∙ sym (after-more rule cells n)
 
--- if the latest generation doesn't touch the edge, no generation up to the latest does
+-- by `Follows`, no generation before the latest touches the edge; so if the latest doesn't, none up to it does
 pub inside-more : (rule : Numbers) (cells : List Cell) (n : ℕ) (before : List (List Cell)) (latest : List Cell) → Follows rule cells n before latest
     → touches_edge latest ≡ false
     → (g : ℕ) → g < n + 1 → touches_edge (after rule cells g) ≡ false
@@ -78,8 +78,8 @@ recurs_then rule cells n limit before latest later dx dy h low next_is is = reco
   least = λ p ex ey some less back. h.new p ex ey some (omega arith) back;
 }
 
--- if the next generation is the pattern again, and the latest one doesn't touch the edge, then no generation before the
--- next one touches the edge
+-- By `Follows`, no generation before the latest touches the edge. If the latest one doesn't either, and the next one is
+-- the pattern again, then no generation touches the edge before the pattern recurs.
 pub inside_then : (rule : Numbers) (cells : List Cell) (n : ℕ) (before : List (List Cell)) (latest later : List Cell) (dx dy : ℤ)
     → Follows rule cells n before latest
     → touches_edge latest ≡ false → later ≡ next rule latest → shifted dx dy cells ≡ later → (g : ℕ) → NeverRecurs rule cells g

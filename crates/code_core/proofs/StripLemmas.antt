@@ -107,13 +107,13 @@ strip_more-live cells width k gap x value whole text new h some is so_far e =
     ap (λ t. t ++ remainder) e ∙ append_assoc text (spelled (strip_tokens (replicate gap 0 ++ value ∷ []))) remainder
     ∙ ap (λ t. text ++ t) (sym (remainder_text-live cells width k gap x value h some is)) ∙ so_far
 
--- the step of this loop at an empty column: the gap grows by 1, and nothing is written
+-- the step of the loop in `push_strip` at an empty column: the gap grows by 1, and nothing is written
 pub strip_more-empty : (cells : List Cell) (width k gap x value : ℕ) (whole text : List ℕ) → x < width → value ≡ 0 → value ≡ column cells k x
     → text ++ remainder_text cells width k gap x ≡ whole → text ++ remainder_text cells width k (gap + 1) (x + 1) ≡ whole
 strip_more-empty cells width k gap x value whole text h none is so_far =
     ap (λ t. text ++ t) (sym (remainder_text-empty cells width k gap x value h none is)) ∙ so_far
 
--- when this loop ends, the text of the strip has been written
+-- when the loop in `push_strip` ends, the text of the strip has been written
 pub strip_done : (cells : List Cell) (width k gap x : ℕ) (start text : List ℕ) → width ≤ x
     → text ++ remainder_text cells width k gap x ≡ start ++ remainder_text cells width k 0 0 → text ≡ start ++ spelled (strip_tokens (strip cells width k))
 strip_done cells width k gap x start text h so_far =

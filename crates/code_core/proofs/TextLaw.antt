@@ -21,7 +21,7 @@ use Rattle.code_core.proofs.TextLemmas.{tokens_of-lawful, tokens_of-shape}
 use Rattle.code_core.proofs.WholeGaps.{tokens_of-whole}
 use Rattle.code_core.proofs.TokenCells.{box_cells, cells_from-joined, column_cells, strip_cells}
 
--- ---- each cell in a box's columns and rows is one of the box's cells
+-- ---- `box_cells` has each cell in the first `width` columns of the first n strips
 
 at_or_after : (a i n : ℕ) → a ≤ i → i < a + suc n → (i ≡ a) ⊎ ((a + 1 ≤ i) × (i < (a + 1) + n))
 at_or_after a i n h k = elim (cases_lt a i) [ inl past ↦ inr (omega arith, omega arith) | inr most ↦ inl (omega arith) ]

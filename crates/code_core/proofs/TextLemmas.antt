@@ -86,7 +86,7 @@ tokens_of-lawful cells right bottom h =
     let strips = range_with_len 0 (bottom / 5 + 1) in
     lawful-joined (map f strips) (All-map (All IsToken) f strips (λ i d l. lawful-strip_of cells right (get_or strips i d) h))
 
--- ---- the text is short
+-- ---- the text has at most 327 bytes
 
 -- the text of a gap of 4 columns or more has two bytes
 long_gap_text : (n : ℕ) → 4 ≤ n → length (gap_text n) ≡ 2

@@ -98,7 +98,7 @@ lit_cells-column cells k x =
 
 -- ---- the tokens of a strip
 
--- the cells of tokens that follow a strip don't depend on the column at which the tokens begin
+-- the tokens can follow those of strip k: their cells don't depend on the column at which they begin
 abbrev pub FollowsStrip : ℕ → List Token → Type 0
 FollowsStrip k more = (a b : ℕ) → cells_from k a more ≡ cells_from k b more
 

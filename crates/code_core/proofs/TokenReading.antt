@@ -263,7 +263,8 @@ Stops-more BeginsSo start place token text h s = record {
   so = s.so;
 }
 
--- if tokens are read, they spell the text; if a fault is found, it is at the place where reading stops
+-- if tokens are read, they spell the text; if a fault is found, it is a `BadByte` or a `ShortRun`, and `Stops` holds
+-- for its place
 abbrev pub Outcome : ℕ → List ℕ → Result (List Token) WechslerFault → Type 0
 Outcome start text (Ok tokens) = Spells tokens text
 Outcome start text (Err (BadByte place)) = Stops IsBad start text place
@@ -309,7 +310,8 @@ Spells-tokens_at tokens text place e = subst (λ (r : Result (List Token) Wechsl
 pub tokens_at-Spells : (tokens : List Token) (text : List ℕ) (place : ℕ) → Spells tokens text → tokens_at place text ≡ Ok tokens
 tokens_at-Spells tokens text place s = ap (λ (t : List ℕ). tokens_at place t) (sym s.spelled) ∙ tokens_at-spelled tokens s.each place
 
--- a fault is found at a place if and only if reading stops there
+-- a `BadByte` or a `ShortRun` is found at a place if and only if `Stops` holds for the place: tokens spell the text
+-- up to there, and the remainder begins with the fault
 pub Stops-bad : (text : List ℕ) (start place : ℕ) → tokens_at start text ≡ Err (BadByte place) → Stops IsBad start text place
 Stops-bad text start place e = subst (λ (r : Result (List Token) WechslerFault). Outcome start text r) e (tokens_at-outcome text start)
 

@@ -52,8 +52,8 @@ number_in code = digits_value 10 (take_while is_digit (drop 1 (from_letter code)
 abbrev pub is_code_byte : ℕ → Bool
 is_code_byte b = is_character b || b == 95
 
--- An apgcode has 1 to 400 bytes, each of which is `0` to `9`, `a` to `z` or `_`. The bound is this project's own: the
--- longest text of an object has 327 bytes, and the rest of the apgcode fewer than 30.
+-- An apgcode has 1 to 400 bytes, each one of `0` to `9`, `a` to `z` and `_`. The limit of 400 is this project's own: an
+-- object's text has at most 327 bytes, and the rest of its apgcode fewer than 30 if the number in it fits in 64 bits.
 pub record HasCodeShape (code : List ℕ) : Type 0 where
   pub some : 1 ≤ length code
   pub short : length code ≤ 400

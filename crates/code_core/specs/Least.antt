@@ -10,7 +10,7 @@ use Rattle.code_core.specs.Apgcodes.{code_text}
 use Rattle.code_core.specs.Names.{IsLeastOf, kind_of, number_of, text_cmp}
 use Rattle.code_core.specs.Texts.{text}
 
--- the earlier of two texts, or the only one
+-- the one of two texts that comes first in the order `text_cmp`, the only text if just one is given, or `None`
 abbrev pub earlier_text : Option (List ℕ) → Option (List ℕ) → Option (List ℕ)
 earlier_text None b = b
 earlier_text (Some a) None = Some a

@@ -60,7 +60,7 @@ pub record IsCode (rule : Numbers) (cells : List Cell) (limit : ℕ) (code : Lis
   pub is_least : IsLeastOf (IsImageText rule cells recurrence.period) least
   pub spelled : code ≡ code_text (kind_of recurrence) (number_of (kind_of recurrence) cells recurrence) least
 
--- a pattern that isn't empty has at most one apgcode
+-- a pattern that isn't empty has at most one apgcode under a rule and a limit
 abbrev pub CodesAreDetermined : Type 0
 CodesAreDetermined = (rule : Numbers) (cells : List Cell) (limit : ℕ) (one other : List ℕ)
     → cells ≢ [] → IsCode rule cells limit one → IsCode rule cells limit other → one ≡ other

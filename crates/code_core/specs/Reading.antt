@@ -33,8 +33,8 @@ abbrev pub with_token : Token → Result (List Token) WechslerFault → Result (
 with_token token (Ok tokens) = Ok (token ∷ tokens)
 with_token token (Err fault) = Err fault
 
--- the tokens of a text whose first byte is at this place, or the first fault: a byte that isn't a character, or a `y`
--- (121) with no character after it
+-- the tokens of the rest of a text, which begins at this place, or the first fault in it: a byte that isn't `0` to `9`
+-- or `a` to `z`, or a `y` (121) with none of these after it
 unfoldable pub tokens_at : ℕ → List ℕ → Result (List Token) WechslerFault
 tokens_at place [] = Ok []
 tokens_at place (b ∷ []) =

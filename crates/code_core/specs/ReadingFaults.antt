@@ -17,7 +17,7 @@ pub record IsBadByte (text : List ℕ) (place : ℕ) : Type 0 where
   pub within : place < length text
   pub bad : is_character (slice_index text place) ≡ false
 
--- the run at the place is short: tokens spell the bytes before it, and it is a `y` (121) with no character after it
+-- the run at the place has no length: tokens spell the bytes before it, and no character follows its `y` (121)
 pub record IsShortRun (text : List ℕ) (place : ℕ) : Type 0 where
   pub tokens : List Token
   pub before : Spells tokens (take place text)

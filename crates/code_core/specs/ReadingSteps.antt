@@ -22,8 +22,8 @@ abbrev pub IsStuck : List ℕ → Type 0
 IsStuck [] = Unit {0}
 IsStuck (b ∷ remainder) = is_character b ≡ true → (b ≡ 121) × (has_character remainder ≡ false)
 
--- the fault at a place where no token begins: a short run if a character is there (it is a `y` without a length), a bad
--- byte if another byte is there, and `None` at the end of the text
+-- the fault at a place where no token begins: `ShortRun` if a character is there (it is a `y` without a length),
+-- `BadByte` if another byte is there, and `None` at the end of the text
 abbrev pub fault_without_token : ℕ → List ℕ → Option WechslerFault
 fault_without_token place [] = None
 fault_without_token place (b ∷ remainder) = Some (if is_character b then ShortRun place else BadByte place)

@@ -11,7 +11,7 @@ use Rattle.plane_core.specs.plane.Rules.{Numbers}
 use Rattle.code_core.specs.declared.recurrence.Recurrence.{Recurrence}
 
 -- the pattern recurs: after the period, which is from 1 to the limit, it is the same pattern again, moved by (dx, dy),
--- and none of the generations in between is a moved copy of the pattern
+-- and none of the generations in between is the pattern again, moved or not
 pub record Recurs (rule : Numbers) (cells : List Cell) (limit : ℕ) (r : Recurrence) : Type 0 where
   pub some : 1 ≤ r.period
   pub within : r.period ≤ limit

@@ -1,4 +1,4 @@
-//! Apgcodes: Catagolue's names of patterns that recur.
+//! Apgcodes: Catagolue's names of patterns that recur. The spaces in these examples aren't part of the apgcodes:
 //!
 //! ```text
 //! xs 4 _ 33       a still life of 4 cells, whose text is 33
@@ -58,7 +58,8 @@ impl Kind {
 /// shorter texts come first, and texts of the same length are in ASCII order. If the object is too large for a text,
 /// the apgcode is only `ov_s`, `ov_p` or `ov_q` and the same number. Three examples: `xs4_33`, `xq4_153`, `ov_s56`.
 ///
-/// Apgcodes are compared and hashed by their texts, byte by byte. Contracts see an apgcode as its text.
+/// Apgcodes are compared and hashed as whole texts, such as `xs4_33`, byte by byte. In contracts, an apgcode is the
+/// list of the bytes of this text.
 #[derive(Drop)]
 pub struct Apgcode {
     text: String,
@@ -135,7 +136,7 @@ impl Apgcode {
     }
 }
 
-/// The laws that the text of an apgcode determines its kind, and also its number if the number fits in 64 bits.
+/// The laws that the kind of an apgcode can be read from its bytes, and also its number if the number fits in 64 bits.
 #[tactic(auto, using(crate::proofs::ApgcodeLemmas::kind_of_name, crate::proofs::ApgcodeLemmas::number_of_name))]
 pub fn readings()
     ensures kind { (kind : Kind) (number : ℕ) (text : Option (List ℕ)) → kind_in (code_text kind number text) ≡ kind }

@@ -11,7 +11,7 @@
 //! lying: 111      upright: 7                    two texts, of which 7 is the shorter one: xp2_7
 //! ```
 //!
-//! The phases are kept, so they aren't made again for their texts. No text is made of a pattern that doesn't recur.
+//! The phases are kept, so they aren't made again for their texts. No text is made for a pattern that doesn't recur.
 
 ghost use Rattle.std.specs.Prelude.{Option, ℕ, ◌≡◌, ◌≢◌, ◌<◌, ◌≤◌, [], Some, Err, length, option_map};
 ghost use Rattle.std.specs.Prelude.{string_bytes, IfOk};
@@ -46,7 +46,8 @@ use std::cmp::Ordering;
 ///   has such a cell, the error is returned before any memory is asked for.
 /// - [`StepError::Memory`] if memory runs out.
 ///
-/// The generations are made in order until one of them is the pattern again. The first error ends the search.
+/// Unless a quick test shows that the pattern doesn't recur, its generations are made in order, up to `limit` or until
+/// one of them is the pattern again. The first error ends the search.
 ///
 /// # Examples
 ///
@@ -154,7 +155,8 @@ fn least_image(
     Ok(least)
 }
 
-/// Returns the earlier of two texts, the only one if just one is given, or `None` if none is given.
+/// Returns the one of two texts that comes first in [`text_order`], the only text if just one is given, or `None` if
+/// none is given.
 fn earlier(one: Option<String>, other: Option<String>) -> Option<String>
     ensures { option_map string_bytes result
         ≡ earlier_text (option_map string_bytes one) (option_map string_bytes other) }

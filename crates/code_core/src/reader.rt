@@ -137,7 +137,7 @@ pub fn read_wechsler(alloc: Global, text: &str) -> Result<Pattern, WechslerError
     ensures complete { (cells : List Cell) → Says text.now cells → cells ≢ [] → length text.now ≤ 10000
         → MatchResult result (λ read. read ≡ cells) (λ error. error ≡ Memory out_of_memory) }
 
-    // When each fault occurs.
+    // The last four clauses say exactly when each fault is returned.
     ensures too_long { IsErrOf result (WechslerError.Fault TooLong) ↔ (10000 < length text.now) }
     ensures bad_byte { (place : ℕ) → length text.now ≤ 10000 →
         (IsErrOf result (WechslerError.Fault (BadByte place)) ↔ IsBadByte text.now place) }

@@ -28,7 +28,8 @@ pub struct Recurrence {
 
 impl Recurrence {
     /// Returns how `pattern` recurs under `rule`, or `None` if none of the generations 1 to `limit` is the pattern
-    /// again, moved or not. The generations are made in order until one of them is the pattern again.
+    /// again, moved or not. Unless a quick test shows that the pattern doesn't recur, its generations are made in
+    /// order, up to `limit` or until one of them is the pattern again.
     ///
     /// `pattern` must not be empty, and `limit` must be from 1 to 64.
     ///
@@ -69,8 +70,8 @@ pub struct Cycle {
     pub recurrence: Recurrence,
 }
 
-/// Returns `None` at once if a quick test shows that the pattern doesn't recur within `limit` generations. Otherwise
-/// follows the pattern as [`follow`] does.
+/// Follows the pattern as [`follow`] does, unless a quick test shows that the pattern doesn't recur within `limit`
+/// generations. Then returns `None`. A pattern that touches the edge isn't tested: the error is returned first.
 pub(crate) fn follow_or_reject(
     alloc: Global,
     pattern: &Pattern,
@@ -146,7 +147,7 @@ fn search(
     Ok(None)
 }
 
-/// Follows the pattern as [`follow`] does. Each phase is made once, and is kept until the search ends.
+/// Follows the pattern as [`follow`] does, but keeps its generations from the start, however large the pattern is.
 fn keep_phases(
     alloc: Global,
     pattern: &Pattern,

@@ -97,8 +97,8 @@ fn left_by_writes(alloc: Global, errors: FaultyWriter) -> Left {
     )
 }
 
-// If a line about a report line can't be written, the command ends. If the line about missing soups can't be written,
-// the haul and the status are the same as without this failure.
+// If a line about a report line can't be written, the command fails and prints no haul. If the line about missing soups
+// can't be written, the haul and the status are the same as without this failure.
 #[test]
 fn ends_if_a_line_is_not_told(rt: HostRuntime) {
     for bad in [1, 26, TOLD_OF_LINES] {

@@ -10,7 +10,7 @@ use plane_core::output::Out;
 use std::sync::Wait;
 use std::thread::Threads;
 
-// Under the profile of `plan_of`, none of these soups settles, so each of them is late.
+// Under the profile of `plan_of`, none of these soups settles. An unsettled soup counts as late.
 const LINES: &[u8] = b"report 2 rule=b3s23 profile=1,1,1,0 seed= worker=1 soup=0 unsettled\n\
     report 2 rule=b3s23 profile=1,1,1,0 seed= worker=1 soup=1 unsettled\n\
     report 2 rule=b3s23 profile=1,1,1,0 seed= worker=1 soup=2 unsettled\n";

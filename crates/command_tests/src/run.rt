@@ -19,7 +19,8 @@ const UPRIGHT: &[u8] = b"O\nO\nO\n";
 /// The coordinates of the blinker after one generation.
 const COORDINATES: &[u8] = b"1 -1\n1 0\n1 1\n";
 
-/// The sizes of the blinker from generation 0 to 2.
+/// The lines of `run --sizes` for the blinker from generation 0 to 2. Each line has the generation, the population, and
+/// the first column, first row, last column and last row.
 const SIZES: &[u8] = b"0 3 0 0 2 0\n1 3 1 -1 1 1\n2 3 0 0 2 0\n";
 
 /// Runs an input for one generation of Life, and writes the result as plaintext.

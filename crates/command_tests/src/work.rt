@@ -60,7 +60,7 @@ fn left_by(alloc: Global, count: u64, also: &str, most: u64) -> (Status, Countin
     (status, output.into_inner())
 }
 
-// A complete line is flushed before the next line is begun.
+// If a line can't be flushed, the command fails, and this line is the last one that is written.
 #[test]
 fn tells_a_failed_flush_of_a_line(rt: HostRuntime) {
     for most in 0..2 {

@@ -97,7 +97,7 @@ offered_lawful terms n line report within correct (Whole short checked) =
           (subst (λ (m : ℕ). is_in terms.ranges m ≡ true) (sym number) within)),
     )
 
--- a line with a report of a known worker is correct for the report's number
+-- if examining a line gives a report of a known worker, the line is correct for the report's number
 correct_line : (terms : Terms) (line : List ℕ) (report : Reported) → IsExamined terms.job line (Ok report) → report.worker ≤ terms.workers
     → IsCorrectFor terms.job terms.workers report.number line
 correct_line terms line report (Whole short checked) known =
@@ -143,12 +143,13 @@ offers-closed : (reports : List Reported) → offered (map Offer reports ++ Clos
 offers-closed [] = refl
 offers-closed (r ∷ reports) = ap (λ (more : List Reported). r ∷ more) (offers-closed reports)
 
--- the line has a report that is lawful for the number
+-- examining the line gives a lawful report that has this number
 abbrev pub IsOfLawful : Terms → ℕ → List ℕ → Type 0
 IsOfLawful terms n line = (report : Reported) × IsExamined terms.job line (Ok report) × IsLawfulFor terms n report
 
--- Each arrival offers a report. Each number that has a lawful report has a line with one, and each number of the set
--- that has a correct line has a lawful report.
+-- The arrivals offer `reports`. For each number that a lawful one of these reports has, examining some line gives a
+-- lawful report that has this number. For each number of the set that has a correct line, a lawful one of these reports
+-- has this number.
 pub record AreOfLines (terms : Terms) (lines : List (List ℕ)) (arrivals : List Arrival) : Type 0 where
   pub reports : List Reported
   pub offers : arrivals ≡ map Offer reports

@@ -89,7 +89,7 @@ gathers_opening plan workers bytes reader complaint output errors (inl refused) 
 gathers_opening plan workers bytes reader complaint output errors (inr (job, named, stops)) silent =
     gathers_set plan workers bytes reader job complaint output errors named stops silent
 
--- if a plan's job is valid, the input is read
+-- `gather_reads` isn't false for a plan whose job is valid
 pub reads_named : (plan : Plan) (job : Job) → job_named plan ≡ Ok job
     → gather_reads plan ≡ false → ⊥
 reads_named plan job named unread = let bad : true ≡ false = sym (ap is_ok named) ∙ unread in cc
@@ -118,7 +118,7 @@ is_gathered terms held closed census n reader left errors all same kept took clo
       missing_is = many ∙ ap (λ (t : Terms). length (missing_of t.ranges held.taken)) same;
     }
 
--- once a haul is open, the only complaint that can be correct is `TooLong`, which can't be found without memory
+-- once a haul is open, `gathered_right` allows only the complaint `TooLong`, which can't be found without memory
 long_hides : (terms : Terms) (bytes : List ℕ) → NeedsMemoryAlone (gathered_right terms bytes)
 long_hides terms bytes (Refused refusal) is = absurd is
 long_hides terms bytes (Memory error) is = absurd is
@@ -126,7 +126,8 @@ long_hides terms bytes (ReadFailed error) is = absurd is
 long_hides terms bytes TooLong is = tt
 long_hides terms bytes (WriteFailed error) is = absurd is
 
--- if memory runs out after some lines, and no write failed, this is a correct end of `gather`
+-- if standard error has the diagnostics about the lines gathered so far, no write to it failed, and nothing was written
+-- to standard output, running out of memory is a correct end of `gather`
 gathers_memory : (terms : Terms) (bytes : List ℕ) (reader : Option (List ℕ)) (output errors : Stream) → HasBegun terms reader errors.before errors.after
     → Has output [] → errors.failed ≡ false → Reaches (haul_behaviour terms) reader bytes (Err (Memory out_of_memory)) output errors
 gathers_memory terms bytes reader output errors begun nothing fine = record {
@@ -136,8 +137,8 @@ gathers_memory terms bytes reader output errors begun nothing fine = record {
   fine = fine;
 }
 
--- a complaint that ends the gathering of lines is a correct end of `gather` for the input `bytes`; if the complaint is
--- `TooLong`, there must be more than 2^32 bytes
+-- if nothing was written to standard output, a complaint that ends the gathering of lines is a correct end of `gather`
+-- for the input `bytes`; if the complaint is `TooLong`, this input must have more than 2^32 bytes
 gathers_on : (terms : Terms) (bytes : List ℕ) (reader left : Option (List ℕ)) (complaint : Complaint) (output errors : Stream)
     → (complaint ≡ TooLong → 2 ^ 32 < length bytes)
     → EndsLines terms reader left errors complaint → Has output []
@@ -154,7 +155,8 @@ gathers_on terms bytes reader left TooLong output errors long ends nothing = (
 gathers_on terms bytes reader left (WriteFailed error) output errors long ends nothing =
     inr (record { cut = ends; nothing = nothing })
 
--- a complaint that ends the gathering of lines is a correct end of `gather` for some bytes that may be its input
+-- if nothing was written to standard output, a complaint that ends the gathering of lines is a correct end of `gather`
+-- for some bytes that may be its input
 pub gathers_lines : (terms : Terms) (reader left : Option (List ℕ)) (complaint : Complaint) (output errors : Stream)
     → EndsLines terms reader left errors complaint → Has output []
     → (bytes : List ℕ) × IsInput reader bytes × Reaches (haul_behaviour terms) reader bytes (Err complaint) output errors
@@ -287,7 +289,7 @@ gathers_over plan workers bytes reader job terms outcome output errors named ove
 
 -- ---- how far the input was read
 
--- `HasReadUpTo` holds if no haul was opened and nothing was read
+-- `HasReadUpTo` holds if no haul was opened, nothing was read, and nothing was written to standard error
 pub unread_opening : {R : Type 0} (plan : Plan) (workers : ℕ) (remaining : R → Option (List ℕ)) (input : R) (complaint : Complaint)
     (errors : Stream) → StopsOpening plan complaint → Has errors []
     → HasReadUpTo (gather_opens plan workers) remaining input input errors (Err complaint)

@@ -37,6 +37,6 @@ finishes_accepted held (Err (ReadFailed error)) output f = absurd f
 finishes_accepted held (Err TooLong) output f = absurd f
 finishes_accepted held (Err (Refused refusal)) output f = absurd f
 
--- a failed write isn't out of memory
+-- the complaints `WriteFailed` and `Memory` are different
 pub unwritten : (P : Type 0) (error : WriteError) → WriteFailed error ≡ Memory out_of_memory → P
 unwritten P error is = cc

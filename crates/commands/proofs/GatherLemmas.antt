@@ -270,7 +270,7 @@ all_begun reader left errors size held terms all same = record {
   written = all.written;
 }
 
--- if the line end isn't the end of the input, more lines may follow
+-- if the line end isn't the end of the input, the lines that were read were gathered, and more lines may follow
 pub goes_further : (way : Passage) (held : Held) (end : LineEnd) → (end ≡ Input → ⊥) → HasGatheredTo way held end → HasGatheredLines way held
 goes_further way held Feed more gathered = gathered
 goes_further way held Input more all = absurd (more refl)
@@ -376,7 +376,8 @@ lines_ended_by contents room reader left now first count size held terms old new
 
 -- ---- how much of a line is examined
 
--- if at most 2^24 bytes of a line are kept, the whole line is kept and examined
+-- The first 2^24 + 1 bytes of a line are kept. If these are at most 2^24 bytes, they are the whole line, and it is
+-- examined completely.
 pub looked_whole : {outcome : Result Reported LineFault} (job : Job) (kept line : List ℕ) → kept ≡ take (2 ^ 24 + 1) line → length kept ≤ 2 ^ 24
     → IsChecked job kept outcome → IsExamined job line outcome
 looked_whole {outcome} job kept line is short checked =

@@ -1,4 +1,4 @@
--- What is written for a single report (`PutsReports`): its line, if the report is late and no write has failed.
+-- What is written for a single report (`PutsReports`): its line, if its soup is late and no write has failed.
 use Rattle.std.proofs.Common.{◌≡◌, ◌∙◌, ◌∷◌, ℕ, All, Bool, List, [], Ok, Err, Option, Result, ap, append-nil, false, refl, subst, sym, true, true≢false}
 use Rattle.std.specs.Prelude.{if◌then◌else◌}
 use Rattle.std.specs.Io.KnownBytes.{Appends}
@@ -16,7 +16,7 @@ module _ {V : Type 0} (contents : V → Option (List ℕ)) (from : ℕ) (report 
   lines_are : (b : Bool) → is_late from report.finding ≡ b → late_lines from (report ∷ []) ≡ (if b then report_text report else [])
   lines_are b is = append-nil _ ∙ ap (λ (c : Bool). if c then report_text report else []) is
 
-  -- if a report isn't late, nothing is written
+  -- if the report's soup isn't late, nothing is written
   pub put_early : (s : Output V) → is_late from report.finding ≡ false → PutsReports contents from s s (report ∷ [])
   put_early s early = record {
     right = all_right;
@@ -34,7 +34,7 @@ module _ {V : Type 0} (contents : V → Option (List ℕ)) (from : ℕ) (report 
     stays = λ again. refl;
   }
 
-  -- the line of a late report is written, or a prefix of the line if the write fails
+  -- if the report's soup is late, the report's line is written, or a prefix of the line if the write fails
   pub put_late : {E : Type 0} (s t : Output V) (result : Result (Unit {0}) E) → is_late from report.finding ≡ true → s.failed ≡ false
       → Writes contents s t result (report_text report) → PutsReports contents from s t (report ∷ [])
   put_late s t (Ok done) late fine put = record {

@@ -61,7 +61,7 @@ spent_from None old new prefix consumed spent = tt
 spent_from (Some all) None new prefix consumed spent = absurd consumed
 spent_from (Some all) (Some left) new prefix consumed spent = spent
 
--- all of the input was read if it is at its end
+-- if `read` and then `line` were read, and the input is at its end, `read ++ line` is the whole input
 pub all_read : (start old new : Option (List ℕ)) (read line : List ℕ) → Consumes start old read → Consumes old new line → IfSome old (λ _. IsAtEnd new)
     → IsInput start (read ++ line)
 all_read None old new read line before now end = tt
@@ -110,7 +110,7 @@ pub lines_ended : (read : List ℕ) (lines : List (List ℕ)) → AreEnded read 
 lines_ended read lines ended =
     ap (λ l. input_lines (l ++ [])) ended.spelled ∙ ended_lines lines [] ended.whole ∙ append-nil lines
 
--- if ended lines and then bytes without a line feed were read, these bytes are the last line
+-- if lines that end with a line feed were read, and then bytes without a line feed, these bytes are the last line
 pub lines_bare : (read : List ℕ) (lines : List (List ℕ)) (line : List ℕ) → AreEnded read lines → IsOneLine line → 0 < length line
     → input_lines (read ++ line) ≡ lines ++ line ∷ []
 lines_bare read lines [] ended one some = absurd (omega (arith, some))
@@ -125,7 +125,7 @@ first_lines (Some bytes) None read lines consumed ended = absurd consumed
 first_lines (Some bytes) (Some more) read lines consumed ended =
     (input_lines more, ap input_lines (consumed ∙ ap (λ l. l ++ more) ended.spelled) ∙ ended_lines lines more ended.whole)
 
--- an input of which all was read has nothing left
+-- if `bytes` is the whole input, and all of it was used, nothing is left to read
 pub all_spent : (reader left : Option (List ℕ)) (ahead bytes : List ℕ) → IsInput reader bytes
     → Consumes reader (prepend_known ahead left) bytes → IsSpent reader left
 all_spent None left ahead bytes input consumed = tt
@@ -172,7 +172,7 @@ no_end (ReadFailed error) = refl
 no_end TooLong = tt
 no_end (WriteFailed error) = tt
 
--- if nothing more was read, the prefix is the part that was read
+-- `HasReadPart` holds if a prefix of a line was read, and then nothing more before the complaint
 pub part_kept : (start old new : Option (List ℕ)) (complaint : Complaint) (prefix : List ℕ) → IsOneLine prefix → Consumes start old prefix
     → Keeps old new → HasReadPart start new complaint
 part_kept start old new complaint prefix one consumed same = record {
@@ -183,7 +183,7 @@ part_kept start old new complaint prefix one consumed same = record {
   cut = no_end complaint;
 }
 
--- a whole line that was read before the complaint is the part that was read
+-- `HasReadPart` holds if a whole line was read before the complaint, and the complaint allows the line's end (`MayEnd`)
 pub part_of_line : (room : ℕ) (old new : Option (List ℕ)) (kept : List ℕ) (read : LineRead) (complaint : Complaint) → HasReadLine room old new kept read
     → MayEnd complaint (Some read.end) → HasReadPart old new complaint
 part_of_line room old new kept read complaint is cut =

@@ -45,7 +45,7 @@ whole_piece bytes nowhere there = record {
     go zero not = absurd (not refl)
     go (suc n) not = omega arith
 
--- if there are no bytes, the piece is empty and ends with the input
+-- if there are no bytes, the piece is empty, and the end of the input ends its line
 pub empty_piece : (bytes : List ℕ) → (length bytes == 0) ≡ true → IsPieceOf bytes (record { length = 0; size = 0; end = Some Input })
 empty_piece [] none = record { within = omega arith; bound = omega arith; one = All-nil (λ byte. byte ≢ 10); ended = refl; last = λ is. refl; whole = λ is. cc; some = λ is. cc }
 empty_piece (x ∷ xs) none = let bad : length (x ∷ xs) ≡ 0 = eqb-true (length (x ∷ xs)) 0 none in absurd (omega (arith, bad))

@@ -52,12 +52,13 @@ module _ {V : Type 0} {contents : V → Option (List ℕ)} {plan : Plan} {worker
   abbrev pub ReachesReporting : Option (List ℕ) → List ℕ → Outcome → Stream → Type 0
   ReachesReporting reader bytes outcome output = Reaches (reporting_behaviour plan workers from) reader bytes outcome output told_on
 
-  -- if no write has failed, the lines of late soups were added completely
+  -- if no write has failed, the line of each late soup that was reported so far was written completely
   told_so_far : new.failed ≡ false → TellsLate plan workers from told_on.before told_on.after
   told_so_far fine =
       record { reports = h.heard.reports; are = reports_of_plan is h.heard; written = (h.heard.heard.whole fine).1 }
 
-  -- running out of memory is a correct end of the command if no write has failed
+  -- if no write of a line has failed, and nothing was written to the output, running out of memory is a correct end of
+  -- the command
   lacks : (reader : Option (List ℕ)) (bytes : List ℕ) (output : Stream) → Has output [] → new.failed ≡ false
       → ReachesReporting reader bytes (Err (Memory out_of_memory)) output
   lacks reader bytes output nothing fine = record {
@@ -144,7 +145,7 @@ reporting_ends {contents = contents} {plan = plan} {workers = workers} {from = f
     subst (λ (o : Outcome). Reaches (reporting_behaviour plan workers from) reader bytes o output (stream contents old new)) (sym gives_up.0)
     (reporting_gives_up is h reader bytes complaint output h.stops gives_up.1)
 
--- if the command is done, it has printed the census of the plan
+-- if the status is `Done`, the command has printed the census of the plan
 pub reporting_prints : (plan : Plan) (workers from : ℕ) (reader : Option (List ℕ)) (bytes : List ℕ) (status : Status) (output errors : Stream)
     → Ends (reporting_behaviour plan workers from) reader bytes status output errors → status ≡ statuses.Done
     → PrintsCensus plan output.before output.after
@@ -155,7 +156,7 @@ reporting_prints plan workers from reader bytes status output errors ends done =
     go (Ok missing) is done = prints_right plan is.made.text output.before output.after is.is.0 is.text
     go (Err complaint) is done = absurd (not_done complaint done)
 
--- if the command is done, no write to standard error has failed
+-- if the outcome is `Ok`, no write to standard error has failed
 pub fine_if_done : (plan : Plan) (workers from : ℕ) (outcome : Outcome) (output errors : Stream)
     → Reaches (reporting_behaviour plan workers from) None [] outcome output errors → OnOk outcome (errors.failed ≡ false)
 fine_if_done plan workers from (Ok missing) output errors is = is.fine

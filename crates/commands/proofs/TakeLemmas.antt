@@ -171,7 +171,7 @@ Stops_job plan next (ReadFailed error) refused = absurd (job_refused plan (ReadF
 Stops_job plan next TooLong refused = absurd (job_refused plan TooLong refused)
 Stops_job plan next (WriteFailed error) refused = absurd (job_refused plan (WriteFailed error) refused)
 
--- a complaint that may end a command before its haul is open stops the command
+-- a complaint that may end a command before its haul is open (`StopsOpening`) may end it before it writes (`Stops`)
 pub Stops_opening : (plan : Plan) (tells : Job → List Range → List ℕ → Type 0) (complaint : Complaint)
     → StopsOpening plan complaint
     → Stops (IsRightGiven (job_named plan) (λ j. IsRightForSet plan.set (tells j))) complaint
@@ -195,7 +195,7 @@ pub right_given : (plan : Plan) (next : Job → Right) (job : Job) (text : List 
     → job_named plan ≡ Ok job → next job (Ok text) → IsRightGiven (job_named plan) next (Ok text)
 right_given plan next job text named right = rw named right
 
--- a set that has ranges has a valid range list
+-- if `AreRangesOf` holds for some ranges, the range list of the set is valid
 pub listed : (set : SoupSet) (ranges : List Range) → AreRangesOf set ranges → IsListText set.also
 listed set ranges of = record { ranges = of.listed; fit = of.fit; spelled = of.spelled }
 
@@ -231,7 +231,7 @@ in_set ranges normal taken n form missing =
     ∙ All-contains (λ m. is_in normal m ≡ true) (missing_of normal taken) n
     (All-filter (λ m. not (is_taken taken m)) (λ m. is_in normal m ≡ true) (numbers_of normal) (numbers_within normal)) missing
 
--- the census of a haul that was opened for a job and a set is the census of that job and set
+-- the census of a haul has the job and the ranges for which the haul was opened
 counted_by : {workers : ℕ} (job : Job) (set : SoupSet) (opened held : Held) (census : Census) → IsOpened job set workers opened
     → HasTakenMore opened held → IsCensus held.terms.job held.terms.ranges (numbers_in held.taken) census
     → IsCensus job opened.terms.ranges (numbers_in held.taken) census

@@ -201,7 +201,7 @@ puts_early job worker ranges k complaint output h =
 
 -- ---- there is only one correct text
 
--- two reports of a worker on one soup are equal
+-- two right reports of a worker on one soup, for one job, are equal
 same_report : FindingsAreDetermined → (job : Job) (worker n : ℕ) (r s : Reported) → IsReportOn job worker n r → IsReportOn job worker n s → r ≡ s
 same_report determined job worker n r s one other = λ i. record {
   job = (one.job_is ∙ sym other.job_is) i;

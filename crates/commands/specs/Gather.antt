@@ -12,7 +12,7 @@ use Rattle.commands.specs.Lines.{IsSpent}
 use Rattle.commands.specs.LinesSoFar.{AreAllEnded, HasBegun, HasBegunUpTo}
 use Rattle.commands.specs.SoupSets.{job_named}
 
--- the input is read if the job is valid
+-- the job is valid, so the input may be read (but it isn't read if the set is refused)
 abbrev pub gather_reads : Plan → Bool
 gather_reads plan = is_ok (job_named plan)
 

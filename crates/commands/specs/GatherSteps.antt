@@ -50,7 +50,7 @@ abbrev pub HasGatheredTo : Passage → Held → LineEnd → Type 0
 HasGatheredTo passage held Feed = HasGatheredLines passage held
 HasGatheredTo passage held Input = HasGatheredAll passage.reader passage.left passage.errors passage.size held
 
--- all lines of an input of at most 2^32 bytes were gathered; up to 2^16 bytes were read and not used
+-- all lines of an input of at most 2^32 bytes were gathered; if the bytes of the input are known, `ahead` is empty
 pub record HasGatheredShort (reader left : Option (List ℕ)) (errors : Stream) (held : Held) : Type 0 where
   pub size : ℕ
   pub short : size ≤ 2 ^ 32

@@ -35,8 +35,8 @@ IsChecked job line (Err OtherJob) = (claim : Claimed) × Claims line claim × (s
 IsChecked job line (Err Disagrees) = (claim : Claimed) × Claims line claim × (same_job claim.job job ≡ true) × IsWrong claim
 IsChecked job line (Err _) = ⊥
 
--- The place at which a line is bad if it begins with this prefix of 2^24 bytes and is longer: the first fault of the
--- prefix, or 2^24 if the prefix is a claim's line.
+-- A line that is longer than 2^24 bytes, and begins with this prefix of 2^24 bytes, is bad at this place: the first
+-- fault of the prefix, or 2^24 if the prefix is a claim's line.
 abbrev pub IsPrefixFault : List ℕ → ℕ → Type 0
 IsPrefixFault prefix place = IsFirstFaultOf prefix place ⊎ ((claim : Claimed) × Claims prefix claim × (place ≡ 2 ^ 24))
 

@@ -50,7 +50,7 @@ pub record HasReadLine (room : ℕ) (old new : Option (List ℕ)) (kept : List �
   pub short : read.size ≤ room
   pub last : read.end ≡ Input → IsSpent old new
 
--- the bytes that end the line after a piece: none if the line goes on
+-- the bytes of the line end that follows a piece of a line: none if the line goes on after the piece
 abbrev pub piece_end : Option LineEnd → List ℕ
 piece_end None = []
 piece_end (Some end) = end_bytes end

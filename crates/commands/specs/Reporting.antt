@@ -45,8 +45,8 @@ pub record BreaksOffLate (plan : Plan) (workers from : ℕ) (errors : Stream) : 
   pub are : AreReportsOf plan workers reports
   pub written : HasPrefix errors (late_lines from reports)
 
--- what is right: the haul text of the complete haul and, as diagnostics, the report lines of all late soups; or else a
--- complaint that is right for `take`
+-- what is right for `take --report-from`: the haul text of the complete haul and, as diagnostics, the report lines of
+-- all late soups; or else a complaint that is right for `take`
 abbrev pub reporting_right : Plan → (workers from : ℕ) → Makes
 reporting_right plan workers from (Ok made) =
     take_right plan (Ok made.text) × TellsAllLate plan workers from made.diagnostics × (made.missing ≡ 0)

@@ -41,7 +41,7 @@ pub record TellsTaken (lets : ℕ → ℕ → Type 0) (workers : ℕ) (job : Job
   pub text_is : text ≡ haul_text census
 
 -- What is right if the gate may have stopped a worker: the haul text of an incomplete haul, which lacks `missing`
--- soups. The parts of the job are checked before the set.
+-- soups; or else a refusal. The parts of the job are checked before the set.
 abbrev pub stopped_right : (may_stop lets : ℕ → ℕ → Type 0) → Plan → (workers missing : ℕ) → Right
 stopped_right may_stop lets plan workers missing =
     IsRightGiven (job_named plan) (λ job. IsRightForSet plan.set (λ ranges text.

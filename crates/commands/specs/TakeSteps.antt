@@ -27,7 +27,7 @@ Stops right (ReadFailed error) = ⊥
 Stops right TooLong = ⊥
 Stops right (WriteFailed error) = ⊥
 
--- a complaint about a set that may end a command before it writes: a refusal that is right, or out of memory if the
+-- which complaints about a set may end a command before it writes: a refusal that is right, or out of memory if the
 -- list of ranges is valid
 abbrev pub StopsSet : SoupSet → Complaint → Type 0
 StopsSet set (Refused refusal) = IsRefused set refusal

@@ -69,8 +69,8 @@ fn put_census<W: Write>(census: &Census, output: &mut Out<W>) -> Result<(), Writ
 }
 
 /// Finishes a haul if `taken` is `Ok`. Otherwise returns the complaint in `taken`, which must not be a refusal, and
-/// prints nothing. This is a function of its own because the end of a function that owns the haul is expensive to
-/// prove.
+/// prints nothing. This is a function of its own because its callers own the haul, and each further exit of a function
+/// that owns the haul is expensive to prove.
 pub(crate) fn finish_unless<W: Write>(
     taken: Result<(), Complaint>,
     haul: &mut Haul,

@@ -27,7 +27,7 @@ use std::io::Read;
 /// The most bytes of a line that are examined: 2^24, far more than a report line of a census has.
 pub(crate) const LINE_LIMIT: usize = 16_777_216;
 
-/// The most bytes of report lines that are gathered, and so the most bytes of a line: 2^32.
+/// The most bytes that an input of `gather` may have, and so the most bytes of a line: 2^32.
 pub(crate) const GATHER_LIMIT: u64 = 4_294_967_296;
 
 /// What ends a line.
@@ -59,7 +59,7 @@ struct Piece {
     end: Option<LineEnd>,
 }
 
-/// The lines of an input, which is lent anew for each line.
+/// The lines of an input. The input isn't held here: each call of [`next`](Self::next) borrows it.
 #[derive(Drop)]
 pub(crate) struct Lines {
     /// What was read beyond the latest line.

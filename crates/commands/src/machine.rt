@@ -6,7 +6,8 @@ use std::io::Write;
 
 /// What `take` gets from the machine that it runs on: memory, threads, standard error, and an observer of its progress.
 ///
-/// The other commands start no threads and report no progress, so they get only the allocator and standard error.
+/// Of these, the other commands get only the allocator and standard error, because they start no threads and report no
+/// progress.
 #[derive(Drop)]
 pub struct Machine<'a, T, E: Write, H> {
     /// The allocator.

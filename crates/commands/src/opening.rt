@@ -85,8 +85,8 @@ fn haul_for(alloc: Global, job: Job, set: &SoupSet<'_>, workers: u8) -> Result<H
     }
 }
 
-/// Returns the normal form of the ranges of a set. Refuses ranges that are too large for a haul, or that share a
-/// number.
+/// Returns the normal form of the ranges of a set. Refuses a list of ranges that isn't valid, a range that ends past
+/// 2^40, and ranges that have more than 2^24 numbers together or share a number.
 fn normal_ranges(alloc: Global, set: &SoupSet<'_>) -> Result<Ranges, Complaint>
     ensures normal { IfOk result (AreNormalRanges set.now) }
     ensures stops { IfErr result (StopsSet set.now) }

@@ -1,4 +1,4 @@
-//! The report lines that `take` writes to standard error while its census runs.
+//! The report lines of late soups, which `take --report-from` writes to standard error while its census runs.
 //!
 //! ```text
 //! collector ── report ──> late? ── no ───> nothing

@@ -170,7 +170,8 @@ fn end_of_crew(
     match why {
         None => Ok(()),
         Some(CrewError::Memory(error)) => Err(Complaint::Memory(error)),
-        // The gate stops a worker only after a failed write, but no contract says so.
+        // Neither occurs: the gate stops a worker only after a failed write, and only a closed haul gives `Closed`. But
+        // the contracts that are used here don't say so.
         Some(CrewError::Stopped { .. } | CrewError::Closed) => Err(write_failed(fault)),
     }
 }
@@ -201,8 +202,8 @@ impl Write for NoRoom {
     }
 }
 
-/// Returns the error of a write to a writer without room. This error stands in for the error of the line that wasn't
-/// written. The sink keeps the error of that line, but no contract says so.
+/// Returns the error of a write to a writer without room, for a failed write whose own error isn't known. In fact, that
+/// error is always known, because the sink keeps it, but no contract says so.
 fn no_room() -> WriteError {
     let mut output = Out::new(NoRoom);
     match output.put(b"\n") {

@@ -40,8 +40,8 @@ use std::thread::Threads;
 /// Each worker has a thread of its own. The output is the same for any number of workers. Each number of the profile
 /// has to be in its range, and no earlier write to either writer may have failed. The seed is checked first, then the
 /// profile, the rule, the list of ranges, the size of the ranges, and finally whether two ranges share a number.
-/// Nothing is written before the haul is complete. The machine's observer receives the progress, and nothing else
-/// depends on the observer. `census take` is this call with the standard streams.
+/// Nothing is written to `output` before the haul is complete. The machine's observer receives the progress, and
+/// nothing else depends on the observer. `census take` is this call with the standard streams.
 ///
 /// # Errors
 ///

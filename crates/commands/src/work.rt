@@ -87,7 +87,8 @@ fn work<W: Write>(
         → EndsAtLine plan.now worker (stream W.contents output.old output.new)) }
 {
     let soups = soups_of(alloc, plan)?;
-    // For the prover: there is one right text, and each line that is written is one of its lines.
+    // For the prover: a soup has only one finding, and a set of soups only one normal form. So only one text is right,
+    // and what is written is always a prefix of it.
     findings_are_determined();
     one_normal_form();
     put_all(alloc, &soups.job, worker, &soups.ranges, output)

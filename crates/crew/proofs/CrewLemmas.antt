@@ -160,8 +160,8 @@ module _ {before after : Collector} {answered : Bool} (c : Collected before afte
       subst (λ (l : List Reported). IsSubsequence (part ++ more) l) (sym (reports_push c.notes (sender, Report r)))
       (part_append part (reports_in c.notes) more (r ∷ []) p q)
 
-  -- a report that was lost before is still lost after the next report, whether or not the haul takes the next one
-  -- (`more`)
+  -- a report that was lost before is still lost after the next report `r`; `more` has `r` if the haul takes it, and is
+  -- otherwise empty
   lost_more : (r : Reported) (sender : ℕ) (more : List Reported) → IsSubsequence more (r ∷ [])
       → HasLost (reports_in c.notes) c.part before.haul
       → HasLost (reports_in (c.notes ++ (sender, Report r) ∷ [])) (c.part ++ more) before.haul

@@ -61,7 +61,7 @@ one_at_most : (b : Bool) → cond {A = ℕ} b 1 0 ≤ 1
 one_at_most true = omega arith
 one_at_most false = omega arith
 
--- in a list of some numbers below a bound, no number occurs twice
+-- if `AreSomeBelow` holds for a list of numbers, no number occurs twice in the list
 pub once_if_some_below : (m : ℕ) (numbers : List ℕ) → AreSomeBelow m numbers → (n : ℕ) → count_by (nat_eq n) numbers ≤ 1
 once_if_some_below m numbers some n =
     let below = some n in

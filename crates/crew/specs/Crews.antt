@@ -70,8 +70,8 @@ abbrev pub collector_with : ℕ → Received Note → Held → Collector
 collector_with awaited receiver haul = record { awaited = awaited; receiver = receiver; haul = haul }
 
 -- Notes were received from the workers, and each note "done" reduces the number of awaited workers by one. If no worker
--- is awaited any more, the last note, if there is one, is a note "done". The haul has taken some of the reports among
--- the notes. If `answered`, it has taken all that the book takes, so it has their soups. Otherwise a report was lost.
+-- is awaited any more, the last note, if any, is a note "done". The haul has taken some of the reports among the notes.
+-- If `answered`, it has taken all that the book takes, so `HasSoupOf` holds for each report. Otherwise one was lost.
 pub record Collected (before after : Collector) (answered : Bool) : Type 0 where
   pub notes : List (ℕ × Note)
   pub belt : after.receiver.belt ≡ before.receiver.belt

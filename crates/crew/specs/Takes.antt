@@ -60,8 +60,8 @@ pub data WorkerEnd : Type 0 where
   LackedMemory : WorkerEnd
   NeverBegan : WorkerEnd
 
--- The worker may end in this way. If the gate stopped it, the gate may stop it at some missing number. If memory ran
--- out, the gate lets it survey some missing number.
+-- The worker may have ended in this way. It can have been stopped only if the gate may stop it at some missing number,
+-- and memory can have run out only if the gate may let it survey some missing number.
 abbrev pub IsPossibleEnd : (may_stop lets : ℕ → ℕ → Type 0) → List ℕ → ℕ × WorkerEnd → Type 0
 IsPossibleEnd may_stop lets missing (worker, NoneLeft) = Unit {0}
 IsPossibleEnd may_stop lets missing (worker, StoppedByGate) = StopsAt may_stop missing worker

@@ -16,7 +16,8 @@ pub(crate) struct Shared {
     pub(crate) belt: Belt<Note>,
     /// The numbers to survey. A ticket is an index into this list.
     pub(crate) missing: Vec<u64>,
-    /// The number of the latest worker for which no thread could be started, or 0 if there is none.
+    /// The number of the latest worker for which no thread could be started, or 0 if there is none. A worker that finds
+    /// its own number here ends at once.
     pub(crate) called_off: AtomicU64,
     ghost listed: { tickets.count ≡ vec_len missing },
     ghost below: { All (λ n. n < number_bound) missing.items },

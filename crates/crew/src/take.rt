@@ -242,9 +242,9 @@ fn end_crew(shared: Shared, crew: Crew) -> (Haul, Option<CrewError>)
         ..
     } = crew;
     let Shared { tickets, belt, .. } = shared;
-    // If all passes are back and one of them got `None`, all numbers were drawn.
+    // For the prover: if all passes are back and one of them got `None`, all numbers were drawn.
     tickets.gather(passes);
-    // What was received from a worker is a prefix of what it presented.
+    // For the prover: what was received from a worker is a prefix of what it presented.
     drop(belt.gather(senders, receiver));
     haul.recall_taken_is_subset();
     haul.recall_complete_if_none_missing();

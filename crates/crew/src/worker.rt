@@ -33,7 +33,8 @@ pub(crate) enum End {
     Stopped,
     /// Memory ran out.
     Memory(OutOfMemory),
-    /// The worker was called off before it began.
+    /// The worker was called off before it began, because no thread could be started for it. `start_worker` replaces
+    /// this end by `Unstarted`.
     CalledOff,
     /// No thread could be started for the worker.
     Unstarted(OutOfMemory),

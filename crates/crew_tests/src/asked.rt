@@ -111,7 +111,7 @@ fn stopped_at_once<R: AllocGlobal + Threads + Wait + Sync>(
     Ok(fault)
 }
 
-// If a soup were surveyed before the gate is asked, the test wouldn't end in time.
+// If a soup were surveyed before the gate is asked, the test would take longer than the minute that `rt` allows.
 #[test]
 fn the_gate_is_asked_before_a_survey(rt: HostRuntime) -> Result<(), Fail> {
     assert!(rt; stopped_at_once(&rt)? == Some(CrewError::Stopped { worker: 1 }));

@@ -72,8 +72,8 @@ impl Gate for Lockstep {
 
     ghost lets = { λ _ worker number. Unit {0} };
 
-    // The soup numbers form blocks of sixteen: 0 to 15, 16 to 31, and so on. A worker goes on only when the gate has
-    // been asked about all numbers of the worker's block.
+    // The workers take the soups in rounds of sixteen: soups 0 to 15, soups 16 to 31, and so on. A worker goes on only
+    // when the gate has been asked about all soups of the worker's round.
     fn before(&self, _worker: u8, number: u64) -> Result<(), Stop> {
         self.patience.come();
         let rounds = (number / 16).saturating_add(1);

@@ -1,5 +1,5 @@
-//! What a crew leaves in a haul, in plain numbers. A test that owned the haul would be expensive to prove, because the
-//! haul would be dropped at each exit.
+//! The result of a crew's run in plain numbers, which a test gets instead of the haul. A test that owned the haul would
+//! be expensive to prove, because the haul would be dropped at each exit of the test.
 ghost use Rattle.std.specs.Prelude.{◌≡◌, ◌≤◌};
 
 use crate::small::haul_of;
@@ -62,8 +62,8 @@ pub(crate) fn go_on<G: Gate + Sync, R: AllocGlobal + Threads + Wait + Sync, H: P
     }
 }
 
-/// Lets `workers` workers take the first `count` soups of a job under a gate, and then what is missing under a gate
-/// that stops nobody.
+/// Lets `workers` workers take the first `count` soups of a job under `gate`, and then lets them take the missing soups
+/// under a gate that stops nobody. Returns the result of the first run, and whether the second completed the haul.
 pub(crate) fn left_by<G: Gate + Sync, R: AllocGlobal + Threads + Wait + Sync>(
     rt: &R,
     job: Job,

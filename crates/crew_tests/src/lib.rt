@@ -1,5 +1,5 @@
-//! Tests of the public calls of `crew` and `handover`. They are in a crate of their own, so that `crew` and `handover`
-//! aren't proved again for them.
+//! Tests of the public calls of `crew` and `handover`. They are in a crate of their own, because tests in
+//! the two crates themselves would make the prover prove both crates twice.
 #![tactic(auto)]
 
 #[cfg(test)]

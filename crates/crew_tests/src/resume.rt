@@ -24,7 +24,8 @@ fn text_of(alloc: Global, haul: &Haul) -> Result<Vec<u8>, Fail> {
 /// What became of a haul that was first left incomplete, then completed, and then closed.
 #[derive(Drop)]
 struct Outcome {
-    /// Why the first crew didn't complete the haul, how many soups were missing then, and whether the haul was closed.
+    /// After the first crew: why it didn't complete the haul, how many soups were missing, and whether the haul was
+    /// closed.
     fault: Option<CrewError>,
     missing: u64,
     is_closed: bool,

@@ -15,7 +15,7 @@ use std::thread::Threads;
 use survey_core::job::Job;
 
 /// Lets `workers` workers take `count` soups. Asserts that they complete the haul or memory runs out, and that another
-/// call completes the haul, which is possible only if the haul is still open.
+/// call of `take` completes the haul, which is possible only if the haul is still open.
 fn assert_taken<R: Abort + AllocGlobal + Threads + Wait + Sync>(
     rt: &R,
     job: Job,
@@ -40,9 +40,9 @@ fn without_memory_two_workers_leave_the_haul_open(rt: HostRuntime) -> Result<(),
     assert_taken(&rt, small_job()?, 4, 2)
 }
 
-// A worker whose thread can't be started must not survey soups in the thread that starts the crew: the belt has room
-// for 64 notes, and nobody receives any before all threads are started. Under this rule all cells die at once, so a
-// soup takes few allocations.
+// A worker whose thread can't be started must not survey soups in the thread that starts the crew. It would sleep
+// forever once the belt is full: the belt has room for 64 notes, and nobody receives any before all threads are
+// started. Under this rule all cells die at once, so a soup takes few allocations.
 #[test]
 fn without_memory_two_hundred_soups_are_taken(rt: HostRuntime) -> Result<(), Fail> {
     let job = Job {

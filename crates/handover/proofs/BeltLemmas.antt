@@ -386,7 +386,7 @@ module _ {N : Type 0} where
       (ap (λ (l : List N). drop (length prefix) l) (is ∙ sym (append-nil prefix)) ∙ drop_prefix prefix [])
       (left_none got es (All-tail (λ (e : ℕ × List N). e.1 ≡ notes_of e.0 got) e es whole))
 
-  -- if the queue is empty, no notes are left
+  -- if the queue is empty, `NothingLeft` holds: no notes are left of the senders whose passes were handed back
   pub none_left : (v : Share N) → Held 0 (HoldsTheRest v)
       → NothingLeft (record { workers = v.made; lists = map (left_over v.got) v.senders })
   none_left v (items, none, tells) =

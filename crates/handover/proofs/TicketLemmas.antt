@@ -73,7 +73,7 @@ none_distinct : IsDistinct nat_eq []
 unfolding IsDistinct
 none_distinct = tt
 
--- a list in which each number occurs at most once has no two equal numbers
+-- `IsDistinct` holds for a list if each number is counted in it at most once
 distinct_of : (xs : List ℕ) → ((n : ℕ) → times n xs ≤ 1) → IsDistinct nat_eq xs
 distinct_of [] once = none_distinct
 distinct_of (x ∷ xs) once =
@@ -344,7 +344,7 @@ joining_more all left old p before now w j is shares marks numbers = record {
       ∙ j.numbers;
 }
 
--- `KnowsAtEnd` holds for the last state of the counter as the kept pass sees it
+-- `KnowsAtEnd` holds for the pass with which the table of the counter is closed
 pub ended : (issue : Issue) (id : ℕ) (v : Holding) (words : List ℕ) (slots : List (Unit {0})) (counter : ℕ) → Final (Seen (IsLawful issue) id v) words slots
     → get_elem? words 0 ≡ some counter → KnowsAtEnd issue v (min counter issue.count)
 ended issue id v words slots counter f is = closes issue id v f.0 counter f.1.0 f.1.1 (ap (λ (l : List ℕ). get_elem? l 0) f.2 ∙ is)

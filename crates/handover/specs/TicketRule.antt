@@ -73,15 +73,15 @@ pub record Draws (s : Step (Unit {0})) (me : Me (Unit {0}) Holding) (n : ℕ) (a
   pub none : me.0.issue.count ≤ n → after.0 ≡ holding_marked me.0
   pub slots : after.1 ≡ me.1
 
--- passes are taken from the end of the list `all` and joined to the kept pass; `left` is what remains of the list
+-- what a pass knows before and after the passes at the end of `all` were joined to it; `left` has the other passes
 pub record Joining (all left : List Drawn) (before after : Holding) : Type 0 where
   pub issue : after.issue ≡ before.issue
   pub shares : after.shares + length left ≡ before.shares + length all
   pub marks : after.marks + how_many_heard left ≡ before.marks + how_many_heard all
   pub numbers : drawn_by_all left ++ after.numbers ≡ drawn_by_all all ++ before.numbers
 
--- What the kept pass knows at the end, if m numbers were drawn: its numbers are below m, no number twice. If it stands
--- for all passes, it has all numbers below m. If it has a mark, m is the count.
+-- What a pass knows when the tickets are closed, if m numbers were drawn: its numbers are below m, no number twice. If
+-- it stands for all passes, it has all numbers below m. If it has a mark, m is the count.
 pub record KnowsAtEnd (issue : Issue) (v : Holding) (m : ℕ) : Type 0 where
   pub once : (n : ℕ) → count_by (nat_eq n) v.numbers ≤ once_below m n
   pub all : v.shares ≡ issue.passes → (n : ℕ) → count_by (nat_eq n) v.numbers ≡ once_below m n

@@ -1,4 +1,5 @@
-//! A queue from several senders to one receiver, which keeps each sender's notes in their order.
+//! A queue from several senders to one receiver, which keeps each sender's notes in their order. In this example, `2 x`
+//! is the note `x` of sender 2:
 //!
 //! ```text
 //!                       presented by 1   queue            received
@@ -77,8 +78,8 @@ impl<N> Outcome<(u8, N), Share<N>> for Put {
     ghost then = { PutsNote };
 }
 
-/// The step in which the receiver takes a note from the front of the queue. The receiver also learns that the queue
-/// holds what was presented and not received.
+/// The step in which the receiver takes a note from the front of the queue. As a `Lesson`, `Get` says that the queue
+/// holds what the senders of the receiver's pass presented and the receiver hasn't received.
 struct Get;
 
 impl<N> Outcome<(u8, N), Share<N>> for Get {
@@ -100,7 +101,7 @@ type Queue<N> = RuledArrayQueue<(u8, N), Share<N>, InOrder>;
 pub struct Belt<N: Drop> {
     queue: Queue<N>,
     workers: u8,
-    /// Notified after each note that is presented; some of these notifications wake nobody.
+    /// Notified after each note that is presented. `present_one_of_many` lets only every eighth note wake the receiver.
     arrived: EventCount,
     /// Notified after each note that is received.
     left: EventCount,
@@ -321,7 +322,7 @@ impl<N: Drop> Belt<N> {
 
 impl<N: Drop> Remainder<N> {
     /// Removes and returns a note, the first of its sender's notes that are left. Returns `None` if no notes are left.
-    /// May wait until it is known whether the queue is empty.
+    /// The queue's `pop_as` needs `rt` to wait for other threads, but no other thread uses the queue any more.
     pub fn next<R: Wait>(&mut self, rt: &R) -> Option<N>
         ensures taken { IfSome result (TookFirst self.old self.new) }
         ensures none { IfNone result (NothingLeft self.old) }

@@ -87,8 +87,8 @@ impl EventCount {
         // It is the counterpart of `notify`: either the notifier finds the sleeper, or the sleeper reads the new count.
         self.sleepers.fetch_add(1, Ordering::SeqCst);
         self.events.park(rt, seen);
-        // At least `Release`: nobody would wake a thread that stops being counted before it sleeps. A thread that is
-        // counted for too long only costs a system call.
+        // At least `Release`. Otherwise this could take effect before `park`, and then nobody would wake the thread. If
+        // it takes effect late, `notify` only makes a system call that isn't needed.
         self.sleepers.fetch_sub(1, Ordering::SeqCst);
     }
 }

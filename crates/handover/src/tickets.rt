@@ -194,13 +194,13 @@ impl Tickets {
     /// `crates/tour_tests/src/threads.rt` draws three numbers.
     #[tactic(auto, using(crate::proofs::TicketLemmas::begins))]
     pub fn open(alloc: Global, count: u64, passes: u8) -> Result<(Tickets, Vec<Pass>), TicketsError>
-        // As many numbers and passes as were asked for. The passes have drawn nothing.
+        // There are as many numbers and passes as were asked for, and the passes have drawn nothing.
         ensures count { IfOk result (λ made. made.0.count ≡ count) }
         ensures passes { IfOk result (λ made. made.0.passes ≡ passes) }
         ensures many { IfOk result (λ made. length made.1.items ≡ passes) }
         ensures fresh { IfOk result (λ made. All (λ p. p ≡ fresh made.0) made.1.items) }
 
-        // When each error is returned.
+        // The last two clauses say exactly when `BadCount` and `BadPasses` are returned.
         ensures bad_count { IsErrOf result BadCount ↔ (2 ^ 24 < count) }
         ensures bad_passes { IsErrOf result BadPasses ↔ ((count ≤ 2 ^ 24) × ¬ AreFew passes) }
     {

@@ -134,7 +134,7 @@ first_old (x ∷ rs) r s h = go (λ y found. first_old rs r y found) (cases_Bool
 
 -- ---- replies
 
--- the reason for which these tests refuse an offer: the first that fits
+-- why an offer is refused if the tests have these results: the first reason that fits, or `None` if the offer is taken
 abbrev pub refuses : Bool → Bool → Bool → Bool → Option ℕ → Option OfferError
 refuses closed job over inside worker =
     if closed then Some Closed
@@ -213,7 +213,7 @@ refused_leaves terms arrivals r reason e = go (why (has_closing arrivals) (same_
         ap (λ (rs : List Reported). map entry (first_of_each rs)) (eligible_unlawful terms arrivals r before (lawful_is terms r ∙ unlawful))
     go (Was_taken before w is) = found_go before w (find (has_number r.number) (eligible terms arrivals)) refl is
 
--- an offer that isn't refused is taken
+-- if the book has no reason to refuse an offer, the offer's worker and number are appended to what is taken
 pub taken_more : (terms : Terms) (arrivals : List Arrival) (r : Reported) → refusal_of terms arrivals r ≡ None
     → taken_of terms (arrivals ++ Offer r ∷ []) ≡ taken_of terms arrivals ++ entry r ∷ []
 taken_more terms arrivals r e =
@@ -239,7 +239,7 @@ worker_found n (r ∷ rs) = go (has_number n r) (worker_found n rs)
     go true remainder = refl
     go false remainder = remainder
 
--- a haul refuses what the book refuses
+-- a haul that has received these arrivals refuses the same offers as the book, for the same reasons
 pub same_refusal : (arrivals : List Arrival) (held : Held) (r : Reported) → StandsFor arrivals held → refusal_of held.terms arrivals r ≡ refusal_at held r
 same_refusal arrivals held r s =
     let reports : List Reported = eligible held.terms arrivals in
@@ -312,7 +312,7 @@ pub on_err_from : {T E P : Type 0} (r : Result T E) → P → OnErr r P
 on_err_from (Ok x) p = tt
 on_err_from (Err e) p = p
 
--- if there is room for an item, it is pushed
+-- if the result of a push is `Ok`, the vector's items are `more`
 pub pushed : {X T E : Type 0} (r : Result T E) (more same : List X) → IsOk r → (if is_ok r then more else same) ≡ more
 pushed r more same ok = ap (λ (b : Bool). if b then more else same) ok
 

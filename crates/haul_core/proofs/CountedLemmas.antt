@@ -1,4 +1,4 @@
--- The counts of a line, one at a time, and the fault at a field that no count may have.
+-- The counts of a line, one at a time, and the fault at a field that isn't the field of a count that may follow.
 use Rattle.std.proofs.Common.{◌≡◌, ◌≢◌, ◌∙◌, ◌-◌, ◌++◌, ◌∷◌, ℕ, Bool, List, Option, [], Some, None, ap, sym, refl, length, arith, append-nil}
 use Rattle.std.proofs.Common.{append_assoc, codes, decimal, map, subst}
 use Rattle.std.proofs.lemmas.Fmt.{decimal_injective}
@@ -75,7 +75,7 @@ counted_more line start counts last here field more object h c k e =
       latest = sym (last_code-push counts object);
     }
 
--- ---- a field that no count may have
+-- ---- a field that isn't the field of a count that may follow
 
 pub one_count : (a b : List ℕ × ℕ) → IsCount a → IsCount b → count_field a ≡ count_field b → a ≡ b
 one_count a b h k e =

@@ -33,7 +33,8 @@ followed_last (b ∷ before) field remainder =
     followed-cons b before (field ++ 32 ∷ remainder) ∙ ap (λ (t : List ℕ). b ++ 32 ∷ t) (followed_last before field remainder)
     ∙ sym (followed-cons b (before ++ field ∷ []) remainder)
 
--- if a line begins with the fields `before`, and `field` is the next field, the line begins with `before` and `field`
+-- if a line has the fields `before` and then `here`, and `here` is cut at its first space into `field` and `more`, the
+-- line has the fields `before` and `field` and then `more`
 pub follows_more : (line : List ℕ) (before : List (List ℕ)) (here field : List ℕ) (more : Option (List ℕ)) → FollowsFields line before (Some here)
     → Cuts 32 here field more
     → FollowsFields line (before ++ field ∷ []) more
@@ -56,7 +57,7 @@ ends : (more : Option (List ℕ)) → (remainder_of more ≡ []) ⊎ has_byte 32
 ends None = inl refl
 ends (Some more) = inr refl
 
--- if no lawful claim has this field after the fields `before`, the field is the first fault
+-- if lawful claims begin with the fields `before`, but none has this field after them, the field is the first fault
 pub bad_at : (line : List ℕ) (before : List (List ℕ)) (here field : List ℕ) (more : Option (List ℕ)) → FollowsFields line before (Some here) → Cuts 32 here field more
     → BeginClaim before → ((claim : Claimed) → IsClaim claim → (remainder : List (List ℕ)) → fields_of claim ≡ before ++ field ∷ remainder → ⊥)
     → IsFirstFaultOf line (length line - length here)
@@ -73,7 +74,8 @@ bad_at line before here field more f c b none =
       is = omega (arith, ap length f, length-append (followed before) here);
     })
 
--- if the line ends after the fields `before`, and no lawful claim has only these, the missing field is the first fault
+-- if lawful claims begin with the fields `before`, but none has only these, and the line ends after them, the missing
+-- next field is the first fault
 pub lacks_at : (line : List ℕ) (before : List (List ℕ)) (there : List ℕ) → FollowsFields line before None → there ≡ [] → BeginClaim before
     → ((claim : Claimed) → IsClaim claim → fields_of claim ≢ before) → IsFirstFaultOf line (length line - length there)
 lacks_at line [] there f e b none = absurd f
@@ -107,7 +109,8 @@ cut_anywhere (b ∷ text) = go (b == 32) refl (cut_anywhere text)
         more prefix None k = record { prefix = b ∷ prefix; remainder = None; cut = (ap (λ (t : List ℕ). b ∷ t) k.0, or_from _ _ e k.1) }
         more prefix (Some remainder) k = record { prefix = b ∷ prefix; remainder = Some remainder; cut = (ap (λ (t : List ℕ). b ∷ t) k.0, or_from _ _ e k.1) }
 
--- if no lawful claim has a field after the fields `before`, but the line has one, this field is the first fault
+-- if lawful claims begin with the fields `before`, but none has a field after them, and the line has one, this field is
+-- the first fault
 pub over_at : (line : List ℕ) (before : List (List ℕ)) (here : List ℕ) → FollowsFields line before (Some here) → BeginClaim before
     → ((claim : Claimed) → IsClaim claim → (field : List ℕ) (remainder : List (List ℕ)) → fields_of claim ≡ before ++ field ∷ remainder → ⊥)
     → IsFirstFaultOf line (length line - length here)
@@ -163,7 +166,7 @@ head_lacks line place head there within h e =
       length-take-le place (head_of own) (omega (arith, head_length own)),
     )))
 
--- if the next field of a line fills the head, one more field of the head has been read
+-- if the next field of a line is filled into the head, one more field of the head has been read
 pub head_more : (line : List ℕ) (place : ℕ) (head next : LineStart) (here field : List ℕ) (more : Option (List ℕ)) → HasHead line place head (Some here)
     → Cuts 32 here field more → HasFilled place head next field → HasHead line (place + 1) next more
 head_more line place head next here field more h c f = record {

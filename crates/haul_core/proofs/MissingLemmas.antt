@@ -210,7 +210,7 @@ none_missing ranges taken normal complete =
     go false true h = absurd (false≢true (h refl))
     go false false h = refl
 
--- a list of distinct numbers has each of its members once
+-- in a list of distinct numbers, `counted` is 1 for each number of the list, and 0 for any other
 once : (n : ℕ) (ns : List ℕ) → IsDistinct nat_eq ns → counted n ns ≡ cond {A = ℕ} (list_any (nat_eq n) ns) 1 0
 once n [] distinct = refl
 once n (t ∷ ts) distinct = go (nat_eq n t) refl (list_any (nat_eq n) ts) refl (once n ts (IsDistinct-tail nat_eq t ts distinct))

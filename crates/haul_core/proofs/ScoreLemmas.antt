@@ -1,4 +1,4 @@
--- Scores of codes: how they are found and changed, and that adding blank scores changes no total.
+-- How the scores of codes are found and changed. Adding blank scores doesn't change the score of any code.
 use Rattle.std.proofs.Common.{◌≡◌, ◌≢◌, ◌∙◌, ◌+◌, ◌<◌, ℕ, zero, suc, Bool, true, false, cond, List, [], ◌∷◌, ◌++◌, Option, None}
 use Rattle.std.proofs.Common.{Some, IsSome, ap, sym, subst, refl, arith, inl, inr, length}
 use Rattle.std.proofs.Common.{take, get_or, nat_eq, unwrap_or, is_some, ◌⊎◌, Result, Ok, Err, is_ok}

@@ -226,7 +226,7 @@ tails (f ∷ fs) (g ∷ gs) h k e =
     let more = tails fs gs h.1 k.1 c.1 in
     λ i. c.0 i ∷ more i
 
--- the list of fields of a line is unique
+-- a line has only one list of fields without spaces
 pub one_cut : (f g : List ℕ) (fs gs : List (List ℕ)) → AreSpaceless (f ∷ fs) → AreSpaceless (g ∷ gs) → lined (f ∷ fs) ≡ lined (g ∷ gs) → f ∷ fs ≡ g ∷ gs
 one_cut f g fs gs h k e =
     let c = cut_ends 32 f g (flat_map spaced fs) (flat_map spaced gs) h.0 k.0 (spaced-stops fs) (spaced-stops gs) e in

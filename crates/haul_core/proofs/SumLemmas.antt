@@ -1,4 +1,5 @@
--- Rows that are made from the scores of surveys are the rows of the census, and the sum of their totals is below 2^128.
+-- Rows that are made from the scores of surveys are the rows of the census. If there are fewer than 2^64 surveys, each
+-- with fewer than 2^64 objects, the totals of the rows add up to less than 2^128.
 use Rattle.std.proofs.Common.{◌≡◌, ◌∙◌, ◌+◌, ◌-◌, ◌*◌, ◌^◌, ◌<◌, ◌≤◌, ℕ, Bool, true, false, cond, nat_lt, List, [], ◌∷◌, Option}
 use Rattle.std.proofs.Common.{None, Some, IsSome, ap, sym, subst, refl, arith, inl, inr, ◌⊎◌, length, sum, sum_by, unwrap_or, zero-add}
 use Rattle.std.specs.Cmp.{eq_by_cmp_equiv}
@@ -68,7 +69,7 @@ zeros : (codes : List (List ℕ)) → sum_by (λ (code : List ℕ). 0) codes ≡
 zeros [] = refl
 zeros (c ∷ cs) = sum_by-cons (λ (code : List ℕ). 0) c cs ∙ zero-add (sum_by (λ (code : List ℕ). 0) cs) ∙ zeros cs
 
--- the count of a code adds nothing to a sum over other codes
+-- if `k` isn't one of the codes, counting `n` for each code that is `k` gives 0
 unweighed : (c k : List ℕ) (n : ℕ) (codes : List (List ℕ)) → is_code c k ≡ true → AllByRecursion (λ y. eq_by_cmp (slice_cmp nat_cmp) c y ≡ false) codes
     → sum_by (λ code. cond (is_code code k) n 0) codes ≡ 0
 unweighed c k n [] same apart = refl
@@ -158,7 +159,7 @@ rows_summed surveys (row ∷ rows) each =
     ∙ (λ i. first.total_is i + rows_summed surveys rows (All-tail (IsRowOf surveys) row rows each) i)
     ∙ sym (sum_by-cons (total surveys) row.code (codes_of rows))
 
--- if each survey has fewer than 2^64 objects, the rows have at most 2^64 - 1 objects per survey
+-- if each survey has fewer than 2^64 objects, the totals of all rows add up to at most 2^64 - 1 per survey
 pub sum_within : (surveys : List Survey) (rows : List Row) → AreRowsOf surveys rows → All (λ s. objects_in s.finding < 2 ^ 64) surveys
     → sum_by (λ row. row.total) rows ≤ length surveys * (2 ^ 64 - 1)
 sum_within surveys rows are few =

@@ -1,4 +1,4 @@
--- Lines of a text, written one after another.
+-- The haul text of a census, written piece by piece.
 use Rattle.std.proofs.Common.{◌≡◌, ◌∙◌, ◌+◌, ◌<◌, ◌≤◌, ◌==◌, arith, ℕ, true, false, List, [], ◌∷◌, ◌++◌, ap, sym, append_assoc, codes, drop, flat_map}
 use Rattle.std.proofs.Common.{Err, IsErr, Ok, Option, Result, get_or, length, map}
 use Rattle.std.proofs.lemmas.Bool.{eqb-true, false≢true}
@@ -16,7 +16,7 @@ use Rattle.haul_core.specs.declared.book.census_rows.Row.{Row}
 use Rattle.haul_core.specs.HaulTexts.{ended, haul_lines, haul_text, head_lines, line_of, line_of_numbers, profile_line, range_line, range_lines, sample_line}
 use Rattle.haul_core.specs.HaulTexts.{sample_lines, spaced, sum_lines, text_of, total_line, total_lines}
 
--- the texts of the items from place `i` on are the text of item `i` and then those from place `i + 1` on
+-- the text of item `i`, which is `x`, can be added to the prefix, and the items from place `i + 1` on remain
 pub text_more : {A : Type 0} (text : A → List ℕ) (xs : List A) (i : ℕ) (x : A) (whole prefix : List ℕ) → i < length xs → x ≡ get_or xs i x
     → whole ≡ prefix ++ flat_map text (drop i xs) → whole ≡ (prefix ++ text x) ++ flat_map text (drop (i + 1) xs)
 text_more text xs i x whole prefix more here is =
@@ -29,7 +29,7 @@ pub text_more_at : {A : Type 0} (text : A → List ℕ) (xs : List A) (i : ℕ) 
 text_more_at text xs i d whole prefix more is =
     is ∙ ap (λ remainder. prefix ++ flat_map text remainder) (drop_more xs i d more) ∙ sym (append_assoc prefix (text (get_or xs i d)) (flat_map text (drop (i + 1) xs)))
 
--- if no item is left, the whole text was written
+-- if no item is left, the prefix is the whole text
 pub text_done : {A : Type 0} (text : A → List ℕ) (xs : List A) (i : ℕ) (whole prefix : List ℕ) → length xs ≤ i
     → whole ≡ prefix ++ flat_map text (drop i xs) → prefix ≡ whole
 text_done text xs i whole prefix past is = sym (is ∙ ap (λ remainder. prefix ++ flat_map text remainder) (drop_all i xs past) ∙ append-nil prefix)
@@ -42,7 +42,7 @@ HasWritten contents old here text xs i whole =
     (prefix : List ℕ) × (whole ≡ prefix ++ flat_map text (drop i xs)) × Writes {E = WriteError} contents old here (Ok tt) prefix
 
 module _ {A V : Type 0} {contents : V → Option (List ℕ)} {old here : Output V} (text : A → List ℕ) (xs : List A) (whole : List ℕ) where
-  -- `HasWritten` holds after one more item was written
+  -- `HasWritten` holds for place `i + 1` if it held for place `i` and item `i` was then written
   pub item_more : {new : Output V} (i : ℕ) (x : A) → i < length xs → x ≡ get_or xs i x → HasWritten contents old here text xs i whole
       → Writes {E = WriteError} contents here new (Ok tt) (text x) → HasWritten contents old new text xs (i + 1) whole
   item_more i x more is (prefix, left, wrote) wrote_one = (prefix ++ text x, text_more text xs i x whole prefix more is left, Writes_then wrote wrote_one)

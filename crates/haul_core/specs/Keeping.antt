@@ -36,8 +36,8 @@ pub record AreSums (surveys : List Survey) (sums : Sums) : Type 0 where
   pub for_good_sum : sums.for_good ≡ for_good surveys
   pub few : All (λ s. objects_in s.finding < 2 ^ 64) surveys
 
--- The invariant of a haul: what contracts see agrees with the haul's `count`, `workers` and `sums`. A haul that isn't
--- closed has at most 2^24 numbers in its set.
+-- The invariant of a haul: what contracts see agrees with `count` (the size of the set), `workers` (the worker of each
+-- taken number) and `sums` (the totals). A haul that isn't closed has at most 2^24 numbers in its set.
 pub record KeepsBook (held : Held) (count : ℕ) (workers : List (ℕ × ℕ)) (sums : Sums) : Type 0 where
   pub normal : AreNormal held.terms.ranges
   pub below : AreBelow number_bound held.terms.ranges

@@ -42,7 +42,7 @@ IsTakenNext terms before (Offer report ∷ more) = refusal_of terms before repor
 IsTakenNext terms before (Closing ∷ more) = ⊥
 
 -- The haul has received the arrivals `before`, but then only a prefix of `arrivals`, because memory ran out. Memory ran
--- out either before the first of `arrivals`, or at an offer that the book takes.
+-- out either before the first of `arrivals`, or at an offer that the book would have taken.
 pub record StandsForPrefix (before arrivals : List Arrival) (held : Held) : Type 0 where
   pub prefix : List Arrival
   pub remainder : List Arrival

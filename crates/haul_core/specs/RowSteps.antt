@@ -1,4 +1,4 @@
--- How the rows of a census are listed.
+-- How the rows of a census are made from the scores of its codes.
 use Rattle.std.specs.Prelude.{◌≡◌, ℕ, All, IsSome, List, Option, None, Some, nat_lt, true, if◌then◌else◌}
 use Rattle.std.specs.List.{list_any}
 use Rattle.survey_core.specs.shapes.Objects.{is_code}

@@ -1,4 +1,4 @@
--- Samples: the lowest numbers of a list.
+-- Samples: the three lowest numbers of a list.
 use Rattle.std.specs.Prelude.{◌≡◌, ◌≤◌, ◌⊎◌, ◌++◌, ℕ, List, [], ◌∷◌, All, count_by, length, nat_eq}
 
 -- no number is lower than the one before

@@ -3,8 +3,8 @@
 //! ```text
 //! reports ── offer ──> haul ── census ──> census ── write_haul ──> haul text
 //!              │         │
-//!         or refused     ├─ taken    1 5 | 2 4 | 1 6      worker and soup of each report, in this order
-//!                        └─ scores   xs4_33 9 | xp2_7 5   the total of each code, and its three lowest soups
+//!         or refused     ├─ taken    1 5 | 2 4 | 1 6      worker 1 reported soup 5, then worker 2 soup 4, ..
+//!                        └─ scores   xs4_33 9 | xp2_7 5   the total of each code; its samples aren't shown here
 //! ```
 //!
 //! A soup is taken at most once. A later report on it is refused as a double. A haul keeps no reports. It stores its

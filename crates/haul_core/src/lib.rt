@@ -1,4 +1,4 @@
-//! Hauls: which soups of a job have been taken, by which worker, and which objects the soups left.
+//! Hauls: which soups of a job have been taken, which worker reported each of them, and which objects they left.
 #![tactic(auto)]
 
 /// The book: hauls, what arrives at them, and their census.

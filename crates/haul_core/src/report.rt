@@ -88,7 +88,7 @@ impl Model for Report {
 }
 
 impl Report {
-    /// Surveys soup `number` of the job, for this worker. The number has to be below 2^40.
+    /// Surveys soup `number` of the job, and returns the report of `worker` on it. The number has to be below 2^40.
     ///
     /// # Errors
     ///

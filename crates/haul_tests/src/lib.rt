@@ -1,5 +1,5 @@
-//! Tests of the public calls of `haul_core` and `ranges`. They test what the contracts of these calls don't say. They
-//! are in a crate of their own, so that `haul_core` and `ranges` aren't proved again for them.
+//! Tests of the public calls of `haul_core` and `ranges`. They are in a crate of their own, because tests in these two
+//! crates themselves would make the prover prove both crates twice.
 #![tactic(auto)]
 
 #[cfg(test)]

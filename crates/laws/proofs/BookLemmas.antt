@@ -1,4 +1,4 @@
--- A haul takes each number from the worker of the first eligible offer that has the number.
+-- A haul takes each number that some eligible offer has, and takes it from the worker of the first such offer.
 use Rattle.std.proofs.Common.{◌∙◌, ap}
 use Rattle.std.specs.Prelude.{option_map}
 use Rattle.haul_core.specs.Books.{eligible, first_of_each}

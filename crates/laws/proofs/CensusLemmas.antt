@@ -1,4 +1,4 @@
--- Censuses over the same soups are equal, and so are their texts.
+-- Censuses of one job and set, over the same soups in any order, are equal, and so are their texts.
 use Rattle.std.proofs.Common.{◌≡◌, ◌∙◌, ◌+◌, ◌<◌, ◌≤◌, ℕ, Bool, true, false, cond, nat_eq, List, [], ◌∷◌, ◌||◌, ap, sym, subst, refl, inl, inr}
 use Rattle.std.proofs.Common.{count_by, filter, get_or, map, sum_by}
 use Rattle.std.specs.Cmp.{nat_eq_equiv}

@@ -85,7 +85,7 @@ first_byte-large : (kind : Kind) (number : ℕ) → get_or (code_text kind numbe
 unfolding code_text
 first_byte-large kind number = refl
 
--- two codes that are equal have the same text
+-- if two codes are equal and one of them is made with the text `t`, so is the other
 same_text : (kind other : Kind) (number n : ℕ) (t : List ℕ) (least : Option (List ℕ)) → code_text kind number (Some t) ≡ code_text other n least
     → least ≡ Some t
 same_text kind other number n t None same =

@@ -1,5 +1,5 @@
--- The counts of objects add up to the number of clusters. The proof is by induction: the first object is removed from
--- the list of objects, and all clusters with the code of this object are removed too.
+-- The counts of objects add up to the number of clusters. The proof is by induction: the first code and its count are
+-- removed from the list of objects, and each occurrence of this code is removed from the list of the clusters' codes.
 use Rattle.std.proofs.Common.{◌≡◌, ◌∙◌, ap, sym, refl, ℕ, ◌+◌, Bool, true, false, not, cond, List, [], ◌∷◌, count_by, length, sum, Some, unwrap_or, arith}
 use Rattle.std.specs.Cmp.{tied_itself}
 use Rattle.std.specs.Cmp.Lexicographic.{nat_list_cmp_total, slice_cmp}
@@ -35,7 +35,7 @@ no_codes (x ∷ xs) none =
     let zero : 0 ≡ count_by (is_code x) (x ∷ xs) = none x in
     absurd (omega (arith, one, zero))
 
--- a code isn't among the codes other than itself
+-- `k` isn't among the codes that differ from `k`
 none_left : (k : List ℕ) (codes : List (List ℕ)) → count_by (is_code k) (others k codes) ≡ 0
 none_left k [] = refl
 none_left k (c ∷ cs) = go (is_code k c) refl (none_left k cs)

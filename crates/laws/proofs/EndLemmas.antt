@@ -1,4 +1,4 @@
--- What `gather` prints, for each status with which it can end.
+-- What `gather` prints if it ends without a complaint, and how it ends if each soup of its set was worked on.
 use Rattle.std.proofs.Common.{◌≡◌, ◌∙◌, sym, subst, ℕ, zero, suc, ◌≤◌, ◌^◌, true, List, Ok, Err, arith, length}
 use Rattle.requests.specs.declared.plan.Plan.{Plan}
 use Rattle.survey_core.specs.declared.job.Job.{Job}

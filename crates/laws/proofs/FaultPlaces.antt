@@ -186,8 +186,8 @@ are_written rs w fit one =
 zero_is_decimal : IsDecimal (48 ∷ [])
 zero_is_decimal = record { digits = refl; some = omega arith; plain = λ e. refl }
 
--- if numbers of any size are allowed, any decimal may follow a beginning of a list's text that is empty or ends with a
--- byte that isn't a digit
+-- if the beginning of a list's text is empty or ends with a byte that isn't a digit, any decimal may follow, provided
+-- that numbers of any size are allowed
 goes_on : (x number : List ℕ) → Apart x → BeginsList x → IsDecimal number → BeginsLongList (x ++ number)
 goes_on x number apart b is = go (begins_at x b.remainder apart b.whole)
   where
@@ -304,7 +304,7 @@ digit_at [] i digits low = absurd (omega arith)
 digit_at (a ∷ number) zero digits low = search (rules)
 digit_at (a ∷ number) (suc i) digits low = digit_at number i (search (rules)) (omega arith)
 
--- ---- two first faults
+-- ---- two first faults can't be at different places
 
 bad_after : (text : List ℕ) (p q : ℕ) → p < q → q ≤ length text → IsBadListByte text p → BeginsList (take q text) → ⊥
 bad_after text p q less within a before = a.there (omega arith) (long_of (take (p + 1) text) (shorter text (p + 1) q (omega arith) before))

@@ -99,7 +99,7 @@ image-back f g rigid cells order =
     (λ c. has-image g f (inverse f g rigid) (image_by f cells) c ∙ has-image f g rigid cells (f c) ∙ ap (has cells) (rigid.back c))
 
 module _ (f g : Cell → Cell) (rigid : IsRigid f g) (cells : List Cell) (order : InOrder cells) where
-  -- cells that are linked in the image are linked in the pattern
+  -- if two cells are linked in the image, their preimages are linked in the pattern
   linked-home : (c d : Cell) → Linked (image_by f cells) (f c) d → Linked cells c (g d)
   linked-home c d a =
       subst (λ (x : Cell). Linked cells x (g d)) (rigid.back c)
@@ -119,7 +119,7 @@ module _ (f g : Cell → Cell) (rigid : IsRigid f g) (cells : List Cell) (order 
   }
 
   module _ (clusters : List (List Cell)) (are : AreClusters cells clusters) where
-    -- the images of the clusters, sorted by their first cells
+    -- the images of the clusters, sorted by the first cells of the images
     abbrev pub images : List (List Cell)
     images = sorted first (map (image_by f) clusters)
 

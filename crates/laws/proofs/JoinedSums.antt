@@ -1,4 +1,5 @@
--- The census of a joined haul is the sum of the censuses of the two hauls, with the lowest samples of both.
+-- The census of a joined haul is the sum of the censuses of the two hauls. A code's samples are the three lowest of its
+-- samples in both censuses.
 use Rattle.std.proofs.Common.{◌≡◌, ◌∙◌, ◌+◌, ◌++◌, ◌≤◌, ℕ, zero, suc, Bool, true, false, cond, List, [], ◌∷◌, ◌||◌, ◌&&◌}
 use Rattle.std.proofs.Common.{◌⊎◌, Some, ap, sym, subst, refl, arith, drop, filter, get_or, map, nat_eq, nat_le, option_map, sum_by, unwrap_or, inl, inr, zero-add}
 use Rattle.std.specs.Cmp.Lexicographic.{slice_cmp}
@@ -220,7 +221,8 @@ add_up law job ranges others all numbers more one other both h k b =
 
 -- ---- sets without a common number
 
--- if two sets share no number, the numbers of the union are the numbers of both sets
+-- if two sets share no number, the list of one set's numbers, followed by the list of the other's, has each number of
+-- the union once, and no other number
 both_counted : (ranges others all : List Range) (numbers more every : List ℕ) → ((n : ℕ) → is_in all n ≡ (is_in ranges n || is_in others n))
     → ¬ ShareNumber ranges others → AreAll ranges numbers → AreAll others more → AreAll all every → AreSameNumbers every (numbers ++ more)
 both_counted ranges others all numbers more every union apart of_one of_other of_all n =

@@ -54,7 +54,7 @@ module _ (rule : Numbers) (cells : List Cell) (limit : ℕ) (r : Recurrence) (or
           ∙ shifted-swap ex ey r.dx r.dy cells in
           shifted-same r.dx r.dy (after rule cells p) (shifted ex ey cells) (sym early ∙ ap (λ (S : List Cell). after rule S (r.period - 1)) is ∙ late)
 
-  -- a period later, the images of a generation have the same texts
+  -- in each orientation, a generation and the generation one period later have the same text
   text_later : (o : _) (g : ℕ) → text (turned o (after rule cells (r.period + g))) ≡ text (turned o (after rule cells g))
   text_later o g = ap (λ (S : List Cell). text (turned o S)) (a_period_later g) ∙ ap text (turning_moved o r.dx r.dy (after rule cells g))
 

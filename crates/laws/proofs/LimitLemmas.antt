@@ -1,4 +1,4 @@
--- Rest and checkpoints under another limit.
+-- When a pattern is at rest, and which generations are checkpoints, if the profile has another limit.
 use Rattle.std.proofs.Common.{ℕ, ◌≤◌, List, arith}
 use Rattle.std.proofs.lemmas.Bool.{cases_lt}
 use Rattle.std.proofs.Common.{inl, inr}

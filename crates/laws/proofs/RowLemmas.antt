@@ -41,7 +41,7 @@ among_first code codes = ap (λ (o : Ordering). is_eq o || list_any (is_code cod
 both_false : {b d : Bool} → b ≡ false → b ≡ d → d ≡ true → ⊥
 both_false e same h = false≢true (sym e ∙ same ∙ h)
 
--- sorted lists of codes with the same members are equal
+-- strictly sorted lists of codes with the same members are equal
 pub one_order : (xs ys : List (List ℕ)) → IsStrictlySortedBy (slice_cmp nat_cmp) xs → IsStrictlySortedBy (slice_cmp nat_cmp) ys
     → ((code : List ℕ) → list_any (is_code code) xs ≡ list_any (is_code code) ys) → xs ≡ ys
 unfolding IsStrictlySortedBy

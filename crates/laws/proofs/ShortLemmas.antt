@@ -131,7 +131,7 @@ row_below (row ∷ rows) (suc k) d low =
     let more = row_below rows k d (omega arith) in
     omega (arith, whole, more)
 
--- ---- the census of a haul is short
+-- ---- the census of a haul is short: its numbers are far below 10^64
 
 pub haul_censuses_are_short : HaulCensusesAreShort
 haul_censuses_are_short job ranges numbers census valid normal below taken h = record {

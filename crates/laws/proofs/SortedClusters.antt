@@ -112,7 +112,7 @@ firsts_differ (x ∷ xs) some apart = (
         λ i. another y (more 0 y (omega arith)) (none 0 y (omega arith)) i
         || other ys (λ k d low. more (suc k) d (omega arith)) (λ k d low. none (suc k) d (omega arith)) i
 
--- sorting disjoint clusters puts them into the order of their first cells
+-- if disjoint clusters are sorted by their first cells, `FirstBefore` holds for each cluster and every later cluster
 pub sorted_in_order : (clusters : List (List Cell)) → All (λ cluster. cluster ≢ []) clusters → All (λ cluster. cluster ≢ []) (sorted first clusters)
     → AllPairs Disjoint clusters → AllPairs FirstBefore (sorted first clusters)
 sorted_in_order clusters some all apart =

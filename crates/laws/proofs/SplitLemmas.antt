@@ -240,9 +240,9 @@ worked_line plan job workers bytes n terms valid job_is workers_are w = (
         let low : w.worker ≤ workers = w.known in
         omega (arith, worker, low, workers_are)
 
--- ---- split work is whole
+-- ---- `gather` makes what `take` prints
 
--- an accepted set isn't refused
+-- if the job and the set of a plan are valid, `IsRefused` holds for no refusal of the set
 not_refused : (plan : Plan) (job : Job) (refusal : Refusal) → IsAccepted plan job → IsRefused plan.set refusal → ⊥
 not_refused plan job refusal accepted (Bad_list none place fault is) =
     none (record { ranges = accepted.named.listed; fit = accepted.named.fit; spelled = accepted.named.spelled })

@@ -29,6 +29,6 @@ pub record IsTakenByFirst (terms : Terms) (arrivals : List Arrival) (n : ℕ) : 
   pub taken : is_taken (taken_of terms arrivals) n ≡ list_any (has_number n) (eligible terms arrivals)
   pub worker : worker_in n (taken_of terms arrivals) ≡ first_worker n (eligible terms arrivals)
 
--- whatever arrives, a haul takes each number from the worker of the first eligible offer that has the number
+-- whatever arrives, a haul takes each number that some eligible offer has, from the worker of the first such offer
 abbrev pub FirstOffersAreTaken : Type 0
 FirstOffersAreTaken = (terms : Terms) (arrivals : List Arrival) (n : ℕ) → IsTakenByFirst terms arrivals n

@@ -20,7 +20,7 @@ pub record RestsForever (rule : Numbers) (cells : List Cell) (clusters : List (L
   pub apart : (g : ℕ) → KeepApart rule cells clusters g
   pub back : (g : ℕ) → after rule cells (g + period) ≡ after rule cells g
 
--- if clusters of a pattern at rest stay for good, `RestsForever` holds with the least common multiple of their periods
+-- if all clusters of a pattern at rest stay for good, `RestsForever` holds with their periods' least common multiple
 abbrev pub AtRestForGood : Type 0
 AtRestForGood = (rule : Numbers) (profile : Settling) (cells : List Cell) (clusters : List (List Cell)) → InOrder cells
     → RestsAs rule profile cells clusters → (good : ClustersStayForGood rule profile.period profile.horizon clusters)
@@ -38,8 +38,8 @@ abbrev pub FindingsForGood : Type 0
 FindingsForGood = (rule : Numbers) (profile : Settling) (cells : List Cell) (t : ℕ) (objects : List (List ℕ × ℕ)) → InOrder cells
     → IsFinding rule profile cells (Settled t objects true) → RestsForGood rule profile (after rule cells t)
 
--- if the limit is at most 64 and no cluster is empty, two definitions of staying for good agree: by the kinds and
--- numbers in the codes of the objects, and by the recurrences of the clusters
+-- if the limit on the periods is at most 64 and no cluster is empty, two definitions of staying for good agree: by the
+-- kinds and numbers in the codes of the objects, and by the recurrences of the clusters
 abbrev pub MarksMatchRecurrences : Type 0
 MarksMatchRecurrences = (rule : Numbers) (limit horizon : ℕ) (clusters : List (List Cell)) (objects : List (List ℕ × ℕ))
     → limit ≤ 64 → All (λ cluster. cluster ≢ []) clusters → AreObjectsOf rule limit clusters objects

@@ -4,7 +4,7 @@ use Rattle.haul_core.specs.Claims.{IsClaimLine, IsFirstFaultOf}
 use Rattle.haul_core.specs.LawfulClaims.{Claimed, IsClaim}
 use Rattle.haul_core.specs.ReportLines.{claim_line}
 
--- a line is the line of at most one claim
+-- a line is the line of at most one lawful claim
 abbrev pub LinesHaveOneClaim : Type 0
 LinesHaveOneClaim = (one other : Claimed) → IsClaim one → IsClaim other → claim_line one ≡ claim_line other → one ≡ other
 

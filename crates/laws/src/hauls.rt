@@ -25,9 +25,9 @@ pub fn complete_hauls_print_the_same()
     ensures complete { CompleteHaulsPrintTheSame }
 {}
 
-/// The law that the census of a joined haul is the sum of the two hauls' censuses: in the numbers of objects, soups,
-/// unsettled soups and soups whose objects stay for good, and in each code's total. A code's samples are the three
-/// lowest of its samples in the two censuses.
+/// The law that if a haul has taken the soups of two other hauls of its job, its census is the sum of their censuses:
+/// in the numbers of objects, soups, unsettled soups and soups whose objects stay for good, and in each code's total. A
+/// code's samples are the three lowest of its samples in the two censuses.
 pub fn joined_hauls_add_up()
     ensures { JoinedHaulsAddUp }
 {}

@@ -50,8 +50,8 @@ pub fn for_good_comes_back()
     ensures { ForGoodComesBack }
 {}
 
-/// The laws of the mark *for good*, which is defined by the recurrences of the clusters. The kinds and numbers in the
-/// codes of the objects agree with these recurrences, so they agree with the mark too.
+/// The laws that, under a given profile, the codes of a finding's objects determine its mark *for good*. The mark is
+/// defined by the recurrences of the clusters, and the kinds and numbers in the codes give the same result.
 pub fn marks_match_recurrences()
     ensures codes { MarksMatchRecurrences }
     ensures mark { MarksAreInCodes }

@@ -1,8 +1,9 @@
 //! The error "out of memory", which is also a witness that memory was refused.
 //!
 //! A contract can't require that there is memory, so it would also accept a body that reports "out of memory" without
-//! cause. To rule such bodies out, an [`OutOfMemory`] is made only from the error with which the library refused
-//! memory: its only field is private, and each function that makes an `OutOfMemory` takes such an error.
+//! cause. To rule such bodies out, an [`OutOfMemory`] is made only from an error that says that memory or a thread was
+//! refused: its only field is private, and each function that makes an `OutOfMemory` takes such an error. Any crate
+//! could build such an error itself, so `checks/repository/errors` refuses code of the program that does.
 #![tactic(auto)]
 
 ghost use Rattle.std.specs.Prelude.{◌≡◌};
@@ -65,8 +66,8 @@ impl OutOfMemory {
         }
     }
 
-    /// Returns the closure for which no thread could be started, and the witness that memory was refused for the
-    /// thread.
+    /// Returns the closure for which no thread could be started, and the witness of this refusal. A refused thread
+    /// counts as refused memory.
     pub fn of_start<F>(failed: SpawnError<F>) -> (F, OutOfMemory)
         ensures closure { result.0 ≡ failed.value }
         ensures witness { result.1 ≡ out_of_memory }

@@ -76,13 +76,13 @@ module _ {V : Type 0} (text : List ℕ) (remaining : V → Option (List ℕ)) (o
   abbrev ruled : List ℕ → Result (Numbers × List Cell) Complaint → Type 0
   ruled bytes found = ruled_pattern text bytes ≡ found
 
-  -- a refused rule
+  -- the rule was refused
   pub found_rule : (fault : RuleFault) → rule_read text ≡ Err fault → HasFound (is_ok (rule_named text)) ruled remaining old old (Err (rule_complaint fault))
   found_rule fault is =
       let named : rule_named text ≡ Err (rule_complaint fault) = rw is refl in
       found_refused _ ruled remaining old _ (rule_refused fault) (λ bytes. rw named refl)
 
-  -- a rule, and an input that was refused or couldn't be read
+  -- the rule is valid, but the input was refused or couldn't be read
   pub found_no_pattern : (rule : Numbers) (bytes : List ℕ) (complaint : Complaint) → rule_read text ≡ Ok rule → IsInput (remaining old) bytes
       → Reads (pattern_of bytes) (Err complaint) → HasReadAtMost (2 ^ 24 + 2 ^ 16) (remaining old) (remaining new)
       → HasFound (is_ok (rule_named text)) ruled remaining old new (Err complaint)
@@ -90,7 +90,7 @@ module _ {V : Type 0} (text : List ℕ) (remaining : V → Option (List ℕ)) (o
       let named : rule_named text ≡ Ok rule = rw is refl in
       found_unread _ ruled remaining old new bytes (pattern_of bytes) complaint (rw named refl) input (λ other why. rw (named, why) refl) told little
 
-  -- a rule and a pattern
+  -- the rule is valid, and the pattern was read
   pub found_pattern : (rule : Numbers) (bytes : List ℕ) (cells : List Cell) → rule_read text ≡ Ok rule → IsInput (remaining old) bytes
       → pattern_of bytes ≡ Ok cells → HasReadAtMost (2 ^ 24 + 2 ^ 16) (remaining old) (remaining new)
       → HasFound (is_ok (rule_named text)) ruled remaining old new (Ok (rule, cells))
@@ -132,7 +132,7 @@ module _ {A B V : Type 0} (reads : Bool) (right : List ℕ → Result A Complain
       go TooLong so refused = (so.0, is found.bytes TooLong so.1)
       go (WriteFailed error) so refused = absurd so
 
-  -- from a value, another one is made
+  -- a command that found `x` finds `y` next, if `y` is right for each input for which `x` is right
   pub found_ok : (x : A) (y : B) → ((bytes : List ℕ) → right bytes (Ok x) → next bytes (Ok y)) → HasFound reads right remaining old new (Ok x)
       → HasFound reads next remaining old new (Ok y)
   found_ok x y is found =
@@ -176,13 +176,13 @@ module _ {A W : Type 0} (text : A → List ℕ) (contents : W → Option (List �
       let nothing = subst (λ (now : Output W). Has (stream contents old now) []) (sym same) (Appends-nil (contents old.writer)) in
       text_ends reads true right reader bytes (Err complaint) status (stream contents old new) errors (reached reads (right bytes) complaint is nothing) ended last
 
-  -- if the status is `Refused`, nothing was written
+  -- if the status is `Refused`, nothing was written to standard output
   pub refused_untouched : (found : Result A Complaint) → EndsFound text found status contents old new errors → status ≡ statuses.Refused → new ≡ old
   refused_untouched (Ok x) (inl ended) refused = let is = ended.0 in cc
   refused_untouched (Ok x) (inr ended) refused = let is = ended.1 in cc
   refused_untouched (Err complaint) ended refused = ended.1
 
-  -- if the status is `Memory`, nothing was written
+  -- if the status is `Memory`, nothing was written to standard output
   pub memory_untouched : (found : Result A Complaint) → EndsFound text found status contents old new errors → status ≡ statuses.Memory → new ≡ old
   memory_untouched (Ok x) (inl ended) refused = let is = ended.0 in cc
   memory_untouched (Ok x) (inr ended) refused = let is = ended.1 in cc
@@ -208,7 +208,7 @@ module _ {A W : Type 0} (text : A → List ℕ) (contents : W → Option (List �
         go (Err TooLong) so refused = (so.0, is has.bytes (Err TooLong) so.1)
         go (Err (WriteFailed error)) so refused = absurd so
 
-    -- if a text was refused before the input, the input isn't read
+    -- if what is checked before the input was refused, the status is `Refused`, and the input isn't read
     pub unread_refused : (found : Result A Complaint) → HasFound reads found_right remaining before after found
         → EndsFound text found status contents old new errors → reads ≡ false → (status ≡ statuses.Refused) × (after ≡ before)
     unread_refused (Ok x) has ended unread = absurd (has.refused unread).0

@@ -39,7 +39,7 @@ module _ {V : Type 0} (numbers : ProfileNumbers) (text : List ℕ) (remaining : 
       go true fits = let named : profile_named numbers ≡ Ok (settling numbers) = rw fits refl in let bad = sym named ∙ is in cc
       go false low = let named : profile_named numbers ≡ Err (Refused HorizonBelowPeriod) = rw low refl in let why = sym named ∙ is in cc
 
-  -- the profile doesn't change whether the input is read
+  -- if the profile is valid, only the rule decides whether the input is read
   with_profile : (profile : Settling) {A : Type 0} {found_right : List ℕ → Result A Complaint → Type 0} (found : Result A Complaint)
       → profile_named numbers ≡ Ok profile → HasFound (is_ok (rule_named text)) found_right remaining old new found
       → HasFound reads found_right remaining old new found

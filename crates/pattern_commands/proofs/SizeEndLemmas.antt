@@ -22,7 +22,7 @@ module _ {V : Type 0} (text : List ℕ) (from last : ℕ) (remaining : V → Opt
   abbrev ruled : List ℕ → Result (Numbers × List Cell) Complaint → Type 0
   ruled bytes found = ruled_pattern text bytes ≡ found
 
-  -- the lines of a pattern
+  -- the lines that `run --sizes` writes for a pattern: the sizes of generations `from` to `last`
   abbrev write : Numbers → List Cell → List ℕ
   write rule cells = sizes_text rule cells from (last + 1 - from)
 

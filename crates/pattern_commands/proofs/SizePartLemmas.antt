@@ -111,7 +111,7 @@ either true b h none = refl
 either false true h none = absurd (false≢true (sym none))
 either false false h none = h
 
--- if two lists of cells are in order, and the second is in lower rows than the first, the appended list is in order
+-- if two lists of cells are in order, and the second is entirely below the first, the appended list is in order
 rows_append : (S T : List Cell) → InOrder S → InOrder T → ((c d : Cell) → has S c ≡ true → has T d ≡ true → c.y <ℤ d.y) → InOrder (S ++ T)
 rows_append [] T o u below = u
 rows_append (c ∷ cs) T o u below =

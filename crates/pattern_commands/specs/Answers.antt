@@ -37,7 +37,7 @@ abbrev pub IsRightGiven : {A : Type 0} → Result A Complaint → (A → Right) 
 IsRightGiven (Ok x) next = next x
 IsRightGiven (Err complaint) next = only (Err complaint)
 
--- The complaints that can't be found without memory: ranges have to be kept before they can be compared, and an input
+-- The complaints that can't be found without memory: ranges have to be kept before they can be checked, and an input
 -- before it can be parsed.
 abbrev pub NeedsMemory : Complaint → Type 0
 NeedsMemory (Refused RangeTooLarge) = Unit {0}

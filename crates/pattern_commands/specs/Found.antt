@@ -18,8 +18,8 @@ abbrev pub answer_with : {A : Type 0} → (A → List ℕ) → Result A Complain
 answer_with text (Ok x) = Ok (text x)
 answer_with text (Err complaint) = Err complaint
 
--- What a command may have found before it writes anything: a value or a refusal that is right, or why it can't tell.
--- `reads`: the command reads its input.
+-- What a command may have found before it writes anything: a value, a refusal or `TooLong`, which has to be right; or
+-- that memory ran out or a read failed. `reads`: the command reads its input.
 abbrev pub Finds : {A : Type 0} → Bool → (Result A Complaint → Type 0) → Result A Complaint → Type 0
 Finds reads right (Ok x) = right (Ok x)
 Finds reads right (Err (Refused refusal)) = right (Err (Refused refusal))
@@ -29,7 +29,7 @@ Finds reads right (Err TooLong) = (reads ≡ true) × right (Err TooLong)
 Finds reads right (Err (WriteFailed error)) = ⊥
 
 -- What a command has found from its input. `old` and `new` are the reader before and after, and `remaining` is what a
--- reader has left, if that is known. If the command doesn't read its input, something before the input was refused.
+-- reader has left, if that is known. If the command doesn't read its input, it has found a refusal.
 pub record HasFound {A V : Type 0} (reads : Bool) (right : List ℕ → Result A Complaint → Type 0) (remaining : V → Option (List ℕ)) (old new : V) (found : Result A Complaint) : Type 0 where
   pub bytes : List ℕ
   pub input : IsInput (remaining old) bytes
@@ -37,7 +37,7 @@ pub record HasFound {A V : Type 0} (reads : Bool) (right : List ℕ → Result A
   pub refused : reads ≡ false → IsErrAnd found (λ complaint. status_of complaint ≡ statuses.Refused) × (new ≡ old)
   pub little : HasReadAtMost (2 ^ 24 + 2 ^ 16) (remaining old) (remaining new)
 
--- the rule with this text and the pattern of an input, or the complaint about one of them; the rule is checked first
+-- the rule of a rule text, and the pattern of an input; or the complaint about one of them (the rule is checked first)
 abbrev pub ruled_pattern : List ℕ → List ℕ → Result (Numbers × List Cell) Complaint
 ruled_pattern text bytes = given (rule_named text) (λ rule. given (pattern_of bytes) (λ cells. Ok (rule, cells)))
 

@@ -19,8 +19,8 @@ abbrev pub sides : Option Bounds → List ℕ
 sides None = []
 sides (Some b) = after_space (signed_decimal b.left) ++ (after_space (signed_decimal b.top) ++ (after_space (signed_decimal b.right) ++ after_space (signed_decimal b.bottom)))
 
--- the line of generation g, which has these cells: its number, its population, and the sides of the smallest box
--- around it
+-- the line of generation g, where `cells` is the pattern at that generation: g, the population, and the sides of the
+-- smallest box around the cells
 abbrev pub size_line : ℕ → List Cell → List ℕ
 size_line g cells = decimal g ++ (after_space (decimal (length cells)) ++ (sides (box_of cells) ++ codes "\n"))
 

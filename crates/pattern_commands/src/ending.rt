@@ -21,8 +21,8 @@ use plane_core::output::Out;
 use std::io::Write;
 
 /// Ends a command with `outcome`: the number of soups that are missing, or a complaint. Writes the last line of
-/// standard error, if there is one, and returns the status. If an earlier write to `errors` failed, nothing more is
-/// written. A failure to write the line is not reported.
+/// standard error, if there is one, and returns the status. An earlier write to `errors` may have failed only if
+/// `outcome` is a complaint, and then nothing more is written. A failure to write the line is not reported.
 pub fn end_command<E: Write>(outcome: Result<u64, Complaint>, errors: &mut Out<E>) -> Status
     requires { OnOk outcome (errors.old.failed ≡ false) }
     ensures status { result ≡ status_after outcome }

@@ -13,7 +13,7 @@ pub mod ending;
 pub mod input;
 /// `name`: when a pattern settles, and of which objects it then consists.
 pub mod name;
-/// Output that is buffered until a command has ended.
+/// Buffers for the output of a command, and for a line of standard error.
 pub mod output;
 /// Writing a pattern in one of its two forms.
 mod pattern_text;

@@ -1,5 +1,4 @@
-//! Buffers: one for the output of a command until the command has ended, and one for a line of standard error until the
-//! line is complete.
+//! Flushes a command's buffered output when the command has ended, and provides a buffer for a line of standard error.
 
 ghost use Rattle.std.specs.Prelude.{◌≡◌, ◌≢◌, true, false, []};
 ghost use Rattle.std.specs.Io.Buffered.{writer_buffer, writer_contents};

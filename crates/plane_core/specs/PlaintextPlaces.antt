@@ -23,7 +23,7 @@ exclamation_mark = 33
 abbrev pub line_feed : ℕ
 line_feed = 10
 
--- the most columns, and the most rows, that a text may have, including dead cells: this project's limit
+-- cells, dead or alive, may be only in the first 1,000 columns and the first 1,000 rows: this project's limit
 abbrev pub side_limit : ℕ
 side_limit = 1000
 

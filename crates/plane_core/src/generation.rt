@@ -71,8 +71,8 @@ impl StepError {
     }
 }
 
-/// The most generations that are run on one board. After them, the pattern is read back and a new board is made, so
-/// that the board is never much wider than the pattern.
+/// The most generations that [`Pattern::run`] runs on one board. After them, the pattern is read back and a new board
+/// is made, so that a board needs only some 300 columns and rows on each side of the pattern.
 const STRETCH: u32 = 256;
 
 /// The most cuts that may be nested in one another. A part that results from this many nested cuts isn't cut again.
@@ -133,7 +133,7 @@ impl Pattern {
     ///
     /// # Errors
     ///
-    /// The generations are made one after another, and the first failure is returned.
+    /// The first failure ends the run and is returned.
     ///
     /// - `Edge` if a generation before the last has a cell with a coordinate of -1,000,000 or 1,000,000. If the pattern
     ///   itself has such a cell and `generations` isn't 0, the error is `Edge` whether there is memory or not.
@@ -149,7 +149,8 @@ impl Pattern {
         // cell per generation.
         ensures never_edge { (reach : ℕ) → lies_within reach self.now ≡ true → reach + generations ≤ plane_bound
             → result ≢ Err StepError.Edge }
-        // If the pattern touches the edge from the start, the error is `Edge`, whether there is memory or not.
+        // If the pattern itself touches the edge and `generations` isn't 0, the error is `Edge`, whether there is
+        // memory or not.
         ensures edge_first { 1 ≤ generations → touches_edge self.now ≡ true → result ≡ Err StepError.Edge }
         ensures edge { IsErrOf result StepError.Edge
             → (g : ℕ) × (g < generations) × (touches_edge (after rule.now self.now g) ≡ true) }

@@ -1,5 +1,6 @@
-//! One-sided tests, each of which looks at one cluster: `true` is a proof that a pattern isn't at rest or doesn't
-//! recur, and `false` says nothing. So which cluster is tested, and when, is a free choice that needs no proof.
+//! One-sided tests: `true` is a proof that a pattern isn't at rest or doesn't recur, and `false` says nothing. To show
+//! that a pattern isn't at rest, one of its clusters is enough. So which cluster is tested, and when, is a free choice
+//! that needs no proof.
 
 pub(crate) mod active_cells;
 pub(crate) mod crop;

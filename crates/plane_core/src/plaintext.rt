@@ -33,7 +33,8 @@ use std::fmt::{self, Display};
 use std::io::Write;
 use thiserror::Error;
 
-/// The most columns, and the most rows, that a text may have, including dead cells. More empty rows may follow.
+/// The most columns, and the most rows, that a text may have, including dead cells. Any number of empty lines may
+/// follow.
 pub const PLAINTEXT_SIDE_LIMIT: usize = 1_000;
 
 const DEAD: u8 = b'.';
@@ -111,7 +112,7 @@ impl Pattern {
     /// Lines end with a line feed, which the last line may lack. A carriage return at the end of a line is dropped. A
     /// line that begins with `!` is a comment. Each other line is the next row, from y = 0 on, and its bytes are the
     /// cells from x = 0 on: `.` is dead, `O` and `*` are alive. There may be up to 1,000 columns and 1,000 rows,
-    /// including dead cells. More empty rows may follow.
+    /// including dead cells. Any number of empty lines may follow.
     ///
     /// # Errors
     ///

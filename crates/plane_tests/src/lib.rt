@@ -1,5 +1,5 @@
-//! Tests of the public calls of `plane_core`. They are in a crate of their own, so that
-//! `plane_core` isn't proved again for them.
+//! Tests of the public calls of `plane_core`. They are in a crate of their own, because
+//! tests in `plane_core` itself would make the prover prove it twice.
 #![tactic(auto)]
 
 #[cfg(test)]

@@ -50,8 +50,8 @@ fn ends_with(ran: Result<Pattern, StepError>, wanted: &Pattern) -> bool {
     }
 }
 
-// The bounding box of the blinkers has nearly 250,000 columns and as many rows, and the blinkers are too close to each
-// other to be run separately for long.
+// The bounding box of the blinkers has nearly 250,000 columns and as many rows, too many for one board. For five
+// generations, the blinkers are far enough apart to be run separately, but not for 202.
 #[test]
 fn a_thousand_blinkers_on_a_diagonal_turn(rt: HostRuntime) -> Result<(), Fail> {
     let upright = diagonal(rt.alloc(), true)?;

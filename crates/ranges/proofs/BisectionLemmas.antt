@@ -12,7 +12,7 @@ use Rattle.ranges.specs.Ranges.{AreNormal, BeginAfter, end_of, is_in, is_in_rang
 before : (n : ℕ) (r : Range) → n < r.first → is_in_range n r ≡ false
 before n r early = grind (arith, nat_tests)
 
--- a range has no number at its end or after it
+-- `end_of` is the first number after a range: neither it nor a later number is in the range
 past : (n : ℕ) (r : Range) → end_of r ≤ n → is_in_range n r ≡ false
 past n r late = grind (arith, nat_tests)
 

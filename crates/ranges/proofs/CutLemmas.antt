@@ -103,7 +103,7 @@ cut_prefix : (p q : Written) (ps qs : List Written) → IsWritten p → IsWritte
 cut_prefix p q ps qs h k s =
     cut_pair p q (tail ps) (tail qs) h k (tail-ends p.count ps) (tail-ends q.count qs) (sym (joined-cons p ps) ∙ s ∙ joined-cons q qs)
 
--- `joined` is injective
+-- `joined` is injective on lists whose numbers are decimals
 pub joined-injective : (ps qs : List Written) → AllByRecursion IsWritten ps → AllByRecursion IsWritten qs → joined ps ≡ joined qs → ps ≡ qs
 joined-injective [] [] h k s = refl
 joined-injective [] (q ∷ qs) h k s = absurd (pair-some q (tail qs) (sym (joined-cons q qs) ∙ sym s))

@@ -12,7 +12,7 @@ use Rattle.ranges.specs.RangeListSteps.{BeginsDecimal, has_digit}
 pub ascii : IsNumeralModel (λ ds. all_ascii_digits ds ≡ true) (digits_value 10)
 ascii = numerals_by_value _ tells_all_ascii_digits
 
--- the decimal of 10 * n + d is the decimal of n followed by the digit d
+-- if n is at least 1, the decimal of 10 * n + d is the decimal of n followed by the digit d
 pub decimal-push : (n d : ℕ) → 1 ≤ n → n < 2 ^ 64 → d ≤ 9 → decimal (10 * n + d) ≡ decimal n ++ (48 + d) ∷ []
 decimal-push n d some fits digit =
     let quotient : (10 * n + d) / 10 ≡ n = omega arith in

@@ -76,8 +76,8 @@ walk (r ∷ rs) fit (q ∷ q' ∷ qs) each x s =
     let w = walk rs fit.1 (q' ∷ qs) each.1 x t in
     record { more = w.more; each = w.each; spelled = w.spelled; some = λ h. w.some (λ e. absurd (cc)); keeps = λ h. w.keeps h.1 }
 
--- no list has a text that begins with the prefix and then continues like `there`: with the same byte, or with the end
--- of the text if `there` is empty
+-- even if numbers of any size are allowed, no list has a text that begins with the prefix and then continues like
+-- `there`: with the same byte, or with the end of the text if `there` is empty
 abbrev pub Refused : List ℕ → List ℕ → Type 0
 Refused prefix there = (qs : List Written) → AreWritten qs → (x : List ℕ) → head_of there ≡ head_of x → joined qs ≢ prefix ++ x
 
@@ -124,7 +124,7 @@ refused_first there none = λ w ws each x same s.
 pub zero_first : (n : ℕ) → n ≡ 0 → slice_index (decimal n) 0 ≡ 48
 zero_first n z = ap (λ (m : ℕ). slice_index (decimal m) 0) z ∙ ap (λ (t : List ℕ). slice_index t 0) (decimal_digit 0 (omega arith))
 
--- if a decimal ends before a text, it ends before each text with the same first byte
+-- if the decimal of n doesn't continue in `there`, it doesn't continue in a text x with the same first byte
 ends_alike : (n : ℕ) (there x : List ℕ) → (has_digit there ≡ true → n ≡ 0) → head_of there ≡ head_of x → Ends (decimal n) x
 ends_alike n there x ends same = λ h. zero_first n (ends (same_digit there x same ∙ h))
 
@@ -209,7 +209,7 @@ pub list_text-joined : (rs : List Range) → list_text rs ≡ joined (map writte
 unfolding list_text
 list_text-joined rs = refl
 
--- a text that is refused at some place isn't a list
+-- if `Refused` holds for the two parts of a text, the text isn't the text of a list
 pub not_list : (text prefix there : List ℕ) → text ≡ prefix ++ there → Refused prefix there → ¬ IsListText text
 not_list text prefix there s refused list =
     refused (map written list.ranges) (written-all list.ranges (recursion_from_All FitsU64 list.ranges list.fit)) there refl

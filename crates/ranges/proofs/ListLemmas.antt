@@ -166,7 +166,7 @@ abbrev pub left_of : Option (List ℕ) → ℕ
 left_of None = 0
 left_of (Some remainder) = 1 + length remainder
 
--- `written` and `list_text` are injective
+-- `written` and `list_text` are injective on ranges whose numbers are below 2^64
 written-injective : (r s : Range) → FitsU64 r → FitsU64 s → written r ≡ written s → r ≡ s
 written-injective r s h k e = λ i. record {
   first = decimal_injective r.first s.first h.0 k.0 (ap (λ w. w.first) e) i;

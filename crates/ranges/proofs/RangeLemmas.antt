@@ -164,7 +164,7 @@ joining_start a remainder asc below = record {
 
 -- ---- the ranges in ascending order
 
--- an empty range has no number
+-- if `has_numbers` is false for a range, no number is in the range
 in_empty : (n : ℕ) (r : Range) → has_numbers r ≡ false → is_in_range n r ≡ false
 in_empty n r h =
     let none : r.count ≤ 0 = ltb-false 0 r.count h in

@@ -11,7 +11,8 @@ use Rattle.ranges.specs.Ranges.{AreNormal, Overlap, ShareNumber, end_of, is_in, 
 use Rattle.ranges.proofs.NormalLemmas.{after}
 use Rattle.ranges.proofs.RangeLemmas.{count_hit, count_miss, end_of_in, met, unmet}
 
--- a number that isn't in a set is in none of the set's ranges, and a number in at least one of the ranges is in the set
+-- `count_by` counts the ranges that have n: the count is 0 if `is_in` is false for n, and `is_in` is true for n if the
+-- count is at least 1
 count_out : (n : ℕ) (rs : List Range) → is_in rs n ≡ false → count_by (is_in_range n) rs ≡ 0
 count_out n [] h = refl
 count_out n (r ∷ rs) h =
@@ -58,7 +59,7 @@ apart_sets a b h k apart o =
     let two : 2 ≤ count_by (is_in_range n) (a ++ b) = o.1 in
     apart (record { number = n; first = in_counted n a (omega arith); second = in_counted n b (omega arith) })
 
--- if a range of b has a number in common with a, the two sets share a number
+-- if range i of b passes the test `shares` with one of the ranges of a, the two sets share a number
 pub shared_by : (r : Range) (a b : List Range) (i : ℕ) → i < length b → list_any (shares (get_or b i r)) a ≡ true → ShareNumber a b
 shared_by r a b i low h =
     let m = met (get_or b i r) a h in

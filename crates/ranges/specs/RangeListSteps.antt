@@ -40,7 +40,7 @@ pub record LacksPlus (text remainder : List ℕ) : Type 0 where
   pub begins : BeginsDecimal text n remainder
   pub other : ¬ has_byte 43 remainder
 
--- the text begins with a number and a `+` (43), and no count follows
+-- the text begins with a number and a `+` (43), followed by no digit, or by a count of 2^64 or more
 pub record LacksCount (text remainder : List ℕ) : Type 0 where
   pub n : ℕ
   pub begins : BeginsDecimal text n (43 ∷ remainder)

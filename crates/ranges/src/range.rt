@@ -50,7 +50,7 @@ impl Range {
         self.first <= number && number - self.first < self.count
     }
 
-    /// Checks whether the range ends at 2^40 or before.
+    /// Checks whether the range's end, `first + count`, is at most 2^40.
     fn is_below(&self) -> bool
         ensures { IsTrue result ↔ (end_of self.now ≤ number_bound) }
     {

@@ -74,7 +74,7 @@ impl Range {
         ensures complete { (ranges : List Numbers) → FitU64 ranges → list_text ranges ≡ text.now
             → MatchResult result (λ read. read.items ≡ ranges) (λ error. error ≡ Memory out_of_memory) }
 
-        // When each error is returned.
+        // These clauses say when each error is returned.
         ensures bad_list { (place : ℕ) → IsErrOf result (BadList place) → IsFirstListFault text.now place }
         ensures memory { IsErrOf result (Memory out_of_memory) → IsListText text.now }
     {

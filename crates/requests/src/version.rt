@@ -1,4 +1,4 @@
 //! The version of the program.
 
-/// The version that help and `--version` print.
+/// The version that `--version` prints.
 pub const VERSION: &str = "0.3.0";

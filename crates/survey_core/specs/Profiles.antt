@@ -7,7 +7,7 @@ use Rattle.survey_core.specs.declared.profile.ProfileError.TheVariants as error
 pub record Settling : Type 0 where
   -- the longest period that a cluster of a settled pattern may have
   pub period : ℕ
-  -- how far the test of rest looks ahead
+  -- for how many generations the clusters of a settled pattern must keep apart
   pub horizon : ℕ
   -- the distance between checkpoints
   pub stride : ℕ

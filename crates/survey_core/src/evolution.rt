@@ -11,7 +11,7 @@
 //! ```
 //!
 //! If the board has no room for the next leap, the pattern becomes a list again. Spaceships that have escaped are
-//! removed from the board before it advances, and put back when the pattern is listed.
+//! removed from the board before it advances. When the pattern is listed, they are added to the list.
 
 ghost use Rattle.std.specs.Prelude.{◌≡◌, ◌%◌, ◌≤◌, ℕ, IfOk, IsTrue};
 ghost use Rattle.plane_core.specs.plane.Generations.{after};

@@ -34,8 +34,8 @@ pub(crate) fn next(alloc: Global, rule: &Rule, pattern: &Pattern) -> Result<Patt
     }
 }
 
-/// Returns the pattern after `generations` generations, at most 10,001. The pattern must be so far from the edge of the
-/// plane that it can't reach the edge until then.
+/// Returns the pattern after `generations` generations, at most 10,001. The pattern's coordinates must be from -101,000
+/// to 101,000, so that it can't reach the edge of the plane until then.
 pub(crate) fn run_on(
     alloc: Global,
     rule: &Rule,

@@ -1,6 +1,6 @@
 //! Soups, and what becomes of a pattern: when it is at rest, and which objects are left then.
 //!
-//! Each of these modules uses only those below it, except that `surveyor` returns the `Finding` of `finding`:
+//! No module in this list uses one above it, except that `surveyor` returns the `Finding` of `finding`:
 //!
 //! ```text
 //! finding        what becomes of a soup

@@ -13,7 +13,7 @@
 //!                     .O.
 //! ```
 //!
-//! At nearly all checkpoints the pattern isn't at rest, mostly because some cluster doesn't recur. So the first test is
+//! At most checkpoints, the pattern isn't at rest, usually because some cluster doesn't recur. So the first test is
 //! whether each cluster recurs. This test also gives each cluster's envelope, a box around all its phases. The
 //! envelopes show which clusters may come near each other. These clusters form a group, and each group is run by
 //! itself. The clusters of a group are advanced one generation at a time: until one influences another, until all of

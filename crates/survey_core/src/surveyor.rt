@@ -73,7 +73,7 @@ impl Surveyor {
     /// Returns the finding of `pattern`, whose coordinates must be from -1,000 to 1,000. The finding has fewer than
     /// 2^64 objects.
     ///
-    /// The time is proportional to the number of generations that are run, and to the number of live cells in them.
+    /// The time grows with the number of generations that are run, and with the number of live cells in them.
     ///
     /// # Errors
     ///

@@ -3,7 +3,7 @@
 //! ```text
 //! open ──> nothing taken ── offer ──> soups taken ── close ──> closed
 //!                             │            │
-//!                        or refused    census, missing, is_complete
+//!                        or refused    census, missing, is_complete (also possible before and after)
 //! ```
 
 ghost use Rattle.std.specs.Prelude.{◌≡◌, ◌⊎◌, ◌↔◌, ◌<◌, ◌≤◌, ◌+◌, ◌^◌, ◌++◌, ◌∷◌, [], ℕ, All, List, Option, None, Some};
@@ -183,7 +183,7 @@ impl Haul {
         ensures workers { IfOk result (λ haul. haul.terms.workers ≡ workers) }
         ensures stands { IfOk result (StandsFor []) }
 
-        // When each error is returned.
+        // These clauses say when each error except `Memory` is returned.
         ensures bad_workers { IsErrOf result BadWorkers ↔ ¬ IsWorker workers }
         ensures bad_range { IsErrOf result BadRange ↔ (IsWorker workers × ¬ AreSmall ranges.now) }
         ensures overlap { IsErrOf result SharedNumber ↔ (IsWorker workers × AreSmall ranges.now × Overlap ranges.now) }
@@ -476,7 +476,8 @@ fn make_room(
     totals.make_room(alloc, finding)
 }
 
-/// Records which worker reported the soup with this number. There is room for the entry.
+/// Records in `taken` and in `worker_of` which worker reported the soup with this number. Both need room for one more
+/// entry, and the number has to be new.
 fn note(taken: &mut Vec<(u8, u64)>, worker_of: &mut IndexMap<u64, u8>, worker: u8, number: u64)
     requires room { vec_len taken.old + 1 ≤ vec_capacity taken.old }
     requires spare { 1 ≤ spare worker_of.old }

@@ -22,8 +22,8 @@ use survey_core::profile::Profile;
 /// Writes the haul text of a census: the job, the set of soup numbers, the sums, and two lines for each code, one with
 /// its total and one with its samples. No earlier write to the `Out` may have failed.
 ///
-/// This takes no memory. Each name and each number is a write of its own, so the writer should be buffered, for example
-/// by a `BufWriter`.
+/// This takes no memory. The text is written in many small pieces, such as each number, so the writer should be
+/// buffered, for example by a `BufWriter`.
 ///
 /// # Errors
 ///

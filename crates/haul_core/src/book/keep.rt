@@ -20,8 +20,8 @@ use std::alloc::Global;
 ///
 /// # Errors
 ///
-/// [`OutOfMemory`] if memory runs out. If there is no memory for the replies, the haul has received none of the
-/// arrivals. If memory runs out at an offer that the book takes, the haul has received only the arrivals before it.
+/// [`OutOfMemory`] if memory runs out. If there is no memory for the replies, the haul has received no arrivals. If
+/// memory runs out at an offer that the book would have taken, the haul has received only the arrivals before it.
 pub fn keep_book(
     alloc: Global,
     haul: &mut Haul,
@@ -43,8 +43,8 @@ pub fn keep_book(
     Ok(replies)
 }
 
-/// Passes one arrival to a haul. Memory can run out only at an offer that the book takes, and then the haul is
-/// unchanged.
+/// Passes one arrival to a haul. Memory can run out only at an offer that the book would have taken, and then the haul
+/// is unchanged.
 fn answer(haul: &mut Haul, arrival: Arrival) -> Result<Reply, OutOfMemory>
     ensures reply { (before : List Arrived) → StandsFor before haul.old
         → IfOk result (λ reply. reply ≡ reply_to haul.old.terms before arrival) }

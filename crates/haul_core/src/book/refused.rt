@@ -5,8 +5,8 @@ use memory::OutOfMemory;
 use std::fmt;
 use thiserror::Error;
 
-/// Why a report is refused. `census gather` doesn't show these messages, but diagnostics of its own, some of which also
-/// name the soup.
+/// Why a report is refused. `census gather` doesn't print the messages of this type. It prints diagnostics of its own,
+/// some of which also name the soup.
 #[derive(Clone, Copy, PartialEq, Eq, Error)]
 pub enum OfferError {
     /// The haul is closed.

@@ -21,8 +21,8 @@ use survey_core::profile::Profile;
 /// Writes the line of a report, in version 2, with the line feed that ends it. No earlier write to the `Out` may have
 /// failed.
 ///
-/// This takes no memory. Each name and each number is a write of its own, so the writer should be buffered, for example
-/// by a `BufWriter`.
+/// This takes no memory. The line is written in many small pieces, so the writer should be buffered, for example by a
+/// `BufWriter`.
 ///
 /// # Errors
 ///

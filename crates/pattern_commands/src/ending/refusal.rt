@@ -35,8 +35,8 @@ pub enum Refusal {
     SeedBadByte { place: usize },
     /// A profile whose horizon is below its period.
     HorizonBelowPeriod,
-    /// A list of ranges with a fault at `place`: a byte that isn't allowed there, an end that comes too early, or a
-    /// decimal of 2^64 or more that begins there. Places count bytes from 0.
+    /// A list of ranges with a fault at `place`: a byte that isn't allowed there, the end of a text that ends too
+    /// early, or a decimal of 2^64 or more that begins there. Places count bytes from 0.
     BadList { place: usize },
     /// Ranges that have more than 2^24 numbers together, or a range that ends past 2^40.
     RangeTooLarge,

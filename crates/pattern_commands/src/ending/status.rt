@@ -12,9 +12,9 @@ pub enum Status {
     Usage,
     /// A text or an input was refused: a pattern, rule, code, seed, profile or set of soups that isn't valid.
     Refused,
-    /// Memory ran out.
+    /// Memory ran out, or no thread could be started.
     Memory,
-    /// Reading or writing failed.
+    /// Reading or writing failed, or the input is too long.
     Failed,
     /// The haul was printed, but soups of its set are missing.
     Incomplete,

@@ -146,7 +146,8 @@ pub record IsAlone (left top : ℤ) (flood : List ℕ) (cells cluster : List Cel
   pub is : IsCluster cells cluster
   pub held : FillsRows left top flood cluster
 
--- if the window shows a pattern at least `depth` inside its border, the flood shows one of the pattern's clusters
+-- if the window shows a pattern in all cells at least `depth` inside its border, the flood shows one of the pattern's
+-- clusters
 abbrev pub FloodsCluster : List (List ℕ) → List ℕ → ℕ → Type 0
 FloodsCluster window flood depth =
     (cells : List Cell) (left top : ℤ) → InOrder cells → IsShownInside 16 left top depth window cells

@@ -48,7 +48,7 @@ module _ {V : Type 0} {contents : V → Option (List ℕ)} where
   Writes_then {r = Ok _} {a} {b} p q = record { remembers = q.remembers; whole = Appends-append _ _ _ a b p.whole q.whole; prefix = tt }
   Writes_then {r = Err _} {a} {b} p q = record { remembers = q.remembers; whole = tt; prefix = AppendsPrefix-append _ _ _ a b p.whole q.prefix }
 
-  -- a call that fails to write `a` also fails to write `a ++ b`, even if it returns another error
+  -- a call that fails to write `a` also fails to write `a ++ b`, and its error can be replaced by another error
   pub Writes_stops : {E F : Type 0} {x y : Output V} {e : E} {r : Result (Unit {0}) F} {a : List ℕ} (b : List ℕ) → IsErr r
       → Writes contents x y (Err e) a → Writes contents x y r (a ++ b)
   Writes_stops {r = Ok _} b h p = cc

@@ -1,4 +1,4 @@
--- Clusters: the largest parts of a pattern whose cells are connected by steps of at most two cells.
+-- A cluster: all cells that can be reached from one cell of a pattern over its cells, in steps of king distance 1 or 2.
 use Rattle.std.specs.Prelude.{◌≡◌, ◌≤◌, true, false, ◌↔◌, List, [], ◌∷◌, All, Any, AllPairs, ℤ, map}
 use Rattle.plane_core.specs.declared.plane.cell.Cell.{Cell}
 use Rattle.std.specs.declared.cmp.Ordering.TheVariants.{Less}

@@ -32,7 +32,7 @@ IsInOne boxes c = Any (λ b. IsWithin b c) boxes
 abbrev pub IsNearOne : ℕ → List Bounds → Cell → Type 0
 IsNearOne n boxes c = Any (λ b. IsWithin (enlarged n b) c) boxes
 
--- the later boxes are wider: each cell within n of an earlier box is within n of a later box
+-- the boxes `later` are wider: for each n, a cell within n of one of `boxes` is also within n of one of `later`
 abbrev pub AreWider : List Bounds → List Bounds → Type 0
 AreWider boxes later = (n : ℕ) (c : Cell) → IsNearOne n boxes c → IsNearOne n later c
 

@@ -27,7 +27,7 @@ pub record IsBoard (at : Frame) (rule : Numbers) (words : List ℕ) (boxes : Lis
   pub quiet : IsQuiet rule (cells_on at words) boxes
   pub all : holds_all ≡ true → HoldAll boxes (cells_on at words)
 
--- a board on the plane, with the spans of its word columns, which contain all live cells
+-- a board on the plane, with a span of rows for each word column; all live cells are in the spans
 pub record IsSpannedBoard (at : Frame) (rule : Numbers) (words : List ℕ) (boxes : List Bounds) (holds_all : Bool)
     (spans : List RowSpan) : Type 0 where
   pub board : IsBoard at rule words boxes holds_all

@@ -52,8 +52,8 @@ pub record AreRun (at : Frame) (words : List ℕ) (rule : Numbers) (count : ℕ)
       → HoldDifferences places (after rule cells count) (compared_with rule cells count) boxes
   pub sides : All (AreSidesWithin box_bound) boxes
 
--- the inner parts of the first `count` windows were put back: each cell of the board is as one of these parts shows it,
--- or is in none of them and is unchanged
+-- the inner parts of the first `count` windows were put back: if all these parts show the pattern `cells`, each cell of
+-- the board is now as in this pattern, or is in none of the parts and is unchanged
 abbrev pub ArePutBack : Frame → List LeapWindow → List (List ℕ) → ℕ → List ℕ → List ℕ → Type 0
 ArePutBack at places held count old new = (cells : List Cell)
     → ((k : ℕ) (p : LeapWindow) → k < count → ShowsInner (slice_index_or places k p) (slice_index_or held k []) cells)

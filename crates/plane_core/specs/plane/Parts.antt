@@ -5,7 +5,7 @@ use Rattle.plane_core.specs.plane.Cells.{InOrder, has, king_distance, plane_boun
 use Rattle.plane_core.specs.plane.Generations.{after, lies_within}
 use Rattle.plane_core.specs.plane.Rules.{Numbers}
 
--- `later` is the pattern after n generations, and the pattern began so far inside the plane that no cell has left it
+-- `later` is the pattern after n generations, and the pattern began so far from the edge that it is still on the plane
 pub record HasRun (rule : Numbers) (cells : List Cell) (n : ℕ) (later : List Cell) : Type 0 where
   pub after : later ≡ after rule cells n
   pub inside : lies_within (plane_bound - n) cells ≡ true

@@ -21,7 +21,7 @@ abbrev pub RefusesStep : List Cell → StepError → Type 0
 RefusesStep cells step.Edge = touches_edge cells ≡ true
 RefusesStep cells (step.Memory error) = touches_edge cells ≡ false
 
--- `OutOfPlane` is returned only if a cell would be off the plane, and `Memory` only if none would be
+-- `OutOfPlane` is returned only if a cell of the moved or turned pattern is off the plane, and `Memory` only if none is
 abbrev pub RefusesPlace : List Cell → PlaceError → Type 0
 RefusesPlace cells place.OutOfPlane = list_all on_plane cells ≡ false
 RefusesPlace cells (place.Memory error) = list_all on_plane cells ≡ true

@@ -30,8 +30,8 @@ use crate::plane::coordinate::{along, apart};
 use memory::OutOfMemory;
 use std::alloc::Global;
 
-/// Places from `from` to before `end`, whose cells are in one row. Earlier cells of the row are too far to the left to
-/// be joined.
+/// Places from `from` to before `end`, whose cells are in one row above the cell that is being joined. Earlier cells of
+/// that row are too far to the left to be near this cell.
 #[derive(Clone, Copy)]
 struct RowPlaces {
     from: usize,

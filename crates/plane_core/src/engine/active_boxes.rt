@@ -1,8 +1,8 @@
 //! Active boxes: each cell of a board that differs two generations later is in a box, or within 2 of a box.
 //!
 //! When a board is loaded, there is a box for each group of cells that are close together. After a leap of two or four
-//! generations, there is a box for each window in which something still changes. So a part of the pattern with period 1
-//! or 2 costs nothing:
+//! generations, there is a box for each window in which a cell differs from its state two generations earlier. So a
+//! part of the pattern with period 1 or 2 costs nothing:
 //!
 //! ```text
 //! +-----+
@@ -22,7 +22,7 @@ use crate::plane::bounds::Bounds;
 use crate::plane::cell::Cell;
 use memory::OutOfMemory;
 
-/// The number of boxes, counted from the end of the list, that may be widened by a new part.
+/// The number of boxes, counted from the end of the list, that are tried before a part gets a box of its own.
 const LAST_BOXES: usize = 16;
 
 /// Widens boxes of the list, and adds new boxes, so that the boxes contain these cells too. If memory runs out, the

@@ -8,8 +8,8 @@
 //! | .OO    |   +-----------+
 //! | OO.    |   |  window   |     Only the inner part of a window is correct after four generations, and is put back.
 //! |  O     |   | +-------+ |
-//! +--------+   | | inner | |     The boxes for the next leap are where the last generation of this leap differs from
-//!              | +-------+ |     the generation two before it.
+//! +--------+   | | inner | |     After a leap of two or four generations, the new boxes are where its last generation
+//!              | +-------+ |     differs from the generation two before it.
 //!              +-----------+
 //! ```
 ghost use Rattle.std.specs.Prelude.{◌≡◌, [], IfOk, IfSome, true, false};
@@ -51,7 +51,7 @@ const LARGE_LEFT: i32 = -32 * (LARGE_WORD_COLUMNS as i32 - 1);
 /// The first row of a large board. The rows are centred on the origin.
 const LARGE_TOP: i32 = -(LARGE_ROWS as i32) / 2;
 
-/// The number of word columns of a small board, whose words are cleared quickly: 8, and one more.
+/// The number of word columns of a small board, which is made quickly because it has few words: 8, and one more.
 const SMALL_WORD_COLUMNS: usize = 9;
 
 /// The number of rows of a small board: 512, and 72 more.

@@ -34,8 +34,8 @@ pub(crate) struct Frame {
     pub(crate) rows: usize,
 }
 
-/// The number of columns and rows that a board has on each side, beyond the cells that its pattern may reach. Windows
-/// extend at most 36 columns or rows beyond these cells.
+/// The number of columns and rows that [`Frame::round`] adds on each side, beyond the cells that the pattern may reach.
+/// Windows extend at most 36 columns or rows beyond these cells.
 const BOARD_MARGIN: u32 = 40;
 
 /// The fewest columns and rows on each side of a pattern that is shown in the middle of a board.
@@ -43,8 +43,8 @@ const ROOM: u32 = 200;
 
 impl Frame {
     /// Returns a frame around the pattern that is usually large enough for `generations` generations, or `None` if a
-    /// board isn't worth it. A board is worth it if the pattern has a cell, the frame is on the plane, and there are
-    /// not many more words than cells.
+    /// board isn't worth it. A board is worth it if the pattern has a cell and isn't too near to the edge of the plane,
+    /// and the words take at most about 2 MiB and another 2 KiB per cell.
     pub(crate) fn round(pattern: &Pattern, generations: u32) -> Option<Frame>
         requires { generations ≤ 1000 }
         ensures frame { IfSome result IsFrame }
@@ -106,7 +106,7 @@ impl Frame {
     }
 
     /// Returns the frame of the same size with the pattern in its middle, or `None` if the pattern has no room there or
-    /// the frame would be off the plane. For the empty pattern, the frame stays where it is.
+    /// is too near to the edge of the plane. For the empty pattern, the frame stays where it is.
     pub(crate) fn centred(self, pattern: &Pattern) -> Option<Frame>
         requires frame { IsFrame self }
         requires plane { AreSidesWithin plane_bound (bounds_of self) }
@@ -122,8 +122,8 @@ impl Frame {
         self.round_middle(bounds)
     }
 
-    /// Returns the frame of the same size with the box in its middle, or `None` if the box has no room there or the
-    /// frame would be off the plane.
+    /// Returns the frame of the same size with the box in its middle, or `None` if the box has no room there or is too
+    /// near to the edge of the plane.
     fn round_middle(self, bounds: Bounds) -> Option<Frame>
         requires frame { IsFrame self }
         requires across { bounds.left ≤ℤ bounds.right }

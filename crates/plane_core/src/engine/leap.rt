@@ -120,7 +120,8 @@ fn make_room(held: &mut Vec<[u64; 64]>, count: usize) -> Result<(), OutOfMemory>
 ///
 /// The rows of each window are stored in `held`, and `boxes` is replaced. If `count` is even, there is a box for each
 /// window in which a cell differs from its state two generations earlier. If `count` is odd, there is a box for each
-/// window with a live cell. All memory is allocated here, before the first word is written.
+/// window with a live cell. Nothing is written to the board here. So if memory runs out, the board shows the same
+/// pattern as before.
 pub(crate) fn run_all(
     words: &[u64],
     at: Frame,

@@ -46,8 +46,8 @@ impl RowSpan {
         }
     }
 
-    /// Returns the part of the span that is below `limit`. The result is never reversed: its `from` is at most its
-    /// `end`.
+    /// Returns the span of those numbers of this span that are less than `limit`. The result is never reversed: its
+    /// `from` is at most its `end`.
     pub(crate) fn below(self, limit: usize) -> RowSpan
         ensures order { result.from ≤ result.end }
         ensures most { result.end ≤ limit }

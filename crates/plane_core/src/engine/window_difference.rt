@@ -46,8 +46,9 @@ fn differing<const N: usize>(one: u64x4, other: u64x4, k: usize) -> u64x4
         ])
 }
 
-/// Returns a word in each lane. Each lane of vector `k` is a row of the window. If the lane of `places` isn't 0, the
-/// word has only the bit with the number of this row. Otherwise the word is 0.
+/// Marks the rows of vector `k` that have a 1 in `places`. Lane `j` of the vector is row `j * N + k` of the window. If
+/// lane `j` of `places` isn't 0, lane `j` of the result has only the bit with the number of this row. Otherwise lane
+/// `j` of the result is 0.
 #[inline(always)]
 fn marked<const N: usize>(places: u64x4, k: usize) -> u64x4
     requires low { k < N }

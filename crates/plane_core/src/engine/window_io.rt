@@ -44,8 +44,8 @@ pub(crate) fn row_of(at: Frame, window: LeapWindow) -> usize
 }
 
 /// Reads the rows of a window that begins in column `x` and row `y` of the board. Each row consists of the end of a
-/// word of the first word column and the beginning of a word of the second. Four rows are read at a time, and the
-/// remaining rows one by one.
+/// word of word column `x / 64` and the beginning of a word of the next word column. Four rows are read at a time, and
+/// the remaining rows one by one.
 #[inline(always)]
 pub(crate) fn read_rows<const R: usize>(words: &[u64], at: Frame, x: usize, y: usize) -> [u64; R]
     requires long { FillsFrame at words.now }
@@ -89,7 +89,8 @@ fn joined(first: [u64; 4], second: [u64; 4], shift: usize) -> [u64; 4]
     (ends | beginnings).to_array()
 }
 
-/// Returns the part of `word` that is in the first word column, if the word begins in column `shift` of the first.
+/// Returns the part of `word`, a row of a window, that is in the first of the row's two word columns. The row begins in
+/// column `shift` of this word column.
 #[inline(always)]
 fn in_first(word: u64, shift: usize) -> u64
     requires { shift < 64 }
@@ -99,7 +100,8 @@ fn in_first(word: u64, shift: usize) -> u64
     word << shift
 }
 
-/// Returns the part of `word` that is in the second word column, if the word begins in column `shift` of the first.
+/// Returns the part of `word`, a row of a window, that is in the second of the row's two word columns. The row begins
+/// in column `shift` of the first of them.
 #[inline(always)]
 #[tactic(auto, using(crate::proofs::lemmas::windows::ShiftLemmas::bit_second))]
 fn in_second(word: u64, shift: usize) -> u64
@@ -135,8 +137,8 @@ fn put_words(words: &mut [u64], i: usize, mask: u64, values: [u64; 4])
     set_words(words, i, new.to_array());
 }
 
-/// Returns, for each of the four rows from row `r` on, the part of its word that is in the first word column. The words
-/// begin in column `shift` of the first word column.
+/// Returns, for each of the four rows from row `r` on, the part that is in the first of the row's two word columns. The
+/// rows begin in column `shift` of this word column.
 #[inline(always)]
 fn in_first_of(rows: &[u64; 64], r: usize, shift: usize) -> [u64; 4]
     requires rows { r + 4 ≤ 64 }
@@ -151,8 +153,8 @@ fn in_first_of(rows: &[u64; 64], r: usize, shift: usize) -> [u64; 4]
     values
 }
 
-/// Returns, for each of the four rows from row `r` on, the part of its word that is in the second word column. The
-/// words begin in column `shift` of the first word column.
+/// Returns, for each of the four rows from row `r` on, the part that is in the second of the row's two word columns.
+/// The rows begin in column `shift` of the first of them.
 #[inline(always)]
 fn in_second_of(rows: &[u64; 64], r: usize, shift: usize) -> [u64; 4]
     requires rows { r + 4 ≤ 64 }

@@ -23,12 +23,12 @@ use crate::windows::window::generation;
 use crate::windows::window_queries::{in_any_lane, row};
 use std::simd::u64x4;
 
-/// The most generations for which a cluster is run beside the whole. Clusters that diverge later usually never recur
-/// either, and are rejected for that.
+/// The most generations for which a cluster is run and compared with the whole. A cluster that diverges later usually
+/// never recurs either, which the test `never_recurs` shows.
 const LIMIT: u32 = 11;
 
-/// The distance, in columns and rows, within which another cell is near the cluster. Of a hundred clusters that
-/// diverge, 97 have another cell within this distance.
+/// A live cell of another cluster is near a cluster if it is at most this number of columns and rows away. Of a hundred
+/// clusters that diverge, 97 have such a cell near them.
 const NEAR: usize = 4;
 
 /// Returns `true` only if the cluster that `alone` shows diverges within `most` generations from the pattern that
@@ -59,8 +59,8 @@ pub(crate) fn diverges_from_whole<const N: usize>(
     false
 }
 
-/// Checks whether another cell is near the cluster, whose live rows are given. This only decides whether it is
-/// worthwhile to run the cluster beside the whole.
+/// Checks whether a live cell of another cluster is near the cluster, whose live rows are given. This only decides
+/// whether it is worthwhile to run the cluster and compare it with the whole.
 pub(crate) fn is_near_others(rows: &[u64; 64], cluster: &[u64; 64], live: LiveRows) -> bool {
     let mut others = 0;
     let mut columns = 0;

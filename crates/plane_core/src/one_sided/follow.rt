@@ -6,8 +6,8 @@
 //! |                |    counted from the first ones with a live cell. Usually it is enough to compare which columns
 //! |    OO.         |    have a live cell.
 //! |     OO.        |
-//! |      O         |    If a generation equals an earlier one, all later generations repeat earlier ones.
-//! +----------------+
+//! |      O         |    If a generation equals an earlier one, all later generations repeat earlier ones, none of
+//! +----------------+    which was a translate of the start.
 //! ```
 ghost use Rattle.std.specs.Prelude.{◌≡◌, ◌+◌, ◌-◌, ◌*◌, ◌/◌, ◌^◌, ◌<◌, ◌≤◌, ℕ, ℤ, IfSome, IsTrue, List, max};
 ghost use Rattle.std.specs.Int.{bit_at};
@@ -28,7 +28,7 @@ use std::simd::u64x4;
 /// How the search for a translate of the start ended.
 #[derive(Clone, Copy)]
 pub(crate) enum Followed {
-    /// No generation from 1 to the limit is a translate of the start.
+    /// No generation from 1 to `most` is a translate of the start.
     NeverAgain,
     /// A generation may be a translate of the start.
     PerhapsAgain,

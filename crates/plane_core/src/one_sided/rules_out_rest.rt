@@ -21,9 +21,9 @@ use crate::windows::row_packing::unpacked;
 use crate::windows::rule_logic::RuleLogic;
 use std::simd::u64x4;
 
-/// Returns `true` only if no pattern that the window shows is at rest: each has a cluster that diverges from the
-/// pattern within `horizon` generations, or doesn't recur within `period` generations. The window is correct at least
-/// `depth` cells inside its border. `false` says nothing.
+/// Returns `true` only if no pattern of which the window shows a piece is at rest: each such pattern has a cluster that
+/// diverges from it within `horizon` generations, or doesn't recur within `period` generations. The window is correct
+/// at least `depth` cells inside its border. `false` says nothing.
 pub(crate) fn rules_out_rest(
     window: &[u64x4; 16],
     rule: &RuleLogic,

@@ -11,7 +11,8 @@
 //! . . . . . . . . . .      . . . . . . . . . .
 //! ```
 //!
-//! A lone spaceship has a small box, so only small boxes are examined, and only those that are ahead of all others.
+//! A lone spaceship has a small box, so only small boxes are examined, and only those that are ahead of all other boxes
+//! in some diagonal direction.
 ghost use Rattle.std.specs.Prelude.{All, IfOk, List, OnOk};
 ghost use Rattle.plane_core.specs.plane.Cells.{InOrder};
 ghost use Rattle.plane_core.specs.clusters.Clusters.{IsCluster};

@@ -11,8 +11,9 @@ use crate::plane::pattern::Pattern;
 
 impl Pattern {
     /// Returns the number of cells above a cut, or `None` if there is no cut or `cuts` is 0. `cuts` is the number of
-    /// cuts that may still be made. A cut is between two successive cells whose rows are more than `far` apart. The
-    /// first cut at or after the middle of the list is chosen, or the last cut if all cuts are before the middle.
+    /// cuts that may still be nested in one another, including this one. A cut is between two successive cells whose
+    /// rows are more than `far` apart. The first cut at or after the middle of the list is chosen, or the last cut if
+    /// all cuts are before the middle.
     pub(crate) fn cut(&self, far: u32, cuts: u32) -> Option<usize>
         ensures cut { IfSome result (IsCut far self.now) }
         ensures cuts { OnSome result (0 < cuts) }

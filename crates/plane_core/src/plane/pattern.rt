@@ -132,7 +132,7 @@ impl Pattern {
     ///
     /// # Errors
     ///
-    /// `OutOfMemory` if memory runs out. `self` is dropped in this case too.
+    /// `OutOfMemory` if memory runs out. `self` is consumed in this case, too.
     pub fn united(self, other: &Pattern) -> Result<Pattern, OutOfMemory>
         ensures { IfOk result (λ whole. whole ≡ set_of (self ++ other.now)) }
     {

@@ -42,9 +42,9 @@ impl fmt::Debug for RuleFault {
 
 /// A Life-like rule without birth on zero neighbours, such as Conway's Life, `b3s23`.
 ///
-/// It has birth numbers from 1 to 8 and survival numbers from 0 to 8. A dead cell is born if the number of its live
-/// neighbours is a birth number. A live cell survives if this number is a survival number. Every other cell is dead in
-/// the next generation.
+/// Its birth numbers are among 1 to 8, and its survival numbers among 0 to 8. A dead cell is born if the number of its
+/// live neighbours is a birth number. A live cell survives if this number is a survival number. Every other cell is
+/// dead in the next generation.
 #[derive(Clone, Copy, Debug, PartialEq, Eq)]
 pub struct Rule {
     births: [bool; 8],
@@ -116,7 +116,7 @@ impl Rule {
         ensures text { IfOk result (λ rule. rule_text rule ≡ text.now) }
         ensures complete { (rule : Numbers) → IsRule rule → rule_text rule ≡ text.now → result ≡ Ok rule }
 
-        // When each fault is returned.
+        // These clauses say when each fault is returned.
         ensures bad_rule { (place : ℕ) → result ≡ Err (RuleFault.BadRule place) → IsFirstFault text.now place }
         ensures birth_zero { (result ≡ Err RuleFault.BirthZero) ↔ IsTrue (begins text.now (codes "b0")) }
 

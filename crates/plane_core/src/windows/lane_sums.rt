@@ -74,7 +74,7 @@ pub(crate) fn summed(up: Sum, here: Sum, down: Sum) -> Total
     ensures { (j i : ℕ) → j < 4 → total_of result j i ≡ sum_of up j i + sum_of here j i + sum_of down j i }
 {
     let low = added(up.ones, here.ones, down.ones);
-    // `high` is a number of twos.
+    // `high` counts twos: its `ones` have the weight 2, and its `twos` the weight 4.
     let high = added(up.twos, here.twos, down.twos);
     let carry = low.twos & high.ones;
     Total {

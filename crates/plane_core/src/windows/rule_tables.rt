@@ -2,7 +2,8 @@
 //! live cells in its neighbourhood, including the cell itself.
 //!
 //! For each total from 0 to 9, words of equal bits give the answers (whether a cell is alive next) for dead and live
-//! cells. The binary digits of the total choose between these answers. So no branch depends on a cell or on the rule:
+//! cells. The binary digits of the total choose between these answers, by bit operations. So no branch depends on a
+//! cell or on the rule. Here, `d ? y : n` is `y` where the digit `d` is 1, and `n` where it is 0:
 //!
 //! ```text
 //! eights ?  ones ? 9 : 8
@@ -45,9 +46,9 @@ impl CellLogic for Life {
 
     #[inline(always)]
     fn next_cells(&self, up: Sum, here: RowSums, down: Sum, now: u64x4) -> u64x4 {
-        // A cell is alive next if it has three live neighbours, or if it is alive and has two. Four of the binary
-        // digits that are added have the weight 2. The number of live neighbours is two or three if and only if exactly
-        // one of these four digits is 1.
+        // A cell is alive next if it has three live neighbours, or if it is alive and has two. The number of live
+        // neighbours is `low.ones` plus twice the sum of the four digits that `only_one` gets. So it is two or three if
+        // and only if exactly one of these digits is 1.
         let low = added(up.ones, down.ones, here.beside.ones);
         only_one(up.twos, down.twos, here.beside.twos, low.twos) & (low.ones | now)
     }

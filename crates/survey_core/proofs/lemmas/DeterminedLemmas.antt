@@ -131,7 +131,7 @@ one_list_of_objects one other h k same = one_list one other h.in_order k.in_orde
 
 -- ---- findings
 
--- the objects of a pattern at rest are unique
+-- a pattern at rest has only one list of objects
 same_objects : (rule : Numbers) (profile : Settling) (cells : List Cell) (one other : List (List ℕ × ℕ)) (good fine : Bool)
     → IsSettled rule profile cells one good → IsSettled rule profile cells other fine → one ≡ other
 same_objects rule profile cells one other good fine h k =

@@ -38,7 +38,8 @@ next_checkpoint profile t here within = record {
   within = within;
 }
 
--- if the program's test passes (the stride is at most `limit` - t), the next checkpoint is within the limit
+-- `survey_pattern` tests whether the stride is at most `limit` - t: if so, generation t + `stride` is within the limit,
+-- and otherwise (`no_room`) it is past the limit
 pub room_for_more : (limit stride l s t : ℕ) → l ≡ limit → s ≡ stride → t ≤ limit → s ≤ l - t → t + stride ≤ limit
 room_for_more limit stride l s t l_is s_is here room = omega arith
 
@@ -75,7 +76,7 @@ no_rest_more rule profile cells latest t some here is before moves u check low r
   | inr earlier ↦ before u check earlier rest
 ]
 
--- if a pattern settles at a checkpoint, and there is no rest before it, the finding there is the finding of the pattern
+-- if a pattern is at rest at a checkpoint, and at no earlier one, the finding there is the finding of the pattern
 pub finding_from : (rule : Numbers) (profile : Settling) (cells latest : List Cell) (t : ℕ) (finding : Finding) → SettlesAt rule profile latest t finding
     → latest ≡ after rule cells t → IsCheckpoint profile t → NoRestBefore rule profile cells t → IsFinding rule profile cells finding
 finding_from rule profile cells latest t (Settled u objects good) (same, settled) is check before = (

@@ -33,7 +33,7 @@ jobs_decide a b =
     (λ e. (ap (λ (j : Job). j.seed) e, (ap (λ (j : Job). j.profile) e, ap (λ (j : Job). j.rule) e)))
     (Decides-and _ _ (pointwise_decides Decides-eqb a.seed b.seed) (Decides-and _ _ (profiles_decide a.profile b.profile) (rules_decide a.rule b.rule)))
 
--- a seed padded with zeros to `most_bytes`: the form in which seeds are compared
+-- a seed padded with zeros to `most_bytes` bytes: the form in which the program stores seeds and compares them
 abbrev pub padded : List ℕ → List ℕ
 padded bytes = bytes ++ replicate (most_bytes - length bytes) 0
 

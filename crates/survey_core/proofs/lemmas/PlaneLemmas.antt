@@ -25,7 +25,7 @@ pub within_more : (near far : ℕ) (cells : List Cell) → near ≤ far → lies
 within_more near far cells low within =
     has-list_all (is_within far) cells (λ c e. is_within-more near far c low (list_all-has (is_within near) cells within c e))
 
--- after g generations a pattern lies within a reach that is greater by g or more
+-- if a pattern lies within a reach, then after g generations it lies within each reach that is greater by g or more
 pub within_later : (near far : ℕ) (rule : Numbers) (cells : List Cell) (g : ℕ) → near + g ≤ far → lies_within near cells ≡ true
     → lies_within far (after rule cells g) ≡ true
 within_later near far rule cells g low within = within_more (near + g) far (after rule cells g) low (within-after rule cells near g within)

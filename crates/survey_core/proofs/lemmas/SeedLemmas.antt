@@ -10,7 +10,7 @@ use Rattle.std.proofs.lemmas.Str.Ascii.{IsAscii-cons, IsAscii-nil}
 use Rattle.survey_core.specs.Seeds.{IsSeed, is_invisible, is_visible, most_bytes, seed_read, seed_with_fault}
 use Rattle.survey_core.specs.declared.seed.SeedFault.TheVariants.{TooLong}
 
--- if no byte is invisible, all are visible
+-- if `position` finds no invisible byte, all bytes are visible
 pub all_visible : (bytes : List ℕ) → position is_invisible bytes ≡ None → list_all is_visible bytes ≡ true
 all_visible bytes e = reached bytes (whole (nat_lt (prefix_len (λ b. not (is_invisible b)) bytes) (length bytes)) refl e)
   where
@@ -38,7 +38,8 @@ read_as text found short is = go (nat_lt most_bytes (length text)) refl
     go true e = let long : 64 < length text = ltb-true 64 (length text) e in absurd (omega (arith, long, short))
     go false e = ap (seed_with_fault text) (sym is)
 
--- writing byte `place` over a zero gives the first `place` + 1 bytes, padded with zeros to 64 bytes
+-- if an array has the first `place` bytes, padded with zeros to 64 bytes, and byte `place` is stored at this place, the
+-- array has the first `place` + 1 bytes, padded with zeros to 64 bytes
 pub padded_more : (bytes : List ℕ) (place : ℕ) → place < length bytes → length bytes ≤ 64
     → set (take place bytes ++ replicate (64 - place) 0) place (get_or bytes place 0)
     ≡ take (place + 1) bytes ++ replicate (64 - (place + 1)) 0
@@ -50,14 +51,14 @@ padded_more bytes place low short =
     ∙ sym (append_assoc (take place bytes) (get_or bytes place 0 ∷ []) zeros)
     ∙ ap (λ (prefix : List ℕ). prefix ++ zeros) (sym (take_more bytes place 0 low))
 
--- once all bytes are written, the text is padded with zeros to 64 bytes
+-- once all bytes are stored, the array has the whole text, padded with zeros to 64 bytes
 pub padded_all : (bytes : List ℕ) (place : ℕ) → place ≤ length bytes → length bytes ≤ place
     → take place bytes ++ replicate (64 - place) 0 ≡ bytes ++ replicate (64 - length bytes) 0
 padded_all bytes place low high =
     let end : place ≡ length bytes = omega arith in
     (λ i. take_all place bytes high i ++ replicate (64 - end i) 0)
 
--- the first invisible byte from place i on: byte i, or the first one after it
+-- the first invisible byte from place i on is byte i if this is invisible, and otherwise the first one from i + 1 on
 from_place : (bytes : List ℕ) (i : ℕ) → i < length bytes
     → position_from is_invisible i (drop i bytes)
     ≡ cond (is_invisible (get_or bytes i 0)) (Some i) (position_from is_invisible (i + 1) (drop (i + 1) bytes))

@@ -1,4 +1,4 @@
--- Spaceships that are ahead of all the rest of a pattern. Nothing ever comes near them, so they evolve alone forever.
+-- Spaceships ahead of the rest of a pattern. Under a slow rule, the rest never comes near them, so they evolve alone.
 use Rattle.std.specs.Prelude.{◌≡◌, ◌+◌, ◌*◌, ◌<◌, ◌≤◌, ℕ, ℤ, pos, ◌+ℤ◌, ◌*ℤ◌, ◌≤ℤ◌, ◌||◌, true, List}
 use Rattle.plane_core.specs.declared.plane.cell.Cell.{Cell}
 use Rattle.plane_core.specs.declared.plane.orientation.Orientation.{Orientation}

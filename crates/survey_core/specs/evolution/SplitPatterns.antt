@@ -21,7 +21,7 @@ spaceship_at rule t spaceship = after rule spaceship.cells (t - spaceship.since)
 abbrev pub whole_at : Numbers → ℕ → List Cell → List Spaceship → List Cell
 whole_at rule t board spaceships = union_of (board ∷ map (spaceship_at rule t) spaceships)
 
--- none of the spaceships has these cells
+-- none of the spaceships consisted of exactly these cells when it was removed
 abbrev pub IsNoneOf : List Spaceship → List Cell → Type 0
 IsNoneOf spaceships cells = All (λ spaceship. spaceship.cells ≢ cells) spaceships
 
@@ -32,7 +32,7 @@ pub record AreCandidates (board : List Cell) (spaceships : List Spaceship) (clus
   pub each : All (IsCluster before) clusters
   pub still : (cluster : List Cell) → IsCluster before cluster → IsNoneOf spaceships cluster → IsPartOf board cluster
 
--- Under a slow rule, the spaceship was removed from the board an even number of generations ago, twice `half`. It was
+-- The rule is slow. The spaceship was removed from the board an even number of generations ago, twice `half`. It was
 -- ahead of the board in a diagonal direction then, and the board's depth in this direction has since grown by at most
 -- one in two generations.
 pub record IsOff (rule : Numbers) (t : ℕ) (board : List Cell) (spaceship : Spaceship) : Type 0 where

@@ -16,8 +16,8 @@ PartsRunAlone = (rule : Numbers) (cells : List Cell) (parts : List (List Cell)) 
     → LieApart (after rule (get_or parts i d) g) (after rule (get_or parts j d) g))
     → (g : ℕ) → g ≤ n → KeepApart rule cells parts g
 
--- if parts of different groups, each run alone, stay more than two cells apart, then all parts keep apart in the
--- pattern if and only if the parts of each group keep apart in their union
+-- up to generation n: if parts of different groups, each run alone, stay more than two cells apart, `KeepApart` holds
+-- for the pattern and all its parts if and only if it holds for the union of each group and the parts of this group
 abbrev pub GroupsRunAlone : Type 0
 GroupsRunAlone = (rule : Numbers) (cells : List Cell) (groups : List ℕ) (parts : List (List Cell)) (n : ℕ) → InOrder cells → length groups ≡ length parts
     → Partition cells parts → GroupsStayApart rule groups parts n

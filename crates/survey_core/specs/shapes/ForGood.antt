@@ -9,7 +9,7 @@ use Rattle.survey_core.specs.shapes.Objects.{IsMultiple}
 abbrev pub RecursInPlace : Numbers → ℕ → List Cell → ℕ → Type 0
 RecursInPlace rule limit cells period = Recurs rule cells limit (record { period = period; dx = pos 0; dy = pos 0 })
 
--- m is 1 or more, and a multiple of the period of each cluster
+-- m is 1 or more, and a multiple of the period of each cluster that recurs in place
 pub record IsCommonPeriod (rule : Numbers) (limit : ℕ) (clusters : List (List Cell)) (m : ℕ) : Type 0 where
   pub some : 1 ≤ m
   pub each : All (λ cluster. (period : ℕ) → RecursInPlace rule limit cluster period → IsMultiple m period) clusters

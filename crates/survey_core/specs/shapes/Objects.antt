@@ -25,7 +25,7 @@ pub record AreObjects (objects : List (List ℕ × ℕ)) : Type 0 where
   pub in_order : IsStrictlySortedBy (slice_cmp nat_cmp) (keys_of objects)
   pub some : All (λ object. 1 ≤ object.1) objects
 
--- no code has a count of 0
+-- no code in the list has a count of 0
 abbrev pub CountsAreSome : List (List ℕ × ℕ) → Type 0
 CountsAreSome objects = (code : List ℕ) → IfSome (lookup (is_code code) objects) (λ n. 1 ≤ n)
 

@@ -1,12 +1,12 @@
 //! Escaped spaceships: nothing else in the pattern can ever catch up with them, so they may be removed from the board.
 //!
 //! ```text
-//! O O . . . . . . .     The depth of a cell is the sum of its column and its row. In two generations, the greatest
-//! . O O . . . . . .     depth of the rest grows by at most 1. On average, the depth of a glider grows by 1 in two
-//! . . . . . . . . .     generations, since in four generations the glider moves one cell right and one cell down.
-//! . . . . . . . . .     If the glider's bounding box begins at least seven deeper than the deepest cell of the rest,
-//! . . . . . . . O .     as here (depths 10 and 3), the rest never catches the glider. The same holds in the three
-//! . . . . . . . . O     other diagonal directions.
+//! O O . . . . . . .     The depth of a cell is the sum of its column and its row. Under a slow rule such as Life, the
+//! . O O . . . . . .     greatest depth of the rest grows by at most 1 in two generations. On average, the depth of a
+//! . . . . . . . . .     glider grows by 1 in two generations, since in four generations the glider moves one cell
+//! . . . . . . . . .     right and one cell down. If the glider's bounding box begins at least seven deeper than the
+//! . . . . . . . O .     deepest cell of the rest, as here (depths 10 and 3), the rest never catches the glider. The
+//! . . . . . . . . O     same holds in the three other diagonal directions.
 //! . . . . . . O O O
 //! ```
 //!
@@ -41,8 +41,9 @@ use plane_core::plane::rule::Rule;
 use plane_core::plane::transform::PlaceError;
 use std::alloc::Global;
 
-/// If the memo doesn't know the shape of a part of a board, and a test shows that the part doesn't recur within this
-/// many generations, the part is skipped. Nearly all spaceships that soups of Life leave recur within four generations.
+/// The search for escaped spaceships skips a part of the board if the memo doesn't know the part's shape and a test
+/// shows that the part doesn't recur within this many generations. Nearly all spaceships that soups of Life leave recur
+/// within four generations.
 const SHORT: u32 = 8;
 
 /// A spaceship that was removed from a board.
@@ -116,9 +117,9 @@ pub(crate) fn spaceship_of(
 
 /// Guesses whether a part of a board isn't a spaceship: the guess is `true` if the memo doesn't know the part's shape
 /// and a cheap test shows that the part doesn't recur within `SHORT` generations, or within `limit` if that is less.
-/// This guess is wrong for a spaceship whose period is over `SHORT`, which then stays on the board. The guess saves
-/// time, since few changing clusters are spaceships. The shapes that the memo knows are mostly spaceships that aren't
-/// ahead yet, so they aren't tested.
+/// The guess may be wrong for a spaceship whose period is over `SHORT` and whose shape the memo doesn't know. Such
+/// a spaceship then stays on the board. The guess saves time, since few changing clusters are spaceships. A part whose
+/// shape the memo knows isn't tested, since it usually is a spaceship that isn't ahead yet.
 fn is_unlikely(rule: &Rule, limit: u32, part: &Pattern, memo: &Memo) -> bool {
     !memo.knows(rule, limit, part) && part.surely_changes(rule, limit.min(SHORT))
 }

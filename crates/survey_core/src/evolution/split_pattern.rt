@@ -7,8 +7,9 @@
 //! spaceships                              the glider, since 404     the glider, since 404
 //! ```
 //!
-//! The board advances by even numbers of generations only. In n generations, the greatest depth (column plus row) of
-//! the rest grows by at most n / 2, rounded up. For odd numbers of generations, the roundings would add up.
+//! The board advances by even numbers of generations only. Under a slow rule such as Life, the greatest depth (column
+//! plus row) of the rest grows by at most n / 2, rounded up, in n generations. If the board advanced by odd numbers of
+//! generations, the roundings would add up.
 
 ghost use Rattle.std.specs.Prelude.{◌≡◌, ◌+◌, ◌≤◌, All, IfOk, OnOk, false, true};
 ghost use Rattle.plane_core.specs.plane.Frontiers.{is_slow};
@@ -35,7 +36,8 @@ pub(crate) const LATEST_TIME: u32 = 800_000;
 /// costs as much as a leap or two, and an escaped spaceship that isn't removed costs a window in every leap.
 const EVERY: u32 = 64;
 
-/// The shortest period of a spaceship that can escape, in generations.
+/// If `limit`, the longest period of the spaceships that may be removed, is below this number of generations, the board
+/// isn't searched. Nearly all spaceships that soups of Life leave have period 4.
 const SHORTEST_PERIOD: u32 = 4;
 
 /// A board together with the spaceships that were removed from it.
@@ -49,8 +51,8 @@ pub(crate) struct SplitPattern {
 
 impl SplitPattern {
     /// Removes escaped spaceships from the board, so that they no longer cost a window in every leap. Call this before
-    /// advancing the board by `generations`. The board is searched only if it is about to pass a multiple of `EVERY`
-    /// generations. Spaceships whose period is over `limit` (1 to 64) stay on the board.
+    /// advancing the board by `generations`. The board is searched only if `time` plus `generations` is at least the
+    /// next multiple of `EVERY`, minus 1. Spaceships whose period is over `limit` (1 to 64) stay on the board.
     pub(crate) fn remove_escaped(
         &mut self,
         alloc: Global,
@@ -109,8 +111,8 @@ impl SplitPattern {
     }
 }
 
-/// Removes the clusters that are spaceships ahead of all the rest, one after another. When a cluster is removed, a
-/// cluster behind it may now be ahead of all the rest.
+/// Goes through `clusters` once, and removes each cluster that is a spaceship ahead of all the rest. When a cluster is
+/// removed, an earlier cluster of the list may now be ahead of all the rest, so the caller calls this again.
 fn remove_ahead(
     alloc: Global,
     rule: &Rule,

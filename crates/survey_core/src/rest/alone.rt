@@ -25,7 +25,8 @@ use plane_core::plane::pattern::Pattern;
 use plane_core::plane::rule::Rule;
 use std::alloc::Global;
 
-/// The most clusters that are compared with each other. If there are more, it costs less to advance their union.
+/// The most clusters that are compared pair by pair, to find whether all are more than two cells apart. If there are
+/// more, it costs less to advance their union.
 const MOST_COMPARED: usize = 8;
 
 /// The most cells of a cluster that is compared with another cluster cell by cell. If one of the two is larger, only

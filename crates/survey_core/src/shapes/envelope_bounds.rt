@@ -2,11 +2,11 @@
 //! four phases of the glider, its envelope, and the envelope a cycle of four generations later:
 //!
 //! ```text
-//! .O..    ....    ....    ....    cycle 0    cycle 1
-//! ..O.    O.O.    ..O.    .O..    +---+
-//! OOO.    .OO.    O.O.    ..OO    |   |+---+
-//! ....    .O..    .OO.    .OO.    +---+|   |
-//!                                      +---+
+//! .O..    ....    ....    ....    0000.
+//! ..O.    O.O.    ..O.    .O..    0bbb1     0: only in the envelope of cycle 0
+//! OOO.    .OO.    O.O.    ..OO    0bbb1     1: only in the envelope of cycle 1
+//! ....    .O..    .OO.    .OO.    0bbb1     b: in both envelopes
+//!                                 .1111
 //! ```
 //!
 //! Two clusters stay apart if their envelopes, one of them grown by 2, have no cell in common in any cycle up to the

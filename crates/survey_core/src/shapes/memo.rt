@@ -11,7 +11,7 @@
 //! The slot is chosen by a hash of the cells relative to the first cell, so a shape has the same slot wherever it is.
 //! An entry is about a cluster if rule and limit are the same, and if the shape, displaced, is the cluster. Then the
 //! cluster recurs like the shape and has the shape's apgcode, and its envelope is that of the shape, displaced.
-//! Otherwise the cluster is run and named, and what is found replaces the entry.
+//! Otherwise the cluster is run. If it recurs and isn't large, it is named, and what is found replaces the entry.
 //!
 //! The choice of the slot and of what is kept can't make a finding wrong: if the memo forgets a shape, a survey only
 //! takes longer.

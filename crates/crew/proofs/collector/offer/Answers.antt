@@ -29,7 +29,7 @@ no_memory false true false false worker e = absurd (cc)
 no_memory false true false true None e = absurd (cc)
 no_memory false true false true (Some w) e = absurd (cc)
 
--- if memory ran out at an offer, the book takes the offer
+-- if the haul's reply to an offer is that memory ran out, the book would have taken the offer
 book_takes : (terms : Terms) (before : List Arrival) (r : Reported) (given : Option OfferError) → IsReply given (refusal_of terms before r)
     → given ≡ Some (Memory out_of_memory) → refusal_of terms before r ≡ None
 book_takes terms before r given (inl same) e = absurd (no_memory (has_closing before) (same_job terms.job r.job) (nat_lt terms.workers r.worker)

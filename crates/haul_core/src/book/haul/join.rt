@@ -60,13 +60,13 @@ impl Haul {
     /// - [`JoinError::Overlap`] if a number is in both sets.
     /// - [`JoinError::Memory`] if memory runs out.
     pub fn join(self, other: Haul) -> Result<Haul, (Haul, Haul, JoinError)>
-        // The joined haul, and arrivals that lead to it.
+        // These clauses say that the hauls could be joined, what the joined haul is, and which arrivals lead to it.
         ensures can { OnOk result (CanJoin self other) }
         ensures joined { IfOk result (IsJoined self other) }
         ensures stands { (before after : List Arrival) → StandsFor before self → StandsFor after other
             → IfOk result (StandsFor (joined_arrivals self.terms before other.terms after)) }
 
-        // When each error is returned, and that both hauls come back with it.
+        // The first clause says when each error is returned, and the second says that both hauls come back unchanged.
         ensures hinders { IfErr result (λ refused. Hinders self other refused.2) }
         ensures kept { IfErr result (λ refused. (refused.0 ≡ self) × (refused.1 ≡ other)) }
     {
@@ -138,7 +138,7 @@ fn joined(first: &Haul, second: &Haul) -> Result<Haul, OutOfMemory>
     })
 }
 
-/// Returns the workers and numbers that the first haul has taken, followed by those that the second haul has taken.
+/// Returns the worker and the number of each report taken: first those of the first haul, then those of the second.
 fn all_taken(
     alloc: Global,
     first: &[(u8, u64)],

@@ -58,7 +58,8 @@ pub(crate) fn number_in(text: &[u8]) -> Option<u64>
     }
 }
 
-/// Returns the number below 2^64 that a field gives: the field is the name, followed by the number's decimal.
+/// Returns the number below 2^64 that a field gives. The field consists of `name`, such as `soup=`, and the number's
+/// decimal.
 pub(crate) fn number_after(name: &[u8], field: &[u8]) -> Option<u64>
     ensures { SpellsField IsNumber (λ n. name.now ++ decimal n) field.now result }
 {
@@ -243,7 +244,7 @@ pub(crate) fn is_code(text: &[u8]) -> bool
     1 <= length && length <= MOST_CODE_BYTES && are_code_bytes(text)
 }
 
-/// Checks whether a code may consist of these bytes.
+/// Checks whether each byte of a text may be in a code.
 fn are_code_bytes(text: &[u8]) -> bool
     ensures { result ≡ list_all is_code_byte text.now }
 {

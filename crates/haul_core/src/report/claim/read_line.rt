@@ -21,7 +21,8 @@ use std::alloc::Global;
 use std::fmt;
 use thiserror::Error;
 
-/// Why a line can't be read as a claim. `census gather` doesn't show this message, but a diagnostic of its own.
+/// Why a line can't be read as a claim. `census gather` doesn't print the messages of this type, but diagnostics of its
+/// own.
 #[derive(Clone, Copy, PartialEq, Eq, Error)]
 pub enum LineError {
     /// The field that begins at `place` isn't allowed there, or a field is missing at the end of the line. Places count
@@ -66,13 +67,14 @@ impl Claim {
     ///   the first wrong field begins. If no field is wrong but one is missing, the place is the length of the line.
     /// - [`LineError::Memory`] if memory runs out.
     pub fn read_line(alloc: Global, line: &[u8]) -> Result<Claim, LineError>
-        // The result is a claim with this line. If a lawful claim has this line, it is read, unless memory runs out.
+        // If a claim is returned, it is lawful, and `line` is its line. If a lawful claim has this line, this claim is
+        // returned, unless memory runs out.
         ensures lawful { IfOk result IsClaim }
         ensures line { IfOk result (λ read. claim_line read ≡ line.now) }
         ensures complete { (claim : Claimed) → IsClaim claim → claim_line claim ≡ line.now
             → MatchResult result (λ read. read ≡ claim) (λ error. error ≡ Memory out_of_memory) }
 
-        // When each error is returned.
+        // These clauses say when each error is returned.
         ensures bad_line { (place : ℕ) → IsErrOf result (BadLine place) → IsFirstFaultOf line.now place }
         ensures memory { IsErrOf result (Memory out_of_memory) → IsClaimLine line.now }
     {

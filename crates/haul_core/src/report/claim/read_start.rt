@@ -138,8 +138,8 @@ fn with_field(mut head: LineStart, place: usize, field: &[u8]) -> Option<LineSta
     Some(head)
 }
 
-/// Returns the start of a line whose soup settled at this checkpoint, and the text of the counts. In version 2, the
-/// next field says whether the objects stay for good.
+/// Reads the rest of the start of a line whose soup settled at this checkpoint, and returns what [`start_in`] returns.
+/// In version 2, the first field of `remainder` says whether the objects stay for good.
 fn settled_in<'a>(
     line: &'a [u8],
     head: LineStart,

@@ -413,12 +413,13 @@ bridged cells place some o low row right k less above left near = record {
     down : distance c.y b.y ≤ 2
     down = omega (arith, ints, high, row)
 
--- no cell near `place` is more than two columns to its left
+-- `IsFresh` holds for the column two to the left of `place`, because no cell near `place` is further to the left
 pub fresh_first : (cells : List Cell) (place : ℕ) (column : ℤ) → column ≡ ((cell_of cells place).x +ℤ negsuc 1) → IsFresh cells column place
 fresh_first cells place column first k less above left near =
     let wide : distance (cell_of cells k).x (cell_of cells place).x ≤ 2 = omega (arith, near) in absurd (omega (arith, ints, wide, first, left))
 
--- in a row at most two away, the cells that are at most two columns away are near
+-- if `from` and `to` are two columns left and two columns right of d, in a row at most two rows above d, each cell from
+-- `from` to `to` is near d
 pub near_row : (c d from to : Cell) (dy : ℤ) → from ≡ moved_by (negsuc 1) dy d → to ≡ moved_by (pos 2) dy d → negsuc 1 ≤ℤ dy → dy ≤ℤ pos 0
     → c.y ≡ from.y → from.x ≤ℤ c.x → c.x ≤ℤ to.x → king_distance c d ≤ 2
 near_row c d from to dy begin end low most row left right =
@@ -454,8 +455,8 @@ between c b d first second row near = go (before_cases c b first) (before_cases 
         let even : distance b.y d.y ≤ 2 = omega (arith, ints, right.0) in
         (omega (arith, west, level), omega (arith, east, even))
 
--- A law about the place just before `place`, restated for each k with k + 1 ≡ place: if k is in the row of `place` and
--- needs to be joined with `place`, the two are joined.
+-- Restates what `join_before` ensures about the place just before `place`, for each k with k + 1 ≡ place: if k is in
+-- the row of `place` and needs to be joined with `place`, the two are joined.
 pub joins_before : (cells : List Cell) (parents : List ℕ) (place : ℕ)
     → ((cell_of cells (place - 1)).y ≡ (cell_of cells place).y → NeedsJoin cells (place - 1) place → Joined parents (place - 1) place)
     → (k : ℕ) → k + 1 ≡ place → (cell_of cells k).y ≡ (cell_of cells place).y → NeedsJoin cells k place → Joined parents k place

@@ -134,7 +134,8 @@ rows_more rectangle across first row laid rows more old new is some sum beside b
     further : (y : ℤ) → y <ℤ (first +ℤ pos more) → (y +ℤ pos 8) <ℤ (row +ℤ pos rows)
     further y h = omega (arith, ints, is, some, sum)
 
--- if more rows are laid than the distance from `first` to `bottom`, they reach past each row of the rectangle
+-- if more rows are laid, from `first` on, than the distance from `first` to `bottom`, each row y of the rectangle is
+-- above `first + laid`, the first row below those that are laid
 pub below_end : (y bottom first : ℤ) (length laid : ℕ) → y ≤ℤ bottom → length ≡ distance first bottom → length < laid → y <ℤ (first +ℤ pos laid)
 below_end y bottom first length laid h is less = omega (arith, ints)
 

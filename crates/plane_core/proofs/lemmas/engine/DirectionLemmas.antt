@@ -175,7 +175,7 @@ unfolding on_plane
 cell_on_plane at s r i c hs hr hi plane is =
     ap (is_within plane_bound) is ∙ lies_near (bounds_of at) plane_bound (board_cell at s r i) plane (spot_within at s r i hs hr hi)
 
--- from step `first` on, the depth o of the outermost cell is at most m plus the step
+-- from step `first` on, the depth o of the outermost cell is at most the step plus m, the depth that was found
 pub enough_steps : (o m : ℤ) (count apart first step : ℕ) → apart ≡ unsigned_abs (o -ℤ m) → first ≡ min count apart → first ≤ step → step < count
     → o ≤ℤ (m +ℤ pos step)
 enough_steps o m count apart first step is least low high = omega (arith, ints)
@@ -407,7 +407,7 @@ pub reaches : (way : Orientation) (direction : Direction) (cells : List Cell) (f
 reaches way direction cells None is seen = tt
 reaches way direction cells (Some m) is seen = λ c e. subst (λ (z : ℤ). z ≤ℤ m) (is c) (seen c e)
 
--- in the word 0, bit i says correctly that the cell isn't in column i of the row
+-- if `cell` isn't the cell that is i columns to the right of `first`, bit i of the word 0 shows this
 pub no_bit : (first cell : Cell) (i : ℕ) → (first.y ≡ cell.y → first.x +ℤ pos i ≡ cell.x → ⊥)
     → (bit_at 0 i == 1) ≡ same_cell (cell_at (first.x +ℤ pos i) first.y) cell
 no_bit first cell i apart = bit_is 0 first cell i (λ one. absurd (omega (arith, one, bit_at-zero i)))

@@ -27,7 +27,7 @@ word-inside at s r hs hr =
 pub frame-small : (at : Frame) → IsFrame at → at.word_columns * at.rows ≤ 2 ^ 16 * 2 ^ 22
 frame-small at frame = mul-le-mul frame.word_columns frame.rows
 
--- different rows have different indices in the list
+-- the words of different rows, or of different word columns, have different indices in the list
 pub one_word : (h s r t y : ℕ) → s * h + r ≡ t * h + y → r < h → y < h → (s ≡ t) × (r ≡ y)
 one_word h s r t y e hr hy = go (same_or_not s t)
   where

@@ -219,7 +219,7 @@ band-less at words band n m some before here s low near = elim (same_or_not s (n
   | inr apart ↦ before s (omega (arith, low, apart, some)) near
 ]
 
--- a bit that is 0 in the union of the first k + 1 words of a block is 0 in each of these words
+-- a bit that is 0 in the union of the k + 1 words from place `from` on is 0 in each of these words
 pub eight-more : (words : List ℕ) (from k columns : ℕ)
     → ((b m : ℕ) → bit_at columns b ≡ 0 → m < k → bit_at (slice_index words (from + m)) b ≡ 0)
     → (b m : ℕ) → bit_at (bit_or columns (slice_index words (from + k))) b ≡ 0 → m < k + 1 → bit_at (slice_index words (from + m)) b ≡ 0
@@ -233,7 +233,7 @@ eight-more words from k columns before b m none near = go (same_or_not m k)
         let e = bit_at_or columns (slice_index words (from + k)) b in
         before b m (omega (arith, e, none)) (omega arith)
 
--- a span that ends before eight rows, or begins past them, has none of the eight
+-- a span that ends before the eight rows from row `first` on, or begins after them, has none of these rows
 pub missed_eight : (span : RowSpan) (first : ℕ) → (nat_le span.end first || nat_le (first + 8) span.from) ≡ true → (k : ℕ) → k < 8 → HasRow span (first + k) → ⊥
 missed_eight span first e k low inside = let a = inside.low in let b = inside.high in grind (arith, nat_tests)
 
@@ -243,7 +243,7 @@ pub word_column_missed : (at : Frame) (words : List ℕ) (spans : List RowSpan) 
 word_column_missed at words spans s band hs hb live missed k b low small =
     dead_outside at words spans s (8 * band + k) b live hs (omega (arith, low, hb)) small (missed k low)
 
--- word columns that no span reaches are empty
+-- word columns that aren't in the range `word_columns` have no rows in their spans, so they are empty in each band
 pub band_missed : (at : Frame) (words : List ℕ) (spans : List RowSpan) (word_columns : RowSpan) (band from to : ℕ) → band < at.rows / 8 → to ≤ at.word_columns
     → LieInSpans at spans (cells_on at words) → LieInWordColumns at spans word_columns → ((s : ℕ) → from ≤ s → s < to → HasRow word_columns s → ⊥)
     → IsBandEmpty at words band from to

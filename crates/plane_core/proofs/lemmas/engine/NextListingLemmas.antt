@@ -1,4 +1,4 @@
--- The next generation of a board, listed window by window.
+-- The next generation of a board, made in windows and listed row by row.
 use Rattle.std.proofs.Common.{◌≡◌, ◌≢◌, ◌==◌, ◌∙◌, ◌+◌, ◌-◌, ◌*◌, ◌/◌, ◌%◌, ◌<◌, ◌≤◌, ℕ, ℤ, pos, ◌+ℤ◌, ◌-ℤ◌, ◌≤ℤ◌, ◌<ℤ◌, Bool, true, false, List, [], ◌∷◌, ◌++◌}
 use Rattle.std.proofs.Common.{All, Any, arith, refl, ap, sym, subst, inl, inr, ◌⊎◌, get_or, length, max, min, slice_index, take, unsigned_abs, bit_and, bit_or}
 use Rattle.std.specs.Int.{bit_at}
@@ -122,7 +122,8 @@ band_more at y from x cells windows new window here is pushed before = record {
     place u v a b d e alive (inr past) =
         inr (record { i = u - x; low = omega arith; high = omega arith; is = omega (arith, here) })
 
--- a window without live cells can be skipped: the windows so far also show its 56 columns of the band
+-- a window without live cells can be skipped: the band has no live cell in its 56 columns, so the windows so far still
+-- show all live cells of the band before column x + 60
 pub band_skipped : (at : Frame) (y from x : ℕ) (cells : List Cell) (windows : List NextRows) (rows : List ℕ) → ShowsInnerRows at x y rows cells
     → ((r i : ℕ) → r < 40 → bit_at (slice_index rows r) i ≡ 0) → AreBandOf at y from (x + 4) cells windows → AreBandOf at y from (x + 56 + 4) cells windows
 band_skipped at y from x cells windows rows shown empty before = record {

@@ -1,4 +1,5 @@
--- Boxes outside of which a pattern is quiet: what a leap leaves unchanged, and the boxes for the next leap.
+-- What a leap leaves unchanged, and the boxes for the next leap. A pattern is quiet outside of some boxes if each cell
+-- that isn't within 2 of a box is the same two generations later.
 use Rattle.std.proofs.Common.{◌≡◌, ◌≢◌, ◌+◌, ◌-◌, ◌%◌, ◌≤◌, ℕ, zero, suc, Bool, true, false, cond, List, [], ◌⊎◌}
 use Rattle.std.proofs.Common.{arith, refl, ap, ◌∙◌, sym, subst, inl, inr}
 use Rattle.std.proofs.lemmas.Bool.{eq-eqb, false≢true, ne_eqb}
@@ -146,7 +147,7 @@ quiet-next rule S boxes new places n o quiet covered low high even differ =
     both : (d : Cell) → ¬ IsNearOne 4 boxes d → has (after rule S n) d ≡ has (after rule S (n - 2)) d
     both d far = still-even rule S boxes n d o quiet which far ∙ sym (before d which far)
 
--- after an odd number of generations, the new boxes hold all live cells
+-- if the boxes hold all live cells, the new boxes hold all cells that are alive after an odd number of generations
 pub boxed-next : (rule : Numbers) (S : List Cell) (boxes new : List Bounds) (places : List LeapWindow) (n : ℕ) → HoldAll boxes S
     → AreCovered places boxes → n ≤ 4 → n % 2 ≡ 1 → HoldDifferences places (after rule S n) (compared_with rule S n) new
     → HoldAll new (after rule S n)
@@ -158,7 +159,8 @@ boxed-next rule S boxes new places n all covered le odd differ c h =
 
 -- ---- when cells are taken out or put in
 
--- if S is quiet outside `boxes` and T differs from S only in `more`, T is quiet outside boxes around both lists
+-- if S is quiet outside `boxes`, and T differs from S only in the boxes of `more`, then T is quiet outside `new`,
+-- provided that each cell within 2 of a box of `boxes` or of `more` is also within 2 of a box of `new`
 pub quiet-changed : (rule : Numbers) (S T : List Cell) (boxes more new : List Bounds) → InOrder S → InOrder T → IsQuiet rule S boxes
     → ((c : Cell) → has T c ≢ has S c → IsInOne more c) → ((c : Cell) → IsNearOne 2 boxes c → IsNearOne 2 new c)
     → ((c : Cell) → IsNearOne 2 more c → IsNearOne 2 new c) → IsQuiet rule T new

@@ -46,7 +46,7 @@ gone-has S gone c apart = go (has S c) (has gone c) refl (λ e. apart (has-witho
     go true false e h = absurd (h refl)
     go false false e h = absurd (h refl)
 
--- the cells that are left after c is removed too
+-- S without `gone` and without c has cell d exactly if S has d, `gone` doesn't have d, and d isn't c
 has-without_more : (S gone : List Cell) (c d : Cell) → has (without S (gone ++ c ∷ [])) d ≡ (has S d && not (has gone d || (same_cell d c || false)))
 has-without_more S gone c d = has-without S (gone ++ c ∷ []) d ∙ ap (λ (b : Bool). has S d && not b) (has-append gone (c ∷ []) d)
 
@@ -148,7 +148,8 @@ pub fewer_taken : (at : Frame) (ws : List ℕ) (S cs : List Cell) (i : ℕ) (d :
     → Shows at ws (without S (take i cs ++ get_or cs i d ∷ [])) → Shows at ws (without S (take (i + 1) cs))
 fewer_taken at ws S cs i d low shown = subst (λ (gone : List Cell). Shows at ws (without S gone)) (sym (take_more cs i d low)) shown
 
--- a board that shows the old board's pattern without the cells of `gone` has exactly this pattern
+-- if each bit of the new board is 1 exactly when its cell is in the old board's pattern without `gone`, the new board's
+-- pattern is the old board's pattern without `gone`
 pub only_without : (at : Frame) (old new : List ℕ) (gone : List Cell) → Shows at new (without (cells_on at old) gone)
     → cells_on at new ≡ without (cells_on at old) gone
 only_without at old new gone shown =

@@ -49,7 +49,8 @@ in_no_lane v word is (suc (suc (suc (suc j)))) i low none = absurd (omega (arith
 abbrev pub other_than : ℕ → ℕ → Bool
 other_than a b = not (eqb a b)
 
--- if lane j of `rows` has a mark, but the mark isn't selected, lane j of `places` is 0
+-- A lane of `rows` is selected if the same lane of `places` isn't 0. So if bit q of lane j is 1 in `rows` and 0 in the
+-- selection, lane j of `places` is 0.
 pub not_marked : (places rows : List ℕ) (j i q : ℕ) → length places ≡ 4 → length rows ≡ 4 → j < 4 → bit_of rows j q ≡ 1
     → bit_of (sel_l (map (top 63) (zip2 (λ (a b : ℕ). cond (other_than a b) (2 ^ 64 - 1) 0) places (replicate 4 0))) rows (replicate 4 0)) j q ≡ 0
     → bit_of places j i ≡ 0

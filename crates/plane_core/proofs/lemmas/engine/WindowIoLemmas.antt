@@ -95,7 +95,8 @@ abbrev IsOnePut : ℕ → ℕ → ℕ → ℕ → ℕ → ℕ → ℕ → Type 0
 IsOnePut x y word old new u v =
     ((c : IsInnerColumn x u) × (v ≡ y) × (new ≡ bit_at word c.i)) ⊎ ((IsInnerColumn x u → v ≢ y) × (new ≡ old))
 
--- a bit in one of the two word columns is replaced by bit i of the word if i is an inner column
+-- a bit of the board in column i of the window, in the row that is put back, is replaced by bit i of the word if i is
+-- an inner column, and is otherwise unchanged
 put_there : (x y word old new u v i mask value : ℕ) → v ≡ y → (i < 64 → u ≡ x + i) → (IsInnerColumn x u → u ≡ x + i)
     → mask ≡ bit_at inner_mask i → value ≡ bit_at word i → new ≡ cond (mask == 1) value old → IsOnePut x y word old new u v
 put_there x y word old new u v i mask value row there back m w is = split (inner_bit i)
@@ -359,7 +360,7 @@ none_put at x y rows old u v hu hv = inr (λ c. let low = c.row.low in let high 
 pub column_low : (x : ℕ) → x % 64 < 64
 column_low x = omega arith
 
--- the list has both words of a row that begins in column x
+-- `words` has the two words that hold the cells of a window's row, which begins in column x and row y of the board
 pub words_in : (at : Frame) (words : List ℕ) (x y : ℕ) → FillsFrame at words → x / 64 + 1 < at.word_columns → y < at.rows
     → (x / 64 * at.rows + y < length words) × (x / 64 * at.rows + y + at.rows < length words)
 words_in at words x y long word_column row =
@@ -367,7 +368,8 @@ words_in at words x y long word_column row =
     let second : (x / 64 + 1) * at.rows + y < at.word_columns * at.rows = word-inside at (x / 64 + 1) y word_column row in
     (omega (arith, long, first), omega (arith, long, second))
 
--- the indices of the two words of a row that begins in column x fit in 64 bits, as a list has fewer than 2^60 items
+-- the indices of the two words that hold the cells of a window's row, which begins in column x and row y of the board,
+-- fit in 64 bits, as `words` has fewer than 2^60 items
 pub fits_begin : (at : Frame) (words : List ℕ) (x y most : ℕ) → length words * 8 < 9223372036854775808 → FillsFrame at words → x / 64 + 1 < at.word_columns
     → y + most ≤ at.rows → Fits w64 (x / 64 * at.rows) × Fits w64 (x / 64 * at.rows + y) × Fits w64 (x / 64 * at.rows + y + at.rows)
 fits_begin at words x y most small long word_column row =

@@ -1,5 +1,5 @@
--- A pattern is run in a window. How a translate of the pattern at the start is recognised, and what follows if the
--- window doesn't show a translate.
+-- A pattern is run in a window. How a generation that is a translate of the start is recognised, and how the pattern is
+-- proved never to recur.
 use Rattle.std.proofs.Common.{◌≡◌, ◌≢◌, ◌==◌, ◌+◌, ◌*◌, ◌/◌, ◌^◌, ◌<◌, ◌≤◌, ℕ, ℤ, pos, ◌+ℤ◌, ◌≤ℤ◌, zero, suc, Bool, true, false}
 use Rattle.std.proofs.Common.{List, [], ◌∷◌, arith, refl, ap, ◌∙◌, sym, subst, inl, inr, ◌⊎◌, w64}
 use Rattle.std.specs.Cmp.{both_ways as both_true}

@@ -47,7 +47,7 @@ row_seen : (left top : ℤ) (i r : ℕ) → row_in top (in_window left top i r) 
 unfolding row_in
 row_seen left top i r = omega (arith, ints)
 
--- a cell of the window is flooded exactly if its bit is 1
+-- a cell of the window is flooded exactly if its bit in the flood is 1
 seen_flooded : (flood : List ℕ) (left top : ℤ) (i r : ℕ) → is_flooded flood left top (in_window left top i r) ≡ (bit_in flood r i == 1)
 unfolding is_flooded
 seen_flooded flood left top i r =

@@ -49,7 +49,7 @@ followed_in_crop rule n many from made start now first window cs cn followed = r
     held S left top up same h = subst (λ (t : ℤ). Holds n left t window (after rule S made)) (sym same)
         (held_in n many from left up now window (after rule S made) cn (followed.held S left up (begun S left top up same h)))
 
--- if no pattern in the crop recurs, no pattern in the rows does
+-- if no pattern that the crop holds recurs within `most` generations, no pattern that the rows hold does
 pub new_in_rows : (rule : Numbers) (n many from most : ℕ) (start : List ℕ) (first : List (List ℕ)) → IsCropOf n many from start first
     → ((S : List Cell) (left top : ℤ) → Holds n left top first S → NeverRecurs rule S most)
     → (S : List Cell) (left top : ℤ) → FillsRows left top start S → NeverRecurs rule S most

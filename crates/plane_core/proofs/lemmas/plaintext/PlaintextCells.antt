@@ -93,7 +93,7 @@ rows_have y (suc k) x (r ∷ rows) =
     ap (λ cs. has cs d) (live_cells-append here later) ∙ has-append (live_cells here) (live_cells later) d
     ∙ ap (λ v. v || has (live_cells later) d) none ∙ ap (λ w. has (live_cells later) (cell_at (pos x) (pos w))) next ∙ rows_have (y + 1) k x rows
 
--- a text has the cell in column x of row y exactly if the byte there is live
+-- the cell in column x of row y of a text is alive exactly if the byte there is a live cell
 pub has-live_cells : (text : List ℕ) (x y : ℕ) → has (live_cells (places text)) (cell_at (pos x) (pos y)) ≡ is_live (byte_at text x y)
 unfolding places
 has-live_cells text x y = let e : y ≡ 0 + y = omega arith in ap (λ w. has (live_cells (places text)) (cell_at (pos x) (pos w))) e

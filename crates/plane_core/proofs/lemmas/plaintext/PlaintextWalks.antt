@@ -204,7 +204,7 @@ walked-off y cells i d l e h =
 pub walked-all : (y : ℤ) (cells : List Cell) (i : ℕ) → length cells ≤ i → len_in_row y cells ≡ i + len_in_row y (drop i cells) → i ≡ len_in_row y cells
 walked-all y cells i l h = let none = ap (len_in_row y) (drop_all i cells l) in omega (arith, h, none)
 
--- if the 32 bits of two rows are equal, the rows are equal
+-- two row numbers with the same 32 bits are equal
 pub same_bits : (a y : ℤ) → FitsSigned w32 a → of_z w32 a ≡ of_z w32 y → int_eq a (to_z w32 (of_z w32 y)) ≡ true
 same_bits a y fits e =
     let same : a ≡ to_z w32 (of_z w32 y) = sym (to_z-of_z w32 a fits) ∙ ap (to_z w32) e in

@@ -34,7 +34,7 @@ min_again a b = omega (arith, ints, clamps)
 pub max_again : (a b : ℤ) → int_max a (int_max a b) ≡ int_max a b
 max_again a b = omega (arith, ints, clamps)
 
--- widening a box by two cells gives the same box in either order
+-- a box is the same whether it is widened to contain first cell d and then cell c, or first c and then d
 pub widened-swap : (c d : Cell) (b : Bounds) → widened c (widened d b) ≡ widened d (widened c b)
 widened-swap c d b i = record {
   left = min_swap c.x d.x b.left i;
@@ -116,7 +116,7 @@ least-alone c = record {
   bottom = any-head (λ d. d.y ≡ c.y) c [] refl;
 }
 
--- the box of a list is the smallest box around its cells
+-- the box of a list, if there is one, contains all cells of the list and has one of them on each of its four sides
 pub box_of-least : (cs : List Cell) → IfSome (box_of cs) (IsLeastBox cs)
 box_of-least [] = tt
 box_of-least (c ∷ []) = least-alone c
@@ -127,7 +127,8 @@ pub box_of-none : (cs : List Cell) → IsNone (box_of cs) ↔ (cs ≡ [])
 box_of-none [] = (λ _. refl, λ _. refl)
 box_of-none (c ∷ cs) = (λ e. absurd (false≢true (sym e)), λ e. absurd cc)
 
--- the box of the first i + 1 images is the box of the first i images, widened by image i
+-- the box of the images of the first i + 1 cells is the box of the images of the first i cells, widened by the image of
+-- cell i
 pub image_box_more : (f : Cell → Cell) (cs : List Cell) (i : ℕ) (d : Cell) → i < length cs
     → box_of (map f (take (i + 1) cs)) ≡ Some (grown (f (get_or cs i d)) (box_of (map f (take i cs))))
 image_box_more f cs i d low =

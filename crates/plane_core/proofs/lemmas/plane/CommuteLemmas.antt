@@ -54,7 +54,7 @@ module _ (f g : Cell → Cell) (rigid : IsRigid f g) where
       go Equal is h ih = absurd (false≢true (sym h))
       go Greater is h ih = omega (arith, around-cons d (put x ds) c, ih h, around-cons x ds c, around-cons x (d ∷ ds) c, around-cons d ds c)
 
-  -- a cell has as many live neighbours in the set of an image as in the image
+  -- putting the cells of an image in order, with `set_of`, doesn't change how many live neighbours a cell has
   around-set_of : (S : List Cell) (c : Cell) → InOrder S → around (set_of (map f S)) c ≡ around (map f S) c
   around-set_of [] c o = refl
   around-set_of (d ∷ ds) c o =

@@ -38,7 +38,7 @@ y_within c on = leb-true _ _ ((and_parts (nat_le (unsigned_abs c.x) plane_bound)
 pub same_passed : (a b : ℤ) → FitsSigned w32 a → FitsSigned w32 b → of_z w32 a ≡ of_z w32 b → a ≡ b
 same_passed a b fa fb same = sym (to_z-of_z w32 a fa) ∙ ap (to_z w32) same ∙ to_z-of_z w32 b fb
 
--- if `a` isn't less than `b`, then `a` is `b` plus their difference
+-- if `a`, compared in 32 bits, isn't less than `b`, then `a` is `b` plus n, the difference of the 32-bit numbers
 pub more_by : (a b : ℤ) (n : ℕ) → FitsSigned w32 a → FitsSigned w32 b → lt_z (passed a) (passed b) ≡ false → n ≡ unsigned_abs (passed a -ℤ passed b)
     → a ≡ b +ℤ pos n
 more_by a b n fa fb low is = more (rw (to_z-of_z w32 a fa, to_z-of_z w32 b fb) at low) (rw (to_z-of_z w32 a fa, to_z-of_z w32 b fb) at is)

@@ -99,7 +99,8 @@ is_pattern-drop S cut p = record {
   on_plane = (and_parts _ _ (sym (list_all-append on_plane (take cut S) (drop cut S)) ∙ ap (list_all on_plane) (take-append-drop cut S) ∙ p.on_plane)).1;
 }
 
--- if both parts have run for n generations, the union of the results is the whole pattern after n generations
+-- if the two parts are more than 2n apart, and both have run for n generations, the union of the results is the whole
+-- pattern after n generations
 pub run_from_parts : (rule : Numbers) (S : List Cell) (cut n : ℕ) (above below whole : List Cell) → InOrder S → IsCut (2 * n) S cut
     → HasRun rule (take cut S) n above → HasRun rule (drop cut S) n below → whole ≡ set_of (above ++ below) → HasRun rule S n whole
 run_from_parts rule S cut n above below whole o p one other both = record {

@@ -1,4 +1,5 @@
--- A sorted list of cells, read run by run, where a run consists of equal cells.
+-- How the next generation is read from the sorted list of all cells' neighbourhoods, run by run. A run consists of
+-- equal cells.
 use Rattle.std.proofs.Common.{◌≡◌, ℕ, ◌+◌, ◌<◌, ◌≤◌, Bool, true, false, List, [], ◌∷◌, ◌++◌, arith, suc, cond, refl, ap, ◌∙◌, sym, subst}
 use Rattle.std.proofs.Common.{filter, get_or, length, drop, append-nil, append_assoc, add-zero, Fits, w8, pos, set, take, length-set}
 use mathlib.Core.Bool.{beq}
@@ -67,7 +68,7 @@ abbrev pub AreShort : ℕ → List Cell → Type 0
 AreShort n [] = Unit {0}
 AreShort n (c ∷ cs) = (n < 9) × AreShort (cond (goes_on c cs) (n + 1) 0) cs
 
--- how often a cell is in the list, plus the n cells of the first run that are already counted
+-- how often e is in the list c ∷ cs, plus n if e is c: n cells of the first run are already counted
 abbrev in_all : ℕ → Cell → List Cell → Cell → ℕ
 in_all n c cs e = times (c ∷ cs) e + cond (same_cell e c) n 0
 
@@ -103,7 +104,7 @@ pub record IsTallied (p : Cell → ℕ → Bool) (n : ℕ) (rest made all : List
   pub short : AreShort n rest
   pub told : made ++ picked p n rest ≡ all
 
--- a place before the end of a list is less than the length of the list
+-- a place before `end` is inside a list whose length is `end`
 pub inside : (i end len : ℕ) → i < end → len ≡ end → i < len
 inside i end len low whole = omega (arith, low, whole)
 

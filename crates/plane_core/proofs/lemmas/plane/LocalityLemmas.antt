@@ -1,4 +1,4 @@
--- How far influence reaches: the state of a cell depends only on cells near it.
+-- How far influence reaches: the state of a cell after k generations depends only on the cells at most k from it.
 use Rattle.std.proofs.Common.{◌≤◌, ℕ, ℤ, ◌+ℤ◌, ◌-ℤ◌, ◌≤ℤ◌, pos, zero, suc, List, arith, ap, ◌∙◌, sym}
 use Rattle.std.proofs.lemmas.Int.{ints}
 use Rattle.plane_core.specs.declared.plane.cell.Cell.{Cell}

@@ -6,8 +6,8 @@ use Rattle.plane_core.specs.declared.plane.cell.Cell.{Cell}
 use Rattle.plane_core.specs.plane.Cells.{has, same_cell, set_of}
 use Rattle.plane_core.proofs.lemmas.plane.SetLemmas.{has-append, has-set_of, in_order-set_of, is_set_of}
 
--- the first i cells, the cells from place i + j on and the first j of `others` together are the cells of `before` and
--- `others`
+-- While `others` is merged into the cells `before`, no cell is lost or added: the cells of both are the first i of
+-- `cells`, those of `cells` from place i + j on, and the first j of `others`.
 abbrev pub AreTogether : List Cell → List Cell → List Cell → ℕ → ℕ → Type 0
 AreTogether before others cells i j =
     (c : Cell) → (has (take i cells) c || (has (drop (i + j) cells) c || has (take j others) c)) ≡ (has before c || has others c)

@@ -1,4 +1,4 @@
--- The neighbourhood of a cell: the nine cells at king distance at most 1 from it, counted along rows and columns.
+-- The neighbourhood of a cell: the nine cells at king distance at most 1 from it. Live cells are counted row by row.
 use Rattle.std.proofs.Common.{◌≡◌, ◌==◌, ℕ, ℤ, pos, negsuc, ◌+ℤ◌, ◌<ℤ◌, ◌+◌, ◌≤◌, max, Bool, true, false, ◌&&◌}
 use Rattle.std.proofs.Common.{List, [], ◌∷◌, arith, cond, refl, ap, ◌∙◌, sym, inl, inr, ◌⊎◌, ◌++◌, add-zero}
 use Rattle.std.specs.Cmp.{eq_by_cmp_equiv, signed_Decides}
@@ -66,14 +66,16 @@ near a b = go (int_eq (a +ℤ negsuc 0) b) (int_eq a b) (int_eq (a +ℤ pos 1) b
 
 -- ---- one cell
 
--- how many of the three cells of a row are the given cell
+-- How many of the three cells in a row of a neighbourhood are a given cell. `row` says whether that cell is in this
+-- row, and `left`, `middle` and `right` say whether it is in the left, middle or right column.
 abbrev hits : Bool → Bool → Bool → Bool → ℕ
 hits row left middle right = cond (row && right) 1 0 + (cond (row && middle) 1 0 + cond (row && left) 1 0)
 
 far_off : (m n : ℕ) → 2 ≤ max m n → (max m n == 1) ≡ false
 far_off m n h = ne_eqb _ _ (λ e. absurd (omega arith))
 
--- a cell is c or a neighbour of c exactly if it is one of the nine cells of the neighbourhood of c
+-- a cell is c or a neighbour of c, by its distances dx and dy from c, exactly if its column and its row are those of
+-- one of the nine cells of the neighbourhood
 one_cell : (x0 x1 x2 y0 y1 y2 : Bool) (dx dy : ℕ) → IsNear x0 x1 x2 dx → IsNear y0 y1 y2 dy
     → cond (max dx dy == 1) 1 0 + cond (y1 && x1) 1 0 ≡ hits y2 x0 x1 x2 + (hits y1 x0 x1 x2 + hits y0 x0 x1 x2)
 one_cell x0 x1 x2 y0 y1 y2 dx dy (inr (inr (inr (a, b, c, e)))) v = rw (a, b, c, far_off dx dy (omega arith)) (no_hits y0 y1 y2)

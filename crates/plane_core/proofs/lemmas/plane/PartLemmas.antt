@@ -212,7 +212,7 @@ is_pattern-union S T p q = record {
 
 -- ---- two patterns that lie far apart
 
--- the two patterns are parts of their union: the cells in the first pattern, and the other cells
+-- this is `parts-after` for the union of the two patterns, where the test is whether a cell is in the first pattern
 pub far_patterns : FarPatternsRunAlone
 far_patterns rule one other g o u far =
     same_lists (after rule both g) (set_of (after rule one g ++ after rule other g)) (in_order-after rule both g (in_order-set_of (one ++ other)))

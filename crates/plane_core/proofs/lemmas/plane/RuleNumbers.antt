@@ -31,7 +31,7 @@ pub in_prefix-with_answer : (prefix : List Bool) (answer : Bool) (read : Reading
 in_prefix-with_answer prefix answer read =
     ap (λ (xs : List Bool). let r : Reading = record { logic = xs; remainder = read.remainder } in r) (sym (append_assoc prefix (answer ∷ []) read.logic))
 
--- the loop is at place i: the answers before it are read, and all others are still false
+-- the loop of `read_numbers` is at place i: the answers before place i are read, and all others are still false
 pub record ReadUpTo (count n : ℕ) (text : List ℕ) (i : ℕ) (logic : List Bool) (remainder : List ℕ) : Type 0 where
   pub whole : in_prefix (take i logic) (numbers_at (count - i) (n + i) remainder) ≡ numbers_at count n text
   pub clear : (k : ℕ) → i ≤ k → k < count → get_or logic k false ≡ false

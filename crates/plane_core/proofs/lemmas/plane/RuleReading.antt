@@ -190,7 +190,8 @@ rule_read-rule_text rule whole =
     let end : (length (survivals_in text).remainder == 0) ≡ true = ap (λ (r : Reading). length r.remainder == 0) survivals in
     rule_read-all text (begins-same 98 (digits 1 rule.births ++ 115 ∷ after_s)) no_zero s end ∙ rw (survivals, births) refl
 
--- if a prefix begins a rule's text and the prefix with one more byte doesn't, the first fault is after the prefix
+-- if a rule's text begins with `prefix`, but none begins with `prefix` and the next byte, the first fault is at the
+-- place just after `prefix`
 pub IsFirstFault-after : (prefix remainder : List ℕ) → BeginsRule prefix → ((c : ℕ) (cs : List ℕ) → remainder ≡ c ∷ cs → BeginsRule (prefix ++ c ∷ []) → ⊥)
     → IsFirstFault (prefix ++ remainder) (length (prefix ++ remainder) - length remainder)
 IsFirstFault-after prefix [] begun stops =
@@ -236,8 +237,8 @@ BeginsRule-births births len =
 pub BeginsRule-rule_text : (rule : Numbers) → IsRule rule → BeginsRule (rule_text rule)
 BeginsRule-rule_text rule whole = record { rule = rule; remainder = []; is_rule = whole; spelled = sym (append-nil (rule_text rule)) }
 
--- Let c be the byte after the births' digits of `text`. If the text of a rule begins with `b`, the same digits and c,
--- then c and the rest of the rule's text are `s` and the rule's survivals' digits.
+-- Let c be the byte after the digits of the birth numbers in `text`. If a rule's text begins with `b`, these digits and
+-- c, then c is its `s`, and the digits of the rule's survival numbers follow.
 pub births-shared : (text : List ℕ) (c : ℕ) (cs more : List ℕ) (rule : Numbers) → IsRule rule → (births_in text).remainder ≡ c ∷ cs
     → rule_text rule ≡ 98 ∷ (digits 1 (births_in text).logic ++ c ∷ more) → 115 ∷ digits 0 rule.survivals ≡ c ∷ more
 unfolding rule_text

@@ -48,7 +48,7 @@ searched-has S c (Err i) o low found = elim (cases_Bool (has S c)) [ inl found_i
           | inr later ↦ not_greater (ap (λ d. cell_cmp d c) (sym h.2) ∙ apart.1 h.0 c later h.1)
         ]
 
--- if no cell fails a test, all cells pass it
+-- if a search for a cell that fails a test finds none, all cells pass the test
 pub position-none : (p : Cell → Bool) (cs : List Cell) → position (λ c. not (p c)) cs ≡ None → list_all p cs ≡ true
 position-none p cs e = reached p cs (whole (nat_lt (prefix_len (λ c. not (not (p c))) cs) (length cs)) refl e)
   where
@@ -66,7 +66,7 @@ position-none p cs e = reached p cs (whole (nat_lt (prefix_len (λ c. not (not (
         head true h ih = ih (omega arith)
         head false h ih = absurd (omega arith)
 
--- if all cells of a list pass a test, each member of the list passes it
+-- if `list_all` is true for a test and a list, each cell for which `has` is true passes the test
 pub list_all-has : (p : Cell → Bool) (cs : List Cell) → list_all p cs ≡ true → (c : Cell) → has cs c ≡ true → p c ≡ true
 list_all-has p [] all c e = absurd (false≢true e)
 list_all-has p (d ∷ ds) all c e =

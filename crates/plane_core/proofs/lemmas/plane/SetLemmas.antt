@@ -46,7 +46,7 @@ has-cases d ds c e = elim (or_cases (same_cell c d) (has ds c) e) [ inl s ↦ in
 pub has-head : (d : Cell) (ds : List Cell) → has (d ∷ ds) d ≡ true
 has-head d ds = rw (same_cell-itself d) refl
 
--- a property of all cells of a list holds for each member
+-- if `AllByRecursion` holds for a property and a list, the property holds for each cell for which `has` is true
 pub has-all : (P : Cell → Type 0) (cs : List Cell) (c : Cell) → AllByRecursion P cs → has cs c ≡ true → P c
 has-all P [] c all e = absurd (false≢true e)
 has-all P (d ∷ ds) c all e =
@@ -56,7 +56,7 @@ pub or_right : (a b : Bool) → b ≡ true → (a || b) ≡ true
 or_right true b e = refl
 or_right false b e = e
 
--- a property of each member of a list holds for all its cells
+-- if a property holds for each cell for which `has` is true, `AllByRecursion` holds for the property and the list
 pub all-has : (P : Cell → Type 0) (cs : List Cell) → ((c : Cell) → has cs c ≡ true → P c) → AllByRecursion P cs
 all-has P [] h = tt
 all-has P (d ∷ ds) h =
@@ -110,7 +110,7 @@ or_assoc : (a b c : Bool) → ((a || b) || c) ≡ (a || (b || c))
 or_assoc true b c = refl
 or_assoc false b c = refl
 
--- after c is inserted into a list, the members of the list are c and the earlier members
+-- after c is inserted into a list, the members of the list are c and the members that it had before
 pub has-put : (c : Cell) (ds : List Cell) (x : Cell) → has (put c ds) x ≡ (same_cell x c || has ds x)
 has-put c [] x = refl
 has-put c (d ∷ ds) x = go (cell_cmp c d) refl (has-put c ds x)

@@ -94,7 +94,7 @@ shift_is_step dx dy c cs d ds e =
     let first : moved_by dx dy c ≡ d = cc in
     λ k. (step_of c.x d.x dx (ap (λ (a : Cell). a.x) first) k, step_of c.y d.y dy (ap (λ (a : Cell). a.y) first) k)
 
--- the step between the first cells is the answer if it shifts the whole list
+-- the answer is the step between the first cells if this step shifts the whole list S to T, and otherwise `None`
 pub finds_shift : (S T : List Cell) (z : Cell) (s : ℤ × ℤ) (b : Bool) → 1 ≤ length S → length S ≡ length T
     → s ≡ ((get_or T 0 z).x -ℤ (get_or S 0 z).x, (get_or T 0 z).y -ℤ (get_or S 0 z).y)
     → (IsTrue b ↔ (shifted s.0 s.1 S ≡ T)) → FindsShift S T (then_some b s)

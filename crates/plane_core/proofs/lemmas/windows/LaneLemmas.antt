@@ -56,8 +56,7 @@ lane_adder a b c j i la lb lc low = (λ t. bit_at (ones t) i + 2 * bit_at (twos 
         (four_lanes bit_and (zip2 bit_xor a b) c (four_lanes bit_xor a b la lb) lc) low
         ∙ (λ t. bit_or (lane_of bit_and a b j la lb low t) (carry t))
 
--- in each lane, the four words on the left are the binary digits of a sum: the number with the binary digits a and b,
--- plus twice the number with the binary digits c and d
+-- the four binary digits of the sum a + 2 b + 2 (c + 2 d), at bit i of lane j
 pub lane_joined : (a b c d : List ℕ) (j i : ℕ) → length b ≡ 4 → length c ≡ 4 → length d ≡ 4 → j < 4
     → bit_of a j i + 2 * bit_of (zip2 bit_xor b c) j i + 4 * bit_of (zip2 bit_xor d (zip2 bit_and b c)) j i
     + 8 * bit_of (zip2 bit_and d (zip2 bit_and b c)) j i

@@ -107,8 +107,9 @@ lane_only_one a b c d j i la lb lc ld low =
         (max (min (bit_of a j i) (bit_of b j i)) (min (bit_of c j i) (bit_of d j i)))
     both = together odds twos odds_long twos_long ∙ (λ t. min (odd t) (two t))
 
--- Let `low` be the sum of the three ones digits, and let a bit of `one` be 1 if exactly one of the four twos digits is
--- 1, otherwise 0. Then the bitwise formula `one` and (`low.ones` or `now`) is Life's answer in each lane.
+-- Let `low` be the sum of the ones digits of `up`, `beside` and `down`. Let a bit of `one` be 1 if exactly one of the
+-- twos digits of `up`, `beside`, `down` and `low` is 1, otherwise 0. Then `one & (low.ones | now)` is Life's answer in
+-- each lane.
 pub lane_life : (up beside down low : Sum) (one now : List ℕ) (j i : ℕ) → length one ≡ 4 → length low.ones ≡ 4 → length now ≡ 4 → j < 4
     → sum_of low j i ≡ bit_of up.ones j i + bit_of down.ones j i + bit_of beside.ones j i
     → bit_of one j i ≡ one_if (bit_of up.twos j i + bit_of down.twos j i + bit_of beside.twos j i + bit_of low.twos j i == 1)
@@ -140,7 +141,8 @@ lane_life up beside down low one now j i lo ll ln lane sum is =
     total : bit_of low.ones j i + 2 * twice + bit_of now j i ≡ sum_of up j i + (sum_of beside j i + bit_of now j i) + sum_of down j i
     total = omega (arith, sum)
 
--- if `next` is Life's answer for sums that leave out the cell itself, it is Life's answer for the sums of three rows
+-- if `next` is Life's answer for the middle row's sum `here.beside`, which leaves out the cell itself, it is also
+-- Life's answer for the sum `here.all`, which includes the cell
 pub answers_neighbours : (up : Sum) (here : RowSums) (down : Sum) (now next : List ℕ) → AreBeside here now
     → AnswersNeighbours life up here.beside down now next → AnswersRows life up here.all down now next
 answers_neighbours up here down now next beside is j i low inside =

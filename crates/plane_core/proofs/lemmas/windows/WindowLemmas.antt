@@ -1,4 +1,4 @@
--- A generation of a window is a generation of the cells that it shows.
+-- If a window shows a pattern, the next window shows the pattern's next generation, except near the window's border.
 use Rattle.std.proofs.Common.{◌≡◌, ◌==◌, ◌+◌, ◌-◌, ◌*◌, ◌/◌, ◌%◌, ◌<◌, ◌≤◌, ℕ, ℤ, pos, negsuc, ◌+ℤ◌, zero, suc, Bool, true, false, cond, List, []}
 use Rattle.std.proofs.Common.{arith, refl, ap, ◌∙◌, sym, subst, slice_index, length, length-set, get_or, set, inl, inr, ◌⊎◌}
 use Rattle.std.specs.Int.{bit_at}

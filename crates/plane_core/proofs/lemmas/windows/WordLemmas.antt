@@ -102,7 +102,8 @@ by_digit g n k zero low = ap g (omega arith)
 by_digit g n k (suc zero) low = ap g (omega arith)
 by_digit g n k (suc (suc d)) low = absurd (omega arith)
 
--- for a sum of nine at most, choosing by its eights digit d gives g of the sum: if d is 1, then b and c are 0
+-- for a sum of nine at most, choosing between g (8 + a) and g (a + 2 * b + 4 * c) by the eights digit d gives g of the
+-- sum: if d is 1, then b and c are 0
 pub by_eights : (g : ℕ → ℕ) (a b c d : ℕ) → a < 2 → b < 2 → c < 2 → d < 2 → a + 2 * b + 4 * c + 8 * d ≤ 9
     → cond (d == 1) (g (8 + a)) (g (a + 2 * b + 4 * c)) ≡ g (a + 2 * b + 4 * c + 8 * d)
 by_eights g a b c zero p q r s t = ap g (omega arith)

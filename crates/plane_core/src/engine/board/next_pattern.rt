@@ -120,9 +120,9 @@ fn has_rim(at: Frame, hull: Hull) -> bool
     MARGIN < rows.from && rows.from < rows.end && rows.end < at.rows
 }
 
-/// Runs windows side by side, from column `from` and row `y` on, so that their inner parts have all columns from
-/// `from + 4` to `end`, both included. Windows without a live cell are left out of the list. Returns whether all
-/// windows are on the board, each with a word column to the right of the one in which it begins.
+/// Runs windows side by side for one generation, from column `from` and row `y` on, so that their inner parts have all
+/// columns from `from + 4` to `end`, both included. Windows that then have no live cell are left out of the list.
+/// Returns whether all windows are on the board, each with a word column to the right of the one in which it begins.
 fn run_band(
     words: &[u64],
     at: Frame,

@@ -1,12 +1,13 @@
 //! Removes cells from a board.
 //!
-//! Cells near the removed ones may change from now on, so the boxes are widened first:
+//! Cells near the removed ones may change from now on. So before cells are removed, active boxes are added or widened
+//! until they contain these cells:
 //!
 //! ```text
 //! +-----+                    +-----+
 //! |.OO. |      O             |.OO. |
-//! |OO.. |     O      ->      |OO.. |   +---+     One more box, or a wider one, so that the next leap runs
-//! |.O.. |     OOO            |.O.. |   |   |     whatever may change there.
+//! |OO.. |     O      ->      |OO.. |   +---+     The removed cells are in a new box, or in a wider one. So the
+//! |.O.. |     OOO            |.O.. |   |   |     next leap runs whatever may change there.
 //! +-----+                    +-----+   +---+
 //! ```
 ghost use Rattle.std.specs.Prelude.{◌≡◌, ◌*◌, OnErr, OnOk};

@@ -4,9 +4,9 @@
 //! board
 //! +-------------------------------------+
 //! |        view                         |
-//! |        +----------+                 |     Everything that changes is in a box of the board or near a box, so tests
-//! |        |   +--+   |        +-+      |     look there. If a box is larger than a view, the view shows its middle.
-//! |        |   +--+   |        +-+      |
+//! |        +----------+                 |     Each cell that differs two generations later is in an active box of the
+//! |        |   +--+   |        +-+      |     board, or near one. So one-sided tests look there. If a box is larger
+//! |        |   +--+   |        +-+      |     than a view, the view shows its middle.
 //! |        |    box   |       box       |
 //! |        +----------+                 |
 //! +-------------------------------------+

@@ -81,7 +81,7 @@ none_off rule t board order = record {
       ∙ sym (whole-none rule (t + g) (after rule board g) (in_order-after rule board g order));
 }
 
--- a removed spaceship is still off the board an even number of generations later
+-- if `IsOff` holds for a removed spaceship, it still holds an even number of generations later
 off_later : (rule : Numbers) (t k : ℕ) (board : List Cell) (spaceship : Spaceship) → InOrder board → IsOff rule t board spaceship
     → IsOff rule (t + 2 * k) (after rule board (2 * k)) spaceship
 off_later rule t k board spaceship order off = record {
@@ -208,7 +208,8 @@ no_spaceship_near rule t board cells spaceships ahead g off in_order few part c 
         let far : 3 ≤ king_distance c d = part_apart rule t board cells spaceship ahead g is off.in_order in_order few part c d here there in
         omega (arith, near, far)
 
--- at a later time, a cell is in the whole if and only if it is on the board or in a removed spaceship
+-- g generations later, a cell is in the whole if and only if it is on the board or in a removed spaceship, each run
+-- alone
 whole_later : (rule : Numbers) (t : ℕ) (board : List Cell) (spaceships : List Spaceship) (g : ℕ) (c : Cell) → AreOff rule t board spaceships
     → has (after rule (whole_at rule t board spaceships) g) c
     ≡ (has (after rule board g) c || list_any (λ (spaceship : Spaceship). has (spaceship_at rule (t + g) spaceship) c) spaceships)

@@ -215,7 +215,8 @@ stepped_latest rule list new is = ap latest_of is ∙ each list
     each [] = refl
     each (alone ∷ more) = λ i. sym (after-one rule alone.latest) i ∷ each more i
 
--- the clusters keep apart if and only if their next generations partition the next generation of the whole
+-- the clusters, as they are now, keep apart in the next generation if and only if `latest_of new`, their next
+-- generations, is a partition of `later`, the next generation of their union
 pub record ArePartsLater (rule : Numbers) (list new : List Alone) (later : List Cell) : Type 0 where
   pub in_order : InOrder later
   pub there : Partition later (latest_of new) → KeepApart rule (union_of (latest_of list)) (latest_of list) 1

@@ -172,7 +172,7 @@ none_or_some rule (part ∷ parts) g c = go (far_or_near c (after rule part g)) 
         inr (record { place = suc s.place; within = let low : s.place < length parts = s.within in omega arith; cell = s.cell; alive = s.alive; near = s.near })
     go (inl far) (inl none) = inl (All-cons (λ (p : List Cell). IsFar c (after rule p g)) part parts far none)
 
--- a part of the group that is near the cell is among all parts, with the group's number
+-- a part of group k that is near the cell has a place among all parts, and the group number at this place is k
 pub member_place : (rule : Numbers) (k : ℕ) (gs : List ℕ) (parts : List (List Cell)) (g : ℕ) (c : Cell) → SomeNear rule (members k gs parts) g c
     → (s : SomeNear rule parts g c) × (get_or gs s.place 0 ≡ k)
 member_place rule k [] parts g c m =
@@ -330,7 +330,8 @@ module _ (rule : Numbers) (cells : List Cell) (groups : List ℕ) (parts : List 
         (λ j e there ne. next_at rule (get_or parts j e) g c
         ∙ far-lives rule c (after rule (get_or parts j e) g) (λ d h. others_far g c low s j e there ne d h))
 
-    -- if the parts of each group add up to their union, all parts add up to the whole
+    -- if the parts of each group, each run alone, are together the group's union in each generation, all parts, each
+    -- run alone, are together the whole in each generation
     pub whole_adds : AddUp rule cells parts 0
         → ((i g : ℕ) → i < length parts → g ≤ n → AddUp rule (union (get_or groups i 0)) (members (get_or groups i 0) groups parts) g)
         → (g : ℕ) → g ≤ n → AddUp rule cells parts g
@@ -345,7 +346,8 @@ module _ (rule : Numbers) (cells : List Cell) (groups : List ℕ) (parts : List 
             ∙ each s.place (suc g) s.within low c
             ∙ sym (as_in_members g c (omega arith) s)
 
-    -- if all parts add up to the whole, the parts of each group add up to their union
+    -- conversely, if all parts, each run alone, are together the whole in each generation, the parts of each group,
+    -- each run alone, are together the group's union in each generation
     pub group_adds : (k : ℕ) → AddUp rule (union k) (members k groups parts) 0 → ((g : ℕ) → g ≤ n → AddUp rule cells parts g)
         → (g : ℕ) → g ≤ n → AddUp rule (union k) (members k groups parts) g
     group_adds k start whole zero low = start
@@ -366,7 +368,7 @@ module _ (rule : Numbers) (cells : List Cell) (groups : List ℕ) (parts : List 
             ∙ whole (suc g) low c
             ∙ as_in_members g c (omega arith) s)
 
-    -- if the parts of each group keep apart, all parts keep apart
+    -- if the parts of each group keep apart, all parts keep apart, because the groups stay apart from each other
     pub whole_keeps : Partition cells parts → ((i : ℕ) → i < length parts → GroupKeeps rule groups parts n (get_or groups i 0))
         → (g : ℕ) → g ≤ n → KeepApart rule cells parts g
     whole_keeps start each g low =

@@ -15,7 +15,7 @@ use Rattle.survey_core.proofs.lemmas.FindingLemmas.{after-then}
 pub none_known : (rule : Numbers) (profile : Settling) (cells : List Cell) (t : ℕ) → AreKnownRestless rule profile cells t (replicate 2 false)
 none_known rule profile cells t n known = absurd (false≢true (sym (get_or-replicate 2 ((t + n) % 2) false false (omega arith)) ∙ known))
 
--- a pattern that is known not to be at rest in generation t isn't at rest
+-- if `AreKnownRestless` holds, and `is_known` is true for generation t, the pattern in generation t isn't at rest
 pub known_now : (rule : Numbers) (profile : Settling) (cells : List Cell) (t : ℕ) (known_restless : List Bool) → AreKnownRestless rule profile cells t known_restless
     → is_known known_restless t ≡ true → ¬ IsAtRest rule profile cells
 known_now rule profile cells t known_restless are known rest =

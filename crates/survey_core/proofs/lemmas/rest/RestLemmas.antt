@@ -1,4 +1,4 @@
--- The test of rest, a generation and a cluster at a time.
+-- Lemmas for the test whether a pattern is at rest: on its clusters, on clusters run alone, and on groups of clusters.
 use Rattle.std.proofs.Common.{◌≡◌, ◌≢◌, ◌∙◌, ap, sym, refl, subst, ℕ, ◌+◌, ◌≤◌, true, List, [], ◌∷◌, All, map, flat_map}
 use Rattle.std.proofs.Common.{arith, get_or, eq-or-lt_of_le, inl, inr}
 use Rattle.std.proofs.lemmas.Bool.{false≢true}
@@ -66,7 +66,7 @@ apart_more rule cells clusters g whole alone is_whole is_alone before now k low 
   | inr less ↦ before k (omega arith)
 ]
 
--- the clusters of a pattern are unique, so a pattern at rest is at rest with them
+-- a pattern has only one list of clusters, so if the pattern is at rest, `RestsAs` holds for this list
 pub same_clusters : (rule : Numbers) (profile : Settling) (cells : List Cell) (clusters : List (List Cell)) → AreClusters cells clusters
     → IsAtRest rule profile cells → RestsAs rule profile cells clusters
 same_clusters rule profile cells clusters are (others, rest) =

@@ -14,7 +14,7 @@ use Rattle.survey_core.specs.UnderWay.{survey_reach}
 use Rattle.survey_core.proofs.lemmas.rest.GroupLemmas.{members_one}
 use Rattle.survey_core.proofs.lemmas.PlaneLemmas.{within_later}
 
--- if all clusters are the same as at the start, each of them is
+-- if the lists `latest_of` and `clusters_of` are equal, each cluster is the same as at the start
 pub back_at : (list : List Alone) (i : ℕ) (alone : Alone) → i < length list → alone ≡ get_or list i alone → latest_of list ≡ clusters_of list
     → alone.latest ≡ alone.cluster
 back_at list i alone low is same =
@@ -61,7 +61,8 @@ pub later_is : (rule : Numbers) (g : ℕ) (clusters : List (List Cell)) (list la
     → later ≡ map (stepped rule) list → later ≡ map (alone_at rule (g + 1)) clusters
 later_is rule g clusters list later is stepped_is = stepped_is ∙ ap (map (stepped rule)) is ∙ stepped_alone rule g clusters
 
--- `first` is the next generation of each cluster, and `latest` lies far from the edge of the plane
+-- `first` is the generation after the start, and if the clusters start near the origin, `latest` lies far from the edge
+-- of the plane for up to 4096 generations
 pub first_known : (rule : Numbers) (g : ℕ) (clusters : List (List Cell)) (list : List Alone) → list ≡ map (alone_at rule g) clusters
     → All (λ (a : Alone). a.first ≡ next rule a.cluster) list
 first_known rule g clusters list is =
@@ -109,7 +110,7 @@ step_more rule list now i d latest low is later =
     ∙ sym (append_assoc (map (stepped rule) (take i list)) (stepped rule (get_or list i d) ∷ []) (drop (i + 1) list))
     ∙ ap (λ (all : List Alone). all ++ drop (i + 1) list) (sym (map_more (stepped rule) list i d low))
 
--- after the loop, all clusters are stepped
+-- after the loop of `step_each`, all clusters are stepped
 pub all_stepped : (rule : Numbers) (list now : List Alone) (i : ℕ) → length list ≤ i → now ≡ map (stepped rule) (take i list) ++ drop i list
     → now ≡ map (stepped rule) list
 all_stepped rule list now i end is =

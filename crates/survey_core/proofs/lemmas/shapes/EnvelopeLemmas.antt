@@ -376,7 +376,7 @@ envelopes_more rule limit parts i part envelopes envelope items low at are is ma
     (subst (λ (prefix : List (List Cell)). AreEnvelopes rule limit prefix (envelopes ++ envelope ∷ [])) (sym (take_more parts i part low))
     (envelopes_push rule limit (take i parts) envelopes (get_or parts i part) envelope are (subst (λ (p : List Cell). IsEnvelope rule limit p envelope) at is)))
 
--- if the envelopes are those of the first i patterns, the number of envelopes can stand for i
+-- if the envelopes are those of the first i patterns, they are those of the first `length envelopes` patterns
 pub first_envelopes : (rule : Numbers) (limit : ℕ) (parts : List (List Cell)) (i : ℕ) (envelopes : List EnvelopeBounds) → i ≤ length parts
     → AreEnvelopes rule limit (take i parts) envelopes → AreEnvelopes rule limit (take (length envelopes) parts) envelopes
 first_envelopes rule limit parts i envelopes low are =

@@ -1,4 +1,5 @@
--- What the code of a cluster says about its recurrence, and that codes and clusters agree on what stays for good.
+-- The code of a cluster says whether the cluster recurs in its place, and with which period. So the objects stay for
+-- good if and only if the clusters do.
 use Rattle.std.proofs.Common.{◌≡◌, ◌≢◌, ◌∙◌, ap, sym, refl, subst, ℕ, pos, zero, suc, ◌+◌, ◌≤◌, ◌==◌, ◌&&◌, ◌↔◌, Bool, true, false, cond}
 use Rattle.std.proofs.Common.{IsTrue, List, [], ◌∷◌, All, Some, unwrap_or, count_by, arith, get_or}
 use Rattle.std.specs.List.{AllZip}

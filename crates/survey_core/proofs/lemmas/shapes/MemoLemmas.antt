@@ -74,7 +74,7 @@ code_known rule limit cells shift fact known about =
     (subst (λ (S : List Cell). IsCode fact.rule S fact.limit fact.code) about.shape_is
     (codes_moved shift.0 shift.1 fact.rule fact.shape fact.limit fact.code known.enveloped.in_order known.named)))
 
--- two rules that don't differ are equal
+-- if `differs`, the result of the program's `!=` on two rules, is false, the rules are equal
 pub same_rules : (one other : Numbers) (differs : Bool) → differs ≡ not (same_rule one other) → differs ≡ false → one ≡ other
 same_rules one other differs told same = (rules_decide one other).0 (not_false (same_rule one other) (sym told ∙ same))
   where

@@ -41,7 +41,7 @@ returns-in_default-clause-known_restless c = elim c.if-is_still.branch [
   | else-is_still w ↦ subst (AreKnownRestless c.args.rule.now c.args.profile.now (kept c.args.rule.now c.args.evolution.now) c.args.checkpoint) (sym w.known_restless-is) c.requires.known_restless
 ]
 
--- the case of a pattern that is at rest with these clusters
+-- the case of a pattern that is at rest: `clusters_at_rest` has returned its clusters
 pub of_clusters-requires-clause-some : goal.of_clusters-requires-clause-some
 of_clusters-requires-clause-some c =
     let rest : RestsAs c.args.rule.now c.args.profile.now c.in_ok-latest.latest c.in-Some.clusters.items = rw c.in-Some.is at c.in_ok-found.ensures.rest in

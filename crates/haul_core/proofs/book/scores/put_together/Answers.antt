@@ -6,7 +6,7 @@ use Rattle.haul_core.proofs.JoinedScores.{score_set}
 use Rattle.haul_core.proofs.ScoreLemmas.{at_code, at_others}
 use Rattle.haul_core.proofs.book.scores.put_together.Goals as goal
 
--- after the write, the code has the sum of both scores, and each other code has its score from before
+-- after the write, `score` is added to the code's score, and each other code has its score from before
 written : (c : goal.After-scores-1) → (q : List ℕ) → found_score (set_value_at c.args.scores.now.entries c.in-Some.index c.joined-joined.result) q
     ≡ cond (pointwise nat_eq c.args.code.now q) (Some (together (score_in c.args.scores.now.entries c.args.code.now) c.args.score.now))
     (found_score c.args.scores.now.entries q)

@@ -5,7 +5,7 @@ use lib.Signed.{lt_z}
 use Rattle.plane_core.specs.clusters.UnionFind.{cell_of}
 use Rattle.plane_core.proofs.clusters.union_find.first_from.Goals as goal
 
--- the code's test of two numbers says which one is smaller
+-- `lt_z`, the comparison `<` of the code, is true only if the first number is less than the second
 less : (a b : ℤ) → lt_z a b ≡ true → a <ℤ b
 less a b is = search is
 

@@ -5,8 +5,9 @@ use Rattle.plane_core.proofs.lemmas.clusters.UnionFindLemmas.{near_linked, not_l
 use Rattle.plane_core.proofs.clusters.union_find.join_row.Goals.{After-first_from-first, After-first_from-start}
 use Rattle.plane_core.proofs.clusters.union_find.join_row.Goals as goal
 
--- What a call of `first_from` ensures about the column that is passed to it. The column fits into 32 bits, so passing
--- it as an `i32` doesn't change it.
+-- Each call of `first_from` ensures that the cells it skips are left of the column that is passed to it, and that the
+-- cell at its result, if the result is in the row, isn't. The column fits into 32 bits, so passing it as an `i32`
+-- doesn't change it.
 left : (c : After-first_from-first) → (k : ℕ) → c.args.row.from ≤ k → k < c.first_from-first.result → (cell_of c.args.cells.now k).x <ℤ c.args.from.x
 left c = let fits : FitsSigned w32 c.args.from.x = search rules in simp to_z-of_z at c.first_from-first.ensures.before
 

@@ -16,8 +16,8 @@ use Rattle.plane_core.proofs.engine.first_boxes.boxes_round.Goals as goal
 abbrev origin : Cell
 origin = cell_at (pos 0) (pos 0)
 
--- If the first k cells are in `run` or a box of `old`, the first k + 1 are in `next` or a box of `new`. `next` has cell
--- k, and `next` and `new` together keep the cells of `run` and `old`.
+-- Each of the first k + 1 cells is in `next` or in a box of `new`, if each of the first k cells is in `run` or in a box
+-- of `old`, cell k is in `next`, and all cells of `run` and of the boxes of `old` are in `next` or in a box of `new`.
 more_held : (cells : List Cell) (k : ℕ) (x : Cell) (run next : Bounds) (old new : List Bounds) → k < length cells
     → ((d : Cell) → IsWithin run d → IsWithin next d ⊎ IsInOne new d) → ((d : Cell) → IsInOne old d → IsInOne new d) → IsWithin next (get_or cells k x)
     → All (λ (d : Cell). IsWithin run d ⊎ IsInOne old d) (take k cells) → All (λ (d : Cell). IsWithin next d ⊎ IsInOne new d) (take (k + 1) cells)

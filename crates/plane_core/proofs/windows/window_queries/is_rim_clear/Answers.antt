@@ -9,7 +9,7 @@ use Rattle.std.proofs.lemmas.Bool.{false≢true}
 use Rattle.plane_core.proofs.lemmas.plane.OrderLemmas.{few_vectors, first_row_low, last_row_low}
 use Rattle.plane_core.proofs.windows.window_queries.is_rim_clear.Goals as goal
 
--- a column that isn't among the live columns has no live cell
+-- if bit i of w, the word of the columns that have a live cell, is 0, no row has a live cell in column i
 dark : (n : ℕ) (x : List (List ℕ)) (w i r : ℕ) → IsColumns n x w → bit_at w i ≡ 0 → r < 4 * n → bit_at (row_at n x r) i ≡ 0
 dark n x w i r columns none low = elim (same_or_not (bit_at (row_at n x r) i) 1) [
   | inl one ↦ absurd (let k = columns.all r i low one in omega arith)

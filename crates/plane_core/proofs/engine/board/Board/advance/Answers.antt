@@ -24,8 +24,8 @@ fewer_left most made count leapt some few all = omega arith
 less : (most made : ℕ) → most - made ≤ most
 less most made = omega arith
 
--- `few / 2 * 2` is the smaller of `left` and 4, rounded down to a multiple of 2. It is at most 4 and at most `left`. If
--- `left` is at least 2, it is at least 1.
+-- If `few` is the smaller of `left` and 4, `few / 2 * 2` is at most 4 and at most `left`, and at least 1 if `left` is
+-- at least 2.
 some_even : (left few : ℕ) → 2 ≤ left → few ≡ min left 4 → 1 ≤ few / 2 * 2
 some_even left few some is = omega arith
 

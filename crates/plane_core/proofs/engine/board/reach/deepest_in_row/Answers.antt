@@ -24,8 +24,8 @@ loop-cell-preserved c = λ i low.
 pub loop-cell-smaller : goal.loop-cell-smaller
 loop-cell-smaller c = falls _ _ c.loop-cell-test.true
 
--- once all cells of `gone` are passed, bit i is 1 exactly if `gone` has the cell that is i columns to the right of
--- `first`
+-- once the loop has read all cells of `gone`, bit i of `bits` is 1 exactly if `gone` has the cell that is i columns to
+-- the right of `first`
 all_gone : (gone : List Cell) (k : ℕ) (first : Cell) (bits : ℕ) → k ≤ length gone → length gone ≤ k
     → ((i : ℕ) → i < 64 → (bit_at bits i == 1) ≡ has (take k gone) (cell_at (first.x +ℤ pos i) first.y))
     → (i : ℕ) → i < 64 → (bit_at bits i == 1) ≡ has gone (cell_at (first.x +ℤ pos i) first.y)

@@ -12,7 +12,8 @@ nothing n = omega arith
 none_before : (n : ℕ) → n < 0 → ⊥
 none_before n low = omega (arith, low)
 
--- after step `next`, which isn't before `step`, fewer of the `count` steps remain than from `step` on
+-- the number of steps that are left falls: if `next` isn't before `step`, fewer of the `count` steps are after `next`
+-- than are at `step` or after it
 falls_past : (step next count : ℕ) {end : ℕ} → next < end → step ≤ next → end ≤ count → count - (next + 1) < count - step
 falls_past step next count inside later most = omega (arith, inside, later, most)
 

@@ -23,7 +23,7 @@ loop-made-init c = record {
   inside = λ g low. absurd (omega arith);
 }
 
--- an iteration that advances by several generations on a board
+-- an iteration that runs the pattern for 1 to 256 generations, each of its parts on a board of its own
 pub loop-made-preserved-in-Some : goal.loop-made-preserved-in-Some
 loop-made-preserved-in-Some c =
     let rule = c.args.rule.now in

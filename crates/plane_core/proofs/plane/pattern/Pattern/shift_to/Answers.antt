@@ -6,7 +6,7 @@ use Rattle.plane_core.proofs.lemmas.plane.TransformLemmas.{stepped_more, stepped
 use Rattle.plane_core.proofs.plane.pattern.Pattern.shift_to.Goals.{After-step_between-step}
 use Rattle.plane_core.proofs.plane.pattern.Pattern.shift_to.Goals as goal
 
--- a shift found between the lists of cells is a shift between the patterns
+-- an answer, a shift or `None`, that is right for the two lists of cells is right for the two patterns
 tells : (c : After-step_between-step) (told : Option (ℤ × ℤ)) → FindsShift c.cells-cells.result.now c.cells-others.result.now told
     → FindsShift c.args.self.now c.args.other.now told
 tells c told = λ t. rw (c.cells-cells.ensures.cells, c.cells-others.ensures.cells) at t
