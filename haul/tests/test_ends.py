@@ -125,7 +125,8 @@ class Streams(unittest.TestCase):
         ):
             with self.subTest(words=words):
                 self.assertEqual(in_shell(f"haul {words} >&-"), (5, "", bad))
-        # A file that is read doesn't get the number of the closed output.
+        # If the output is closed, the files are still read. None of them gets the descriptor of the
+        # output, which is 1 (see `open_streams`).
         self.assertEqual(
             in_shell("haul join small nowhere >&-"),
             (5, "", "haul: nowhere: No such file or directory\n"),

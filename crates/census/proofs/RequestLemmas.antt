@@ -30,8 +30,8 @@ spares_unread request status input output same untouched no_memory = record {
   no_memory = λ is _. no_memory is;
 }
 
--- what is left unchanged by a command that reads its input, and may refuse it, only if its arguments (its rule, for
--- example) are valid
+-- what a command leaves unchanged that reads its input only if its arguments (its rule, for example) are valid, and
+-- may then refuse the input
 pub spares_unless_valid : (request : Request) (status : Status) (input output : Type 0) (valid : Bool) → reads_input request ≡ valid
     → refuses_input request ≡ valid → (valid ≡ false → input) → (status ≡ statuses.Refused → output)
     → (status ≡ statuses.Memory → is_whole request ≡ true → output) → Spares request status input output

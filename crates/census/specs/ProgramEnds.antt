@@ -6,7 +6,7 @@ use Rattle.census.specs.Program.{Complains, IsDone, left_by}
 use Rattle.census.specs.Requests.{TellsUsage, is_whole, reads_input, refuses_input, writes_lines}
 
 -- What is left unchanged, for each exit code. `input` says that the reader is unchanged, `output` that the writer of
--- standard output is unchanged, and `unprinted` that this writer is unchanged if it is returned.
+-- standard output is, and `unprinted` that this writer is unchanged or, without memory for its buffer, not returned.
 pub record LeavesAlone (arguments : List Text) (code : ℕ) (errors : Stream) (input output unprinted : Type 0) : Type 0 where
   -- code 2: the arguments ask for nothing
   pub usage : code ≡ 2 → asked_by arguments ≡ None

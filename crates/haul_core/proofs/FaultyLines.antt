@@ -57,7 +57,8 @@ ends : (more : Option (List ℕ)) → (remainder_of more ≡ []) ⊎ has_byte 32
 ends None = inl refl
 ends (Some more) = inr refl
 
--- if lawful claims begin with the fields `before`, but none has this field after them, the field is the first fault
+-- if some lawful claim begins with the fields `before`, but none begins with `before` and then `field`, the line's
+-- first fault is at `field`
 pub bad_at : (line : List ℕ) (before : List (List ℕ)) (here field : List ℕ) (more : Option (List ℕ)) → FollowsFields line before (Some here) → Cuts 32 here field more
     → BeginClaim before → ((claim : Claimed) → IsClaim claim → (remainder : List (List ℕ)) → fields_of claim ≡ before ++ field ∷ remainder → ⊥)
     → IsFirstFaultOf line (length line - length here)
@@ -74,8 +75,8 @@ bad_at line before here field more f c b none =
       is = omega (arith, ap length f, length-append (followed before) here);
     })
 
--- if lawful claims begin with the fields `before`, but none has only these, and the line ends after them, the missing
--- next field is the first fault
+-- if some lawful claim begins with the fields `before`, but none has only these, and the line ends after them, the
+-- line's first fault is the missing next field
 pub lacks_at : (line : List ℕ) (before : List (List ℕ)) (there : List ℕ) → FollowsFields line before None → there ≡ [] → BeginClaim before
     → ((claim : Claimed) → IsClaim claim → fields_of claim ≢ before) → IsFirstFaultOf line (length line - length there)
 lacks_at line [] there f e b none = absurd f

@@ -28,8 +28,8 @@ pub(crate) const INNER_COLUMN_MASK: u64 = 0x0fff_ffff_ffff_fff0;
 pub(crate) const LEAST_ROWS: usize = 20;
 
 /// The largest number of rows of a window in which a leap is run. After a leap, each window in which something still
-/// changes has one active box, and the next leap runs this whole box. In a larger window, a larger part of the box
-/// would be unchanged, and would be run for nothing.
+/// changes has one active box. In larger windows, the boxes would be larger, and the early reject would find a cluster
+/// in the middle of a box less often.
 pub(crate) const MOST_ROWS: usize = 56;
 
 /// The number of rows that are surely correct after four generations, in the largest window in which a leap is run.

@@ -1,5 +1,5 @@
--- The code of a cluster says whether the cluster recurs in its place, and with which period. So the objects stay for
--- good if and only if the clusters do.
+-- The code of a cluster says whether the cluster recurs in its place, and with which period. So the objects, judged by
+-- their codes, stay for good if and only if the clusters themselves do.
 use Rattle.std.proofs.Common.{◌≡◌, ◌≢◌, ◌∙◌, ap, sym, refl, subst, ℕ, pos, zero, suc, ◌+◌, ◌≤◌, ◌==◌, ◌&&◌, ◌↔◌, Bool, true, false, cond}
 use Rattle.std.proofs.Common.{IsTrue, List, [], ◌∷◌, All, Some, unwrap_or, count_by, arith, get_or}
 use Rattle.std.specs.List.{AllZip}
