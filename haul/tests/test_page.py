@@ -59,6 +59,12 @@ def folds(text: str) -> dict[str, str]:
     )
 
 
+def haul_of_nothing(size: int, soups: int) -> Haul:
+    """Returns a haul of the soup numbers below `size` that counts `soups` soups, which left no
+    object."""
+    return Haul(Job("", "b3s23", Profile(1, 1, 1, 0)), ranges=[(0, size)], soups=soups)
+
+
 class Top(unittest.TestCase):
     HAUL = Haul(
         Job("a", "b36s23", STANDARD),
@@ -132,41 +138,17 @@ and <code>haul check --samples all.haul</code> runs only the sample soups.</p>
 
     def test_missing_soups(self) -> None:
         """If a haul lacks soups, the page says that only its sample soups can be checked."""
-        some = Haul(
-            Job("", "b3s23", Profile(1, 1, 1, 0)),
-            ranges=[(0, 2000)],
-            soups=1999,
-            unsettled=0,
-            for_good=0,
-            totals={},
-            samples={},
-        )
+        some = haul_of_nothing(2000, 1999)
         self.assertEqual(tiles(page(some, 0))[0], ("soups", "1,999 <small>of 2,000</small>"))
         said = "Soups are missing from this haul, so only <code>haul check --samples all.haul</code> works there."
         self.assertIn(said, folds(page(some, 0))["How to verify it"])
-        whole = Haul(
-            Job("", "b3s23", Profile(1, 1, 1, 0)),
-            ranges=[(0, 2)],
-            soups=2,
-            unsettled=0,
-            for_good=0,
-            totals={},
-            samples={},
-        )
+        whole = haul_of_nothing(2, 2)
         self.assertIn("Soups are missing from the haul B, so only", compared(whole, some))
         self.assertIn("Soups are missing from the hauls A, C, so only", compared(some, whole, some))
 
     def test_verification_of_apgsearch(self) -> None:
         """The page says which hauls are apgsearch's, and which `haul check` can't check."""
-        one = Haul(
-            Job("", "b3s23", Profile(1, 1, 1, 0)),
-            ranges=[(0, 2)],
-            soups=2,
-            unsettled=0,
-            for_good=0,
-            totals={},
-            samples={},
-        )
+        one = haul_of_nothing(2, 2)
         other = replace(one, apgsearch="v5.4-ll2.2")
         text = page(other, 0)
         self.assertIn("--totals all.haul</code> takes a census of as many soups.", text)

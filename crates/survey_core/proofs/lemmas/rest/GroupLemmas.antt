@@ -330,8 +330,7 @@ module _ (rule : Numbers) (cells : List Cell) (groups : List ℕ) (parts : List 
         (λ j e there ne. next_at rule (get_or parts j e) g c
         ∙ far-lives rule c (after rule (get_or parts j e) g) (λ d h. others_far g c low s j e there ne d h))
 
-    -- if the parts of each group, each run alone, are together the group's union in each generation, all parts, each
-    -- run alone, are together the whole in each generation
+    -- if `AddUp` holds for each group and its union up to generation n, it holds for all parts and the whole up to n
     pub whole_adds : AddUp rule cells parts 0
         → ((i g : ℕ) → i < length parts → g ≤ n → AddUp rule (union (get_or groups i 0)) (members (get_or groups i 0) groups parts) g)
         → (g : ℕ) → g ≤ n → AddUp rule cells parts g
@@ -346,8 +345,7 @@ module _ (rule : Numbers) (cells : List Cell) (groups : List ℕ) (parts : List 
             ∙ each s.place (suc g) s.within low c
             ∙ sym (as_in_members g c (omega arith) s)
 
-    -- conversely, if all parts, each run alone, are together the whole in each generation, the parts of each group,
-    -- each run alone, are together the group's union in each generation
+    -- conversely, if `AddUp` holds for all parts and the whole up to n, it holds for each group and its union up to n
     pub group_adds : (k : ℕ) → AddUp rule (union k) (members k groups parts) 0 → ((g : ℕ) → g ≤ n → AddUp rule cells parts g)
         → (g : ℕ) → g ≤ n → AddUp rule (union k) (members k groups parts) g
     group_adds k start whole zero low = start
