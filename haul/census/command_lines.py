@@ -12,6 +12,8 @@ from haul.patterns.rules import LIFE
 
 # The most soups that `census` takes in one call.
 NUMBERS_IN_A_CALL = 2**24
+# The most workers of one call.
+WORKERS_OF_A_CALL = 16
 # The most ranges in one call: on Linux an argument has at most 131,071 bytes, and a range takes at
 # most 23, with its comma.
 RANGES_IN_A_CALL = 2000
@@ -26,8 +28,8 @@ def list_take_arguments(
 ) -> list[str]:
     """Returns the arguments for taking a set of soups that is small enough for one call. If `late`
     is given, the call also writes the report lines of soups that settle in that generation or
-    later, and of unsettled soups."""
-    options = [f"--workers={workers}"]
+    later, and of unsettled soups. More than `WORKERS_OF_A_CALL` workers count as that many."""
+    options = [f"--workers={min(workers, WORKERS_OF_A_CALL)}"]
     options += ["--progress"] if has_progress else []
     options += [f"--report-from={late}"] if late is not None else []
     return ["take", *list_set_options(job, ranges), *options]

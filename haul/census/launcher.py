@@ -10,7 +10,8 @@ The launcher runs in its own session. PARENT is the process that started it. HOW
               wrong
 
 When PROGRAM or `haul` ends, all processes that PROGRAM has started are killed, even those in
-sessions of their own.
+sessions of their own. It doesn't matter how `haul` ends, or whether PROGRAM has stopped the
+launcher.
 """
 
 from __future__ import annotations
@@ -33,6 +34,9 @@ NOT_THERE = (
     "Permission denied",
     "Operation not permitted",
     "Exec format error",
+    "Too many levels of symbolic links",
+    "File name too long",
+    "Invalid argument",
 )
 # mutant: equal because `haul` passes on only the statuses 2 to 5, and otherwise ends with 5
 USAGE, FAILED = 2, 5
@@ -99,16 +103,23 @@ def run_program(parent: int, words: list[str], closes_streams: bool) -> tuple[in
     the processes that it has started, and this process."""
     import _signal
 
+    def end_as_orphan(_number: int, _frame: object) -> None:
+        if os.getppid() != parent:
+            end_session()
+
     # Orphaned processes of the program become children of this one.
     call_prctl(PR_SET_CHILD_SUBREAPER, 1)
     _signal.signal(_signal.SIGTERM, lambda _number, _frame: end_session())
-    end_with(parent, _signal.SIGTERM)
+    # SIGCONT also reaches this process if the program has stopped it.
+    _signal.signal(_signal.SIGCONT, end_as_orphan)
+    end_with(parent, _signal.SIGCONT)
     itself = os.getpid()
     # This pipe is closed when the program starts. If it can't start, the reason is written first.
     reason, writing = os.pipe()
     program = os.fork()
     if program == 0:
-        _signal.signal(_signal.SIGTERM, _signal.SIG_DFL)
+        for number in (_signal.SIGTERM, _signal.SIGCONT):
+            _signal.signal(number, _signal.SIG_DFL)
         become(itself, writing, words, closes_streams)
     os.close(writing)
     with open(reason, encoding="utf-8") as pipe:
@@ -149,7 +160,7 @@ def end_session() -> None:
 def end_descendants() -> None:
     """Kills all children, and descendants that become children when their parents are killed, until
     none is left."""
-    while True:
+    while has_children():
         for child in list_children():
             try:
                 os.kill(child, SIGKILL)
@@ -159,6 +170,16 @@ def end_descendants() -> None:
             os.waitpid(-1, 0)
         except ChildProcessError:
             return
+
+
+def has_children() -> bool:
+    """Checks whether there is a child that is running. Waits for those that have ended."""
+    try:
+        while os.waitpid(-1, os.WNOHANG)[0]:
+            pass
+    except ChildProcessError:
+        return False
+    return True
 
 
 def list_children() -> list[int]:

@@ -19,19 +19,19 @@ from haul.hauls.join import Joining
 SAMPLES_IN_A_CALL = 500
 
 
-def retake(census: Census, haul: Haul, workers: int) -> Haul:
+def retake(census: Census, haul: Haul) -> Haul:
     """Takes the census of a haul again on this machine, with the same job and the same set of
     soups, and returns the new haul."""
     joining = Joining()
     for ranges in split_ranges(haul.ranges):
-        joining.add(take_set(census, haul.job, ranges, workers))
+        joining.add(take_set(census, haul.job, ranges))
     return joining.result()
 
 
-def take_set(census: Census, job: Job, ranges: list[Range], workers: int) -> Haul:
+def take_set(census: Census, job: Job, ranges: list[Range]) -> Haul:
     """Returns the haul of a set of soups that is small enough for one call."""
     with tempfile.TemporaryFile() as text:
-        census.take(job, ranges, workers, text)
+        census.take(job, ranges, text)
         text.seek(0)
         try:
             haul = read_one_haul(text)

@@ -10,14 +10,12 @@ from dataclasses import dataclass
 from haul.census.background import BackgroundTake, StreamWaiter
 from haul.census.children import NoCensus
 from haul.census.client import Census
-from haul.census.command_lines import list_take_arguments
+from haul.census.command_lines import WORKERS_OF_A_CALL, list_take_arguments
 from haul.formats.field_reader import BadHaul
 from haul.formats.haul import NUMBER_LIMIT, Haul, Job
 from haul.formats.haul_reader import read_one_haul
 from haul.search.late_soups import BatchLines
 
-# The most workers of one call of `census take`, and of a search.
-WORKERS_OF_A_CALL, MOST_WORKERS = 16, 1024
 # If several batches run at once, the queue has at most this many batches per running batch.
 # Finished batches wait in the queue for the batches before them.
 BATCHES_FOR_EACH = 4

@@ -30,14 +30,11 @@ class Companion:
         name: str,
         suffix: str,
         complain: Callable[[str], None],
-        is_always_there: bool = False,
     ) -> None:
         """`path` is the path of FILE, and `name` its name in messages. Problems with the companion
-        are passed to `complain` as lines. `is_always_there` means that the companion exists even if
-        there is nothing to keep in it."""
+        are passed to `complain` as lines."""
         self.suffix = suffix
         self.complain = complain
-        self.is_always_there = is_always_there
         self.move_to(path, name)
 
     def move_to(self, path: str, name: str) -> None:

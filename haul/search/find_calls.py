@@ -51,10 +51,10 @@ class FindCalls:
         if self.running is None and self.waiting:
             self.begin(self.waiting.popleft())
         elif self.running is not None and self.running.is_ended():
-            self.report(self.running.printed.decode("utf-8", "replace").strip() or "was ended")
+            self.report(self.how_it_ended() or "was ended")
             self.running = None
         elif self.running is not None and time.monotonic() - self.began >= MOST_SECONDS:
-            self.end()
+            self.kill()
             self.report(f"ended after {MOST_SECONDS:.0f} seconds")
 
     def begin(self, arguments: list[str]) -> None:
@@ -71,7 +71,26 @@ class FindCalls:
             self.complain(f"{self.program}: {how}")
 
     def end(self) -> None:
-        """Ends the running call, and everything that it has started."""
-        if self.running is not None:
-            self.running.end()
-            self.running = None
+        """Ends the running call, and everything that it has started. If the program hadn't ended by
+        itself, its call remains open, so that the next search makes it again."""
+        if self.running is None:
+            return
+        self.running.kill()
+        self.running.read_rest()
+        how = self.how_it_ended()
+        self.kill()
+        if how:
+            self.report(how)
+        else:
+            self.waiting.appendleft(self.arguments)
+
+    def kill(self) -> None:
+        assert self.running is not None
+        self.running.end()
+        self.running = None
+
+    def how_it_ended(self) -> str:
+        """Returns what the launcher said about the end of the program. It says nothing if it was
+        itself ended before the program."""
+        assert self.running is not None
+        return self.running.printed.decode("utf-8", "replace").strip()

@@ -122,8 +122,7 @@ class Keeper:
     def write_mine(self, haul: Haul, beside: Sequence[Beside]) -> str:
         """Writes a haul to FILE.mine, or to FILE.mine.2 and so on if FILE.mine or a file beside it
         exists. From now on, the files in `beside` are kept beside the new file. Those that have
-        changed, and those that are always there, are written at once. Returns the path of the
-        haul."""
+        changed are written at once. Returns the path of the haul."""
         for number in itertools.count(1):
             end = ".mine" + (f".{number}" if number > 1 else "")
             name = self.path + end
@@ -133,7 +132,7 @@ class Keeper:
                 break
         for one in beside:
             one.file.move_to(name, self.name + end)
-            if one.is_changed or one.file.is_always_there:
+            if one.is_changed:
                 one.file.write(one.write())
         replace_file(name, write_lines(haul), self.path)
         return name

@@ -13,7 +13,6 @@ finds in short steps, and waits for output of the programs and for signals.
 
 from __future__ import annotations
 
-import os
 import time
 from collections.abc import Callable
 from contextlib import suppress
@@ -23,10 +22,10 @@ from typing import TextIO
 from haul.census.background import StreamWaiter
 from haul.census.client import Census
 from haul.formats.haul import NUMBER_LIMIT, Haul
-from haul.search.late_file import Late
+from haul.formats.late_file import Late
 from haul.hauls.join import Joining
 from haul.plurals import write_count
-from haul.search.batches import MOST_WORKERS, Batches, Plan, Taken
+from haul.search.batches import Batches, Plan, Taken
 from haul.search.companion import Companion
 from haul.search.find_calls import FindCalls
 from haul.search.finds import Finder
@@ -100,7 +99,6 @@ class Search:
         self.finder = Finder(haul.job, haul, plan.rarer, kept.untold.since)
         self.calls = FindCalls(self.waiter, plan.finds, self.terminal.complain)
         self.telling = Telling(output, self.terminal, self.calls, kept.untold.finds)
-        self.late_is_changed = True
         self.line = StatusLine(self.terminal)
         self.said_that_it_finishes = self.said_what_is_left = False
         self.began = self.kept_at = time.monotonic()
@@ -160,8 +158,7 @@ class Search:
         self.unkept.append((haul.ranges[0][0], new))
         if self.late is not None and taken.lines is not None:
             latest = self.late.latest
-            if self.late.add(taken.lines.lines, taken.lines.left_out):
-                self.late_is_changed = True
+            self.late.add(haul.ranges[0], taken.lines.lines, taken.lines.left_out)
             if self.plan.tells_late:
                 self.unkept_late += list_late_finds(self.job, taken.lines, latest)
         self.joining.add(haul)
@@ -206,12 +203,12 @@ class Search:
     def write(self) -> None:
         beside: list[Beside] = []
         if self.late is not None:
-            beside.append(Beside(self.kept.late_file, self.late.write, self.late_is_changed))
+            # Its first line says which soups it covers, so each batch changes it.
+            beside.append(Beside(self.kept.late_file, self.late.write, True))
         untold = self.list_untold(self.unkept, self.unkept_late)
         is_there = self.kept.finds_file.known is not None
         beside.append(Beside(self.kept.finds_file, untold.write, is_there or not untold.is_empty()))
         self.keeper.write(self.joining.result(), beside)
-        self.late_is_changed = False
 
     def list_untold(self, batches: list[NewOfBatch], late: list[list[str]]) -> Untold:
         """Returns what the search hasn't reported yet, including these late soups and the possible
@@ -219,7 +216,12 @@ class Search:
         since = [new.first for new in self.finder.queue]
         told = batches[1:] if self.finder.is_silent else batches
         since += [first for first, codes in told if codes]
-        return Untold(self.job, min(since, default=NUMBER_LIMIT), self.telling.list_untold() + late)
+        return Untold(
+            self.job,
+            self.joining.ranges,
+            min(since, default=NUMBER_LIMIT),
+            self.telling.list_untold() + late,
+        )
 
     def keep_untold(self) -> None:
         """Writes FILE.finds, so that the next search reports what this one hasn't. Removes
@@ -337,9 +339,3 @@ class Search:
             time.monotonic() - self.began,
             left,
         )
-
-
-def count_processors() -> int:
-    """Returns the default number of workers: one for each processor that this process may use, but
-    at most `MOST_WORKERS`."""
-    return min(MOST_WORKERS, len(os.sched_getaffinity(0)))

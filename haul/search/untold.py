@@ -8,25 +8,30 @@ from collections.abc import Iterable, Iterator
 from dataclasses import dataclass, field
 
 from haul.formats.haul import NUMBER_LIMIT, Haul, Job, Range
-from haul.formats.report_lines import PROFILE_TEXT, read_profile
-from haul.formats.syntax import RULE, SEED
+from haul.formats.ranges import intersect, is_in
 from haul.plurals import pluralize, write_count
 from haul.search.companion import Companion
+from haul.formats.heads import (
+    JOB,
+    LINES,
+    RANGES,
+    AnnouncedLines,
+    format_job,
+    format_lines,
+    format_ranges,
+    read_job,
+    read_ranges,
+)
 
 # The most finds that the file keeps.
 MOST_LINES = 100_000
 SOUP = rb"(0|[1-9][0-9]{0,12})"
-HEADER = re.compile(
-    rb"# finds since "
-    + SOUP
-    + rb" left-out ([0-9]{1,15}) rule=("
-    + RULE.pattern
-    + rb") profile=("
-    + PROFILE_TEXT
-    + rb") ("
-    + SEED.pattern
-    + rb")\n"
+LEFT_OUT = rb"([0-9]{1,15})"
+HEAD = re.compile(
+    rb"# finds 2 since %b left-out %b soups %b %b %b\n" % (SOUP, LEFT_OUT, RANGES, LINES, JOB)
 )
+# The first line in version 1.
+FIRST_VERSION = re.compile(rb"# finds since %b left-out %b %b\n" % (SOUP, LEFT_OUT, JOB))
 FIND = re.compile(rb"(?:[ -~]+\t){3}" + SOUP + rb"(?:\t[ -~]+){2}\n")
 # The index of the soup's number among the fields of a find.
 SOUP_FIELD = 3
@@ -41,6 +46,9 @@ class Untold:
     """The fields of the finds that weren't reported, and which objects weren't examined."""
 
     job: Job
+    # The soups of the haul beside which the file was written. `None` in version 1, which doesn't
+    # say them.
+    ranges: list[Range] | None = None
     # An object still has to be examined if the lowest soup that left it is `since` or higher.
     since: int = NUMBER_LIMIT
     finds: list[list[str]] = field(default_factory=list)
@@ -51,37 +59,70 @@ class Untold:
         return self.since == NUMBER_LIMIT and not self.finds
 
     def write(self) -> Iterator[bytes]:
-        """Yields the lines of FILE.finds."""
+        """Yields the lines of FILE.finds. The ranges must be known."""
+        assert self.ranges is not None
         left_out = self.left_out + max(0, len(self.finds) - MOST_LINES)
-        job = f"rule={self.job.rule} profile={self.job.profile.format()} seed={self.job.seed}"
-        yield f"# finds since {self.since} left-out {left_out} {job}\n".encode("ascii")
-        for fields in self.finds[:MOST_LINES]:
-            yield ("\t".join(fields) + "\n").encode("ascii")
+        lines = ["\t".join(fields).encode("ascii") for fields in self.finds[:MOST_LINES]]
+        head = (
+            f"# finds 2 since {self.since} left-out {left_out} soups {format_ranges(self.ranges)} "
+            f"{format_lines(len(lines), lines)} {format_job(self.job)}"
+        )
+        yield head.encode("ascii") + b"\n"
+        for line in lines:
+            yield line + b"\n"
+
+    def find_misfit(self, haul: Haul) -> str | None:
+        """Returns why this can't be the FILE.finds of a haul, or `None` if there is no reason. The
+        haul may lack the last soups, since a search that was killed may have written FILE.finds and
+        not FILE."""
+        if self.job != haul.job:
+            return "other job"
+        next_soup = sum(haul.ranges[-1]) if haul.ranges else 0
+        if self.ranges is not None and intersect(self.ranges, [(0, next_soup)]) != haul.ranges:
+            return "the finds of other soups"
+        return None
+
+
+def read_head(line: bytes) -> tuple[Untold, AnnouncedLines | None] | None:
+    """Reads the first line. Returns `None` if it is another line. Version 1 announces no lines."""
+    if found := FIRST_VERSION.fullmatch(line):
+        job = read_job(*found.groups()[2:])
+        return (Untold(job, None, int(found[1]), [], int(found[2])), None) if job else None
+    found = HEAD.fullmatch(line)
+    ranges = read_ranges(found[3]) if found else None
+    job = read_job(*found.groups()[5:]) if found else None
+    if found is None or ranges is None or job is None:
+        return None
+    untold = Untold(job, ranges, int(found[1]), [], int(found[2]))
+    return untold, AnnouncedLines(found[4], found[5])
 
 
 def read_untold(text: Iterable[bytes]) -> Untold:
     """Reads a text, given by its lines with their line feeds. Raises `BadFinds` if it isn't a
-    FILE.finds."""
+    FILE.finds, or if the lines aren't those that the first line announces."""
     lines = iter(text)
-    header = HEADER.fullmatch(next(lines, b""))
-    profile = read_profile(header[4]) if header else None
-    if header is None or profile is None:
+    head = read_head(next(lines, b""))
+    if head is None:
         raise BadFinds("line 1: not a header")
-    seed = header[5].decode("ascii").removeprefix("seed=")
-    job = Job(seed, header[3].decode("ascii"), profile)
-    untold = Untold(job, int(header[1]), left_out=int(header[2]))
+    untold, announced = head
     for number, line in enumerate(lines, 2):
         if not FIND.fullmatch(line) or number > MOST_LINES + 1:
             raise BadFinds(f"line {number}: not a find")
+        if announced:
+            announced.read(line)
         untold.finds.append(line.decode("ascii").removesuffix("\n").split("\t"))
+    loss = announced.find_loss(len(untold.finds)) if announced else None
+    if loss is not None:
+        raise BadFinds(loss)
     return untold
 
 
 def open_untold(haul: Haul, kept: Companion) -> Untold:
     """Returns what the previous searches haven't reported about the soups of a haul."""
     untold = kept.read(read_untold, BadFinds)
-    if untold is not None and untold.job != haul.job:
-        kept.reject("other job")
+    why = untold.find_misfit(haul) if untold is not None else None
+    if why is not None:
+        kept.reject(why)
         untold = None
     if untold is None:
         return Untold(haul.job)
@@ -90,8 +131,4 @@ def open_untold(haul: Haul, kept: Companion) -> Untold:
         were = pluralize(untold.left_out, "was", "were")
         kept.complain(f"{kept.name}: {count} {were} left out")
     finds = [fields for fields in untold.finds if is_in(int(fields[SOUP_FIELD]), haul.ranges)]
-    return Untold(haul.job, untold.since, finds)
-
-
-def is_in(soup: int, ranges: Iterable[Range]) -> bool:
-    return any(first <= soup < first + count for first, count in ranges)
+    return Untold(haul.job, haul.ranges, untold.since, finds)

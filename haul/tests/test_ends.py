@@ -259,7 +259,7 @@ class Progress(unittest.TestCase):
 
 class Usage(unittest.TestCase):
     def test_usage(self) -> None:
-        self.assertEqual(run("check", "--workers", "17")[0], 2)
+        self.assertEqual(run("check", "--workers", "1025")[0], 2)
         self.assertEqual(run()[0], 2)
         self.assertEqual(
             run("--version"), (0, census("--version").decode().replace("census", "haul"), "")
@@ -269,10 +269,9 @@ class Usage(unittest.TestCase):
     def test_values(self) -> None:
         """If the value of an option is invalid, the message says what is wrong with it."""
         for words, told in (
-            (["check", "--workers=0"], "0 is not in 1 to 16"),
-            (["check", "--workers=17"], "17 is not in 1 to 16"),
-            (["check", "--workers=x"], "x is not in 1 to 16"),
-            (["check", "--workers=\u0663"], "\u0663 is not in 1 to 16"),
+            (["check", "--workers=0"], "0 is not in 1 to 1024"),
+            (["page", "--workers=1025"], "1025 is not in 1 to 1024"),
+            (["soups", "--workers=x"], "x is no number"),
             (["page", "--least=x"], "x is no number"),
             (["table", "--top=-1"], "-1 is no number"),
             (["table", "--top=\u0663"], "\u0663 is no number"),

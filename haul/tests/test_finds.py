@@ -310,9 +310,9 @@ class Fields(Searches):
                 )
 
     def test_a_search_tells_them(self) -> None:
-        words = ["--seed=", "--first", str(CLOCK_SOUP - 20), "--part", "10", *RARE]
+        words = ["--seed=", "--first", str(CLOCK_SOUP - 20), "--batch", "10", *RARE]
         self.assertEqual(self.search(*words, "--until", "20"), (0, "", ""))
-        status, output, errors = self.search("--until", "40", "--part", "10", *RARE)
+        status, output, errors = self.search("--until", "40", "--batch", "10", *RARE)
         time_, *fields = output.removesuffix("\n").split("\t")
         self.assertEqual(
             (status, errors, fields),
@@ -377,7 +377,7 @@ class Calls(Searches):
         program = self.stub(
             '[[ ! -e runs ]] || echo two >> said; touch runs; sleep 0.05; rm runs; echo "$2" >> said'
         )
-        self.search("--seed=a", "--rule=b36s23", "--until", "10", "--part", "10")
+        self.search("--seed=a", "--rule=b36s23", "--until", "10", "--batch", "10")
         status, output, _ = self.search("--until", "60", "--finds", program)
         self.assertEqual(status, 0)
         codes = [line.split("\t")[1] for line in output.splitlines()]
@@ -737,7 +737,7 @@ class StatusLines(Searches):
                 "--seed=a",
                 "--limit=500",
                 "--until=150",
-                "--part=10",
+                "--batch=10",
                 "--workers=4",
                 "--census",
                 program,

@@ -133,7 +133,7 @@ class AfterAKill(UntoldFinds):
                 program.wait(60)
         header, *lines = self.finds.read_text().splitlines()
         self.assertEqual(len(lines), 2)
-        self.assertRegex(header, r"^# finds since \d+ left-out [1-9]\d* ")
+        self.assertRegex(header, r"^# finds 2 since \d+ left-out [1-9]\d* ")
 
     def test_files_that_cant_be_used(self) -> None:
         for text, why in (
@@ -155,7 +155,7 @@ class AfterAKill(UntoldFinds):
         self.file.unlink()
         told: set[str] = set()
         for seconds in (0.4, 0.6, 0.8, 1.0, 1.2):
-            with self.start(*WORDS[:2], "--rarer=10000", "--part=40", "--until=1000") as program:
+            with self.start(*WORDS[:2], "--rarer=10000", "--batch=40", "--until=1000") as program:
                 time.sleep(seconds)
                 program.kill()
                 output, _ = program.communicate()
