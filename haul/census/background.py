@@ -12,7 +12,7 @@ from collections.abc import Callable
 from contextlib import suppress
 from typing import IO
 
-from haul.census.children import children, kill_apart
+from haul.census.children import children, kill_apart, measure_session
 from haul.census.client import FAILED, Ended, check_ending
 from haul.census.starters import LAUNCH_CENSUS
 from haul.formats.report_lines import LINE_LIMIT
@@ -110,6 +110,10 @@ class BackgroundProgram:
                 self.flooded = self.flooded or stream
                 self.kill()
                 text.clear()
+
+    def measure_memory(self) -> int:
+        """Returns the number of bytes of memory that the program and its children use."""
+        return measure_session(self.process.pid)
 
     def is_ended(self) -> bool:
         """Checks whether the program has ended and everything that it printed has been read."""

@@ -152,6 +152,21 @@ def kill_apart(program: subprocess.Popen[bytes]) -> None:
         os.killpg(program.pid, signal.SIGKILL)
 
 
+def measure_session(session: int) -> int:
+    """Returns the number of bytes of memory that the processes of a session use."""
+    pages = 0
+    for name in filter(str.isdigit, os.listdir("/proc")):
+        # The process may have ended meanwhile.
+        with suppress(OSError), open(
+            f"/proc/{name}/stat", encoding="utf-8", errors="replace"
+        ) as file:
+            # After the name, which is in parentheses: the state, the parent, the group, the session.
+            fields = file.read().rpartition(")")[2].split()
+            if int(fields[3]) == session:
+                pages += int(fields[21])
+    return pages * os.sysconf("SC_PAGE_SIZE")
+
+
 class NoCensus(Exception):
     """Raised if there is no census program, or if the program doesn't answer like one."""
 

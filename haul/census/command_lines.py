@@ -101,14 +101,19 @@ def split_ranges(ranges: list[Range], numbers: int = NUMBERS_IN_A_CALL) -> Itera
 def format_find_command(job: Job, soup: int) -> str:
     """Returns the command that runs the soup of a find and names what it leaves. If the profile
     isn't the standard one, the command has the whole profile."""
-    # A value that begins with a hyphen has to be attached to its option.
-    seed = ["--seed", job.seed] if not job.seed.startswith("-") else [f"--seed={job.seed}"]
     profile: list[str] = []
     if job.profile != STANDARD:
         for option, number in job.profile.list_options():
             profile += [option, str(number)]
-    print_soup = shlex.join(["census", "soup", *seed, str(soup)])
-    return f"{print_soup} | {shlex.join(['census', 'name', '--rule', job.rule, *profile])}"
+    name = shlex.join(["census", "name", "--rule", job.rule, *profile])
+    return f"{format_soup_command(job, soup)} | {name}"
+
+
+def format_soup_command(job: Job, soup: int) -> str:
+    """Returns the command that prints a soup."""
+    # A value that begins with a hyphen has to be attached to its option.
+    seed = ["--seed", job.seed] if not job.seed.startswith("-") else [f"--seed={job.seed}"]
+    return shlex.join(["census", "soup", *seed, str(soup)])
 
 
 def format_soup_commands(job: Job) -> tuple[str, str]:

@@ -3,22 +3,34 @@
 from __future__ import annotations
 
 import argparse
+import time
 from collections.abc import Iterator
+from itertools import islice
 
 from haul.census.client import Census
 from haul.cli.statuses import DONE, NOT_RIGHT, REFUSED, USAGE
 from haul.cli.streams import Refused, Streams, format_place
 from haul.formats.field_reader import BadHaul
-from haul.formats.haul import Haul, Range
+from haul.formats.haul import Haul, Job, Range
 from haul.formats.index import Index, compute_digest, format_index, is_index, name_piece, read_index
 from haul.hauls.apgsearch_check import ApgsearchCheck, CantCheck
-from haul.hauls.check import find_wrong_samples, list_differences, retake
+from haul.hauls.check import (
+    count_right_rows,
+    count_samples,
+    find_wrong_samples,
+    list_differences,
+    resembles_nothing,
+    retake,
+)
 from haul.hauls.file_choice import FileChoice
 from haul.hauls.indexing import CantIndex, Indexing
+from haul.plurals import write_count
 from haul.terminal import escape_controls
 
 
 RIGHT = "right"
+# The most differences that are listed.
+MOST_LINES = 20
 
 
 def run_check(asked: argparse.Namespace, streams: Streams) -> int:
@@ -66,16 +78,49 @@ def check_haul(asked: argparse.Namespace, streams: Streams, name: str | None) ->
     if asked.totals:
         raise Refused(f"{format_place(name)}--totals is for hauls of apgsearch")
     census = Census(asked.census, streams.terminal, asked.workers)
+    began = time.monotonic()
     if asked.samples:
-        wrong = list(find_wrong_samples(census, haul))
+        wrong = shorten(find_wrong_samples(census, haul))
+        soups = write_count(count_samples(haul), "sample soup")
     elif haul.soups != haul.size():
         raise Refused(
             f"{format_place(name)}haul with missing soups, which can't be taken again; --samples "
             "runs its sample soups"
         )
     else:
-        wrong = list(list_differences(haul, retake(census, haul)))
+        wrong = shorten(list_all_differences(haul, retake(census, haul)))
+        soups = describe_soups(haul)
+    streams.terminal.complain(f"{format_place(name)}{describe_run(soups, haul.job, began)}")
     return wrong or [RIGHT]
+
+
+def describe_soups(haul: Haul) -> str:
+    ranges = write_count(len(haul.ranges), "range")
+    return f"{write_count(haul.size(), 'soup')} in {ranges}"
+
+
+def describe_run(soups: str, job: Job, began: float) -> str:
+    """Returns what was run under which rule, and how many seconds that took. `began` is when it
+    began, in seconds."""
+    return f"{soups} run under {job.rule} in {time.monotonic() - began:.1f} s"
+
+
+def list_all_differences(haul: Haul, right: Haul) -> Iterator[str]:
+    """Yields the differences. If nothing resembles the right haul, a line before them says so."""
+    if resembles_nothing(haul, right):
+        yield (
+            f"nothing here resembles a census of these soups of the seed '{haul.job.seed}': "
+            f"{count_right_rows(haul, right)} of {write_count(len(haul.samples), 'row')} of samples "
+            "are right"
+        )
+    yield from list_differences(haul, right)
+
+
+def shorten(lines: Iterator[str]) -> list[str]:
+    """Returns the first `MOST_LINES` lines. If there are more, the last line says how many."""
+    first = list(islice(lines, MOST_LINES))
+    more = sum(1 for _ in lines)
+    return first + ([f".. and {write_count(more, 'more difference')}"] if more else [])
 
 
 def check_apgsearch_haul(
@@ -91,12 +136,12 @@ def check_apgsearch_haul(
     try:
         check = ApgsearchCheck(Census(asked.census, streams.terminal, asked.workers), haul)
         if asked.totals:
-            return list(check.find_other_totals(asked.first or 0)) or [RIGHT]
+            return shorten(check.find_other_totals(asked.first or 0)) or [RIGHT]
         for reason, codes in check.list_unchecked().items():
             streams.terminal.complain(
                 f"{format_place(name)}not checked, since {reason}: {' '.join(codes)}"
             )
-        return list(check.find_wrong_samples()) or [RIGHT]
+        return shorten(check.find_wrong_samples()) or [RIGHT]
     except CantCheck as why:
         raise Refused(f"{format_place(name)}{why}") from None
 
@@ -165,5 +210,9 @@ def retake_pieces(
     is the one in the index."""
     census = Census(asked.census, streams.terminal, asked.workers)
     for piece in pieces:
+        began = time.monotonic()
         right = retake(census, Haul(index.job, ranges=[piece]))
+        streams.terminal.complain(
+            f"{name_piece(piece)}: {describe_run(describe_soups(right), index.job, began)}"
+        )
         yield piece, compute_digest(right) == index.pieces[piece]

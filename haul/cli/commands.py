@@ -226,6 +226,7 @@ def run_search(asked: argparse.Namespace, streams: Streams) -> int:
             USUAL_RARER if asked.rarer is None else asked.rarer,
             None if kept.late is None else kept.late.generation,
             kept.haul.job.rule == LIFE or asked.late is not None,
+            asked.soup_seconds,
         )
         stopping = Stopping()
         search = Search(plan, kept, census, stopping, streams.stdout)

@@ -43,6 +43,8 @@ class Plan:
     late: int | None = None
     # Whether late and unsettled soups are reported.
     tells_late: bool = False
+    # The search ends after this many seconds without a soup, or never if it is 0.
+    soup_seconds: int = 60
 
 
 @dataclass
@@ -138,6 +140,18 @@ class Batches:
     def soups(self) -> int:
         """Returns the number of soups that the batches in the queue have run."""
         return sum(batch.call.soups() if batch.workers else batch.count for batch in self.queue)
+
+    def first_progress(self) -> tuple[int, int] | None:
+        """Returns how many soups the first batch has run, and how many it has. Returns `None` if no
+        batch is running."""
+        if not self.queue:
+            return None
+        batch = self.queue[0]
+        return (batch.call.soups() if batch.workers else batch.count), batch.count
+
+    def measure_memory(self) -> int:
+        """Returns the number of bytes of memory that the running batches use."""
+        return sum(batch.call.measure_memory() for batch in self.queue if batch.workers)
 
     def soups_left(self) -> int:
         return sum(batch.count for batch in self.queue) - self.soups()

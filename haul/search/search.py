@@ -20,7 +20,7 @@ from dataclasses import dataclass
 from typing import TextIO
 
 from haul.census.background import StreamWaiter
-from haul.census.client import Census
+from haul.census.client import FAILED, Census, Ended
 from haul.formats.haul import NUMBER_LIMIT, Haul
 from haul.formats.late_file import Late
 from haul.hauls.join import Joining
@@ -31,6 +31,7 @@ from haul.search.find_calls import FindCalls
 from haul.search.finds import Finder
 from haul.search.keeper import Beside, Displaced, Keeper
 from haul.search.late_soups import list_late_finds
+from haul.search.stall import Stall
 from haul.search.status_line import Status, StatusLine, format_duration
 from haul.search.stopping import Stopping
 from haul.search.telling import Telling
@@ -100,6 +101,7 @@ class Search:
         self.calls = FindCalls(self.waiter, plan.finds, self.terminal.complain)
         self.telling = Telling(output, self.terminal, self.calls, kept.untold.finds)
         self.line = StatusLine(self.terminal)
+        self.stall = Stall(plan.soup_seconds)
         self.said_that_it_finishes = self.said_what_is_left = False
         self.began = self.kept_at = time.monotonic()
         # How long all writing together took, and how long the latest writing took, in seconds.
@@ -251,6 +253,7 @@ class Search:
                 raise Dropped
             if self.stopping.finishes and not self.said_that_it_finishes:
                 self.say_that_it_finishes()
+            self.watch_for_stalls()
             if self.line.is_due():
                 self.line.show(self.status())
             if self.must_keep():
@@ -261,6 +264,18 @@ class Search:
             else:
                 self.find_for(SECONDS_OF_FINDING)
                 self.waiter.wait(0)
+
+    def watch_for_stalls(self) -> None:
+        """Raises `Ended` if batches are running and no soup has ended for too long."""
+        was_long = self.stall.is_long()
+        self.stall.look(self.joining.soups + self.batches.soups())
+        if not self.batches.queue:
+            return
+        if self.stall.is_over():
+            batch = self.batches.queue[0]
+            raise Ended(FAILED, self.stall.last_words(self.job, batch.first + batch.call.soups()))
+        if self.stall.is_long() and not was_long:
+            self.line.show(self.status())
 
     def has_told(self) -> bool:
         """Checks whether all finds have been found and printed, or printing has failed. Calls of
@@ -303,8 +318,15 @@ class Search:
         if not batches:
             self.say_what_is_left()
             return
+        waited = ""
+        if self.stall.seconds >= 1:
+            waited = f", which has waited {format_duration(self.stall.seconds)} for a soup"
         rate = self.status().rate()
-        when = f", in about {format_duration(self.batches.soups_left() / rate)}" if rate > 0 else ""
+        when = (
+            f", in about {format_duration(self.batches.soups_left() / rate)}"
+            if rate > 0
+            else waited
+        )
         these, them = (
             ("this batch", "the batch") if batches == 1 else (f"these {batches} batches", "them")
         )
@@ -338,4 +360,9 @@ class Search:
             self.telling.count,
             time.monotonic() - self.began,
             left,
+            self.stall.text(self.batches.measure_memory()) if self.is_stalled() else None,
+            self.batches.first_progress() if self.joining.soups == 0 else None,
         )
+
+    def is_stalled(self) -> bool:
+        return bool(self.batches.queue) and self.stall.is_long()

@@ -21,7 +21,17 @@ from haul.formats.profile import Profile
 from haul.census.children import NoThread
 from haul.formats.haul import Haul, Job
 from haul.formats.haul_reader import read_one_haul
-from haul.tests.called import CENSUS, HAUL, TOP, call, census, read_terminal, run, taken
+from haul.tests.called import (
+    CENSUS,
+    HAUL,
+    TOP,
+    call,
+    census,
+    drop_summaries,
+    read_terminal,
+    run,
+    taken,
+)
 from haul.tests.drawn import text_of
 from haul.tests.test_text import SMALL
 
@@ -71,7 +81,7 @@ def in_shell(command: str, script: str = "", few: str = "") -> tuple[int, str, s
             check=False,
             env=os.environ | {"few": few},
         )
-    return ended.returncode, ended.stdout.decode(), ended.stderr.decode()
+    return ended.returncode, ended.stdout.decode(), drop_summaries(ended.stderr.decode())
 
 
 class Streams(unittest.TestCase):
@@ -166,7 +176,8 @@ class Progress(unittest.TestCase):
 
     def written(self, *words: str, text: bytes) -> bytes:
         """Returns what `haul` writes to standard error if that is a terminal."""
-        return read_terminal(lambda stderr: call(words, io.BytesIO(text), io.StringIO(), stderr))
+        written = read_terminal(lambda stderr: call(words, io.BytesIO(text), io.StringIO(), stderr))
+        return drop_summaries(written.decode()).encode()
 
     def test_objects_that_are_separated(self) -> None:
         """Progress is shown after every five hundred objects."""

@@ -48,6 +48,14 @@ SEARCH = Command(
         ),
         WORKERS,
         option(
+            "--soup-seconds",
+            "S",
+            "end after S seconds without a soup, or never if S is 0 (default: 60). Under some rules, "
+            "soups grow without end",
+            read_count,
+            60,
+        ),
+        option(
             "--late",
             "GENERATION",
             "keep the report lines of soups that settle in this generation or later, and of unsettled "
