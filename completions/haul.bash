@@ -11,7 +11,7 @@ _haul() {
     # After an option that takes a value, only its values are proposed.
     case $before in
         =) return ;;
-        --until | --batch | --workers | --late | --rarer | --seed | --first | --rule | --period | --horizon | --stride | --limit | --random | --choice | --least | --top | --kind | --play | --lives | --separate | --longest | --code | --pattern | --most) return ;;
+        --until | --batch | --workers | --soup-seconds | --late | --rarer | --seed | --first | --rule | --period | --horizon | --stride | --limit | --random | --choice | --least | --top | --kind | --play | --lives | --separate | --longest | --code | --pattern | --most) return ;;
         --per)
             mapfile -t COMPREPLY < <(compgen -W 'million soup' -- "$word")
             return
@@ -22,7 +22,7 @@ _haul() {
             ;;
     esac
     case ${COMP_WORDS[1]} in
-        search) options='--until --batch --workers --late --rarer --finds --seed --first --rule --period --horizon --stride --limit --census --help' ;;
+        search) options='--until --batch --workers --soup-seconds --late --rarer --finds --seed --first --rule --period --horizon --stride --limit --census --help' ;;
         check) options='--workers --samples --totals --first --random --choice --census --help' ;;
         index) options='--help' ;;
         join) options='--help' ;;

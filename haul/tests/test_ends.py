@@ -253,7 +253,7 @@ class Progress(unittest.TestCase):
         """`haul check` passes on the progress line of the census program, including the spaces that
         erase it. docs/COMMANDS.md describes the line."""
         said = self.written("check", text=taken(40))
-        self.assertTrue(said.startswith(b"\r0 of 40 soups") and said.endswith(b" \r"))
+        self.assertTrue(said.startswith(b"\r0 of 40 soups") and said.endswith(b" \r\r\x1b[K"))
 
     def test_files(self) -> None:
         with tempfile.TemporaryDirectory() as folder:
