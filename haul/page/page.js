@@ -50,7 +50,11 @@ const showControls = () => {
   byId('filter').lastChild.textContent = countFilters() || '';
 };
 const sumOf = some => some.reduce((sum, object) => sum + wayOf(object).total, 0n);
-const COMPARED = ' Bars: per million soups; * differs from A (p < 0.001).';
+// The legend of the bars. It explains the mark only if a card or a row has one.
+const barsLegend = () => {
+  const isMarked = shownObjects.some(object => hauls.some(({ place }) => differs(wayOf(object), place)));
+  return isMarked ? ' Bars: per million soups; * differs from A (p < 0.001).' : ' Bars: per million soups.';
+};
 const REFERRED = ` “One in” is from the reference, a census of ${whole(data.reference)} soups.`;
 // Cards of hauls that are compared have a line for it.
 document.documentElement.style.setProperty('--referred', isCompared && data.reference ? 1 : 0);
@@ -65,7 +69,7 @@ const showCount = () => {
   const every = hauls.reduce((sum, haul) => sum + BigInt(byParts ? haul.parts : haul.objects), 0n);
   const leftOut = data.least > 1 ? ` Kinds with fewer than ${whole(data.least)} are left out.` : '';
   const count = `${whole(shownObjects.length)} of ${whole(kinds)} kinds, ${whole(sumOf(shownObjects))} of ${whole(every)} ${byParts ? 'parts' : 'objects'}.`;
-  byId('shown').textContent = unknownWords() + count + leftOut + (isCompared ? COMPARED : '') + (isByReference() ? REFERRED : '');
+  byId('shown').textContent = unknownWords() + count + leftOut + (isCompared ? barsLegend() : '') + (isByReference() ? REFERRED : '');
 };
 
 // ---- The list
