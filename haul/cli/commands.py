@@ -27,13 +27,10 @@ from haul.page.lives import Lives, find_lives
 from haul.patterns.rules import LIFE
 from haul.rarity.reference import is_covered
 from haul.search.batches import Plan
-from haul.search.companion import Companion
-from haul.search.job import Disagrees, USUAL_RARER, begin_haul, find_next_soup, refuse_other_jobs
-from haul.search.keeper import CantKeep, Keeper
-from haul.search.late_soups import open_late
-from haul.search.search import Dropped, Kept, Search
+from haul.search.resume import Disagrees, USUAL_RARER, find_next_soup, open_files
+from haul.search.haul_file import CantUseFile
+from haul.search.search import Dropped, Search
 from haul.search.stopping import Stopping
-from haul.search.untold import open_untold
 from haul.terminal import Terminal, find_output_width
 from haul.views.compare import Comparison, rank_codes
 from haul.views.rarity import describe_rarity
@@ -195,44 +192,29 @@ def choose_soup_list(asked: argparse.Namespace, terminal: Terminal) -> SoupList:
     return Leaving(asked.code) if asked.code is not None else SoupList()
 
 
-def open_files(asked: argparse.Namespace, terminal: Terminal) -> Kept:
-    """Locks and reads the files of a search."""
-    keeper = Keeper(asked.file)
-    haul = keeper.read()
-    if haul is None:
-        haul = begin_haul(asked)
-    refuse_other_jobs(asked, haul)
-    late_file, finds_file = (
-        Companion(keeper.path, keeper.name, suffix, terminal.complain)
-        for suffix in ("late", "finds")
-    )
-    late = open_late(asked, haul, find_next_soup(asked, haul), late_file)
-    return Kept(keeper, haul, late_file, late, finds_file, open_untold(haul, finds_file))
-
-
 def run_search(asked: argparse.Namespace, streams: Streams) -> int:
     try:
-        kept = open_files(asked, streams.terminal)
+        files = open_files(asked, streams.terminal.complain)
         # The names are loaded now, since the file of this program may be replaced while the search
         # is running.
         load_names()
         census = Census(asked.census, streams.terminal, asked.workers)
         plan = Plan(
-            find_next_soup(asked, kept.haul),
+            find_next_soup(asked, files.haul),
             asked.until,
             asked.batch,
             census.workers,
             asked.finds,
             USUAL_RARER if asked.rarer is None else asked.rarer,
-            None if kept.late is None else kept.late.generation,
-            kept.haul.job.rule == LIFE or asked.late is not None,
+            None if files.late is None else files.late.generation,
+            files.haul.job.rule == LIFE or asked.late is not None,
             asked.soup_seconds,
         )
         stopping = Stopping()
-        search = Search(plan, kept, census, stopping, streams.stdout)
+        search = Search(plan, files, census, stopping, streams.stdout)
         children.heed(stopping)
         with suppress(Dropped):
             search.run()
-    except (CantKeep, Disagrees, CantJoin) as why:
+    except (CantUseFile, Disagrees, CantJoin) as why:
         raise Refused(str(why)) from None
     return DONE

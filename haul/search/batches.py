@@ -42,7 +42,7 @@ class Plan:
     # soups are kept.
     late: int | None = None
     # Whether late and unsettled soups are reported.
-    tells_late: bool = False
+    reports_late: bool = False
     # The search ends after this many seconds without a soup, or never if it is 0.
     soup_seconds: int = 60
 

@@ -13,9 +13,9 @@ from haul.formats.ranges import intersect, is_in
 from haul.formats.late_file import MOST_LINES, ONLY_UNSETTLED, BadLate, Late, LateLine, read_late
 from haul.formats.report_lines import BadLine, read_report_line
 from haul.patterns.rules import LIFE
-from haul.search.companion import Companion
+from haul.search.side_file import SideFile
 from haul.search.finds import format_time
-from haul.search.keeper import CantKeep
+from haul.search.haul_file import CantUseFile
 
 # Stands for `--late never`: neither late nor unsettled soups are kept.
 NEVER = -1
@@ -24,11 +24,9 @@ USUAL_LATE = 12_000
 UNSETTLED, SETTLED = "unsettled", "settled"
 
 
-def open_late(
-    asked: argparse.Namespace, haul: Haul, next_soup: int, kept: Companion
-) -> Late | None:
+def open_late(asked: argparse.Namespace, haul: Haul, next_soup: int, kept: SideFile) -> Late | None:
     """Returns the late and unsettled soups with which a search continues. For `--late never`,
-    removes FILE.late and returns `None`. Raises `CantKeep` if `--late` gives a lower generation
+    removes FILE.late and returns `None`. Raises `CantUseFile` if `--late` gives a lower generation
     than FILE.late, and FILE.late covers soups of the haul."""
     if asked.late == NEVER:
         kept.remove()
@@ -44,7 +42,7 @@ def open_late(
         return Late(generation, [], haul.job)
     # If the file covers no soup of the haul, it may begin anew at a lower generation.
     if generation < found.generation and intersect(found.covered, haul.ranges):
-        raise CantKeep(
+        raise CantUseFile(
             f"{kept.name}: has soups from generation {found.generation} on, and not from {generation}"
         )
     late = found.choose(haul.ranges, generation)

@@ -9,7 +9,7 @@ from collections.abc import Iterator
 
 from haul.formats.haul import NUMBER_LIMIT, Haul
 from haul.formats.late_file import BadLate, read_late
-from haul.search.untold import BadFinds, Untold, read_untold
+from haul.search.unreported import BadFinds, Unreported, read_unreported
 from haul.tests.called import census, run
 from haul.tests.searching import Searches
 
@@ -186,13 +186,13 @@ class ChangedFinds(Searches):
         finds = [
             ["now", f"xp2_{soup}", "-", str(soup), "command", "-"] for soup in (3, 7, 8, 20, 39)
         ]
-        self.text = b"".join(Untold(haul.job, haul.ranges, NUMBER_LIMIT, finds).write())
+        self.text = b"".join(Unreported(haul.job, haul.ranges, NUMBER_LIMIT, finds).write())
         self.told = ["\t".join(fields) for fields in finds]
 
     def find_fault(self, text: bytes, haul: Haul) -> str | None:
         """Returns why a text isn't believed as the FILE.finds of a haul."""
         try:
-            return read_untold(text.splitlines(keepends=True)).find_misfit(haul)
+            return read_unreported(text.splitlines(keepends=True)).find_misfit(haul)
         except BadFinds as bad:
             return str(bad)
 

@@ -25,7 +25,7 @@ from haul.census.background import (
     StreamWaiter,
 )
 from haul.census.starters import LAUNCH_CENSUS
-from haul.search.keeper import CantKeep, Keeper
+from haul.search.haul_file import CantUseFile, HaulFile
 from haul.census.client import count_processors
 from haul.search.stopping import Stopping
 from haul.tests.called import CENSUS, TOP, census, run
@@ -573,11 +573,11 @@ class Keeping(Searches):
 
     def test_one_lock_for_two_names(self) -> None:
         (self.folder / "link").symlink_to(self.file)
-        keeper = Keeper(str(self.file))
-        with self.assertRaisesRegex(CantKeep, "^.*/link: another search keeps this file$"):
-            Keeper(str(self.folder / "link"))
-        os.close(keeper.lock)
-        os.close(Keeper(str(self.folder / "link")).lock)
+        haul_file = HaulFile(str(self.file))
+        with self.assertRaisesRegex(CantUseFile, "^.*/link: another search keeps this file$"):
+            HaulFile(str(self.folder / "link"))
+        os.close(haul_file.lock)
+        os.close(HaulFile(str(self.folder / "link")).lock)
 
     def test_a_link_to_a_link(self) -> None:
         """If FILE is a link to a link, the search locks the file to which the links lead. The lock
@@ -585,10 +585,10 @@ class Keeping(Searches):
         (self.folder / "far").mkdir()
         (self.folder / "far" / "link").symlink_to("../near")
         (self.folder / "near").symlink_to("mine.haul")
-        keeper = Keeper(str(self.file))
-        with self.assertRaisesRegex(CantKeep, "^.*/far/link: another search keeps this file$"):
-            Keeper(str(self.folder / "far" / "link"))
-        os.close(keeper.lock)
+        haul_file = HaulFile(str(self.file))
+        with self.assertRaisesRegex(CantUseFile, "^.*/far/link: another search keeps this file$"):
+            HaulFile(str(self.folder / "far" / "link"))
+        os.close(haul_file.lock)
         self.assertEqual(self.search("--until", "3", file="far/link", *QUICK)[0], 0)
         self.assertEqual(self.soups(), 3)
         self.assert_left("far", "mine.haul", "mine.haul.late", "mine.haul.lock", "near")
@@ -598,8 +598,8 @@ class Keeping(Searches):
         """The new text is on disk before it gets the name of the file. Afterwards the folder is
         written to disk, too."""
         self.file.write_bytes(census("take", "--count", "3"))
-        keeper = Keeper(str(self.file))
-        haul = keeper.read()
+        haul_file = HaulFile(str(self.file))
+        haul = haul_file.read()
         assert haul is not None
         steps: list[str] = []
         replace, fsync = os.replace, os.fsync
@@ -616,27 +616,27 @@ class Keeping(Searches):
             replace(old, new)
 
         with patch("os.fsync", noted_fsync), patch("os.replace", noted_replace):
-            keeper.write(haul)
+            haul_file.write(haul)
         self.assertEqual(steps, ["mine.haul.new", "replace", self.folder.name])
         self.assertEqual(self.file.read_bytes(), census("take", "--count", "3"))
-        os.close(keeper.lock)
+        os.close(haul_file.lock)
 
     def test_rights_of_a_new_file(self) -> None:
         """Everyone may read and write a new file, unless the mask says otherwise."""
         mask = os.umask(0)
         try:
-            keeper = Keeper(str(self.file))
-            keeper.write(haul_of_three())
+            haul_file = HaulFile(str(self.file))
+            haul_file.write(haul_of_three())
         finally:
             os.umask(mask)
         for name in ("mine.haul", "mine.haul.lock"):
             self.assertEqual((self.folder / name).stat().st_mode & 0o777, 0o666, name)
-        os.close(keeper.lock)
+        os.close(haul_file.lock)
 
     def test_a_folder_that_cant_be_synced(self) -> None:
         """Some file systems can't sync a folder and answer `EINVAL`, which isn't a fault. Any other
         error is a fault."""
-        keeper = Keeper(str(self.file))
+        haul_file = HaulFile(str(self.file))
         fsync = os.fsync
         for number, is_fault in ((errno.EINVAL, False), (errno.EIO, True)):
 
@@ -648,11 +648,11 @@ class Keeping(Searches):
             with patch("os.fsync", refused):
                 if is_fault:
                     with self.assertRaises(OSError):
-                        keeper.write(haul_of_three())
+                        haul_file.write(haul_of_three())
                 else:
-                    keeper.write(haul_of_three())
+                    haul_file.write(haul_of_three())
             self.assertEqual(self.file.read_bytes(), census("take", "--count", "3"))
-        os.close(keeper.lock)
+        os.close(haul_file.lock)
 
 
 def haul_of_three() -> Haul:

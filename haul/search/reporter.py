@@ -9,7 +9,7 @@ from collections import deque
 from typing import TextIO
 
 from haul.plurals import write_count
-from haul.search.find_calls import FindCalls
+from haul.search.finds_program import FindsProgram
 from haul.terminal import Terminal
 
 # The last field of a line about a find begins with `none` if the reference census doesn't have the
@@ -17,11 +17,11 @@ from haul.terminal import Terminal
 UNKNOWN_MARK, UNKNOWN = "!", "none"
 
 
-class Telling:
+class Reporter:
     """The finds that remain to be reported."""
 
     def __init__(
-        self, output: TextIO, terminal: Terminal, calls: FindCalls, finds: list[list[str]]
+        self, output: TextIO, terminal: Terminal, calls: FindsProgram, finds: list[list[str]]
     ) -> None:
         """`finds` are the finds that the previous search hadn't reported."""
         self.output = output
@@ -38,7 +38,7 @@ class Telling:
     def add(self, fields: list[str]) -> None:
         self.waiting.append(fields)
 
-    def tell_next(self) -> None:
+    def report_next(self) -> None:
         """Reports the next find. There must be one. Raises `OSError` if it can't be printed."""
         fields = self.waiting[0]
         self.terminal.show_progress("")
@@ -60,7 +60,7 @@ class Telling:
     def is_done(self) -> bool:
         return not self.waiting or self.has_failed
 
-    def list_untold(self) -> list[list[str]]:
+    def list_unreported(self) -> list[list[str]]:
         """Returns the finds whose calls haven't ended, followed by the finds that weren't
         printed."""
         return [*self.calls.list_open(), *self.waiting]

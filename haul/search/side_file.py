@@ -21,7 +21,7 @@ from haul.search.whole_files import (
 Read = TypeVar("Read")
 
 
-class Companion:
+class SideFile:
     """A file beside FILE. Its name is the name of FILE, followed by a dot and a suffix."""
 
     def __init__(
@@ -31,14 +31,14 @@ class Companion:
         suffix: str,
         complain: Callable[[str], None],
     ) -> None:
-        """`path` is the path of FILE, and `name` its name in messages. Problems with the companion
+        """`path` is the path of FILE, and `name` its name in messages. Problems with it
         are passed to `complain` as lines."""
         self.suffix = suffix
         self.complain = complain
         self.move_to(path, name)
 
     def move_to(self, path: str, name: str) -> None:
-        """Makes this the companion of another FILE from now on."""
+        """Keeps this beside another FILE from now on."""
         self.file, self.path, self.name = path, f"{path}.{self.suffix}", f"{name}.{self.suffix}"
         # Identifies the file as it was last read or written here. `None` if there was no file.
         self.known: Stamp | None = None

@@ -10,7 +10,7 @@ from dataclasses import dataclass, field
 from haul.formats.haul import NUMBER_LIMIT, Haul, Job, Range
 from haul.formats.ranges import intersect, is_in
 from haul.plurals import pluralize, write_count
-from haul.search.companion import Companion
+from haul.search.side_file import SideFile
 from haul.formats.heads import (
     JOB,
     LINES,
@@ -42,7 +42,7 @@ class BadFinds(Exception):
 
 
 @dataclass
-class Untold:
+class Unreported:
     """The fields of the finds that weren't reported, and which objects weren't examined."""
 
     job: Job
@@ -83,52 +83,52 @@ class Untold:
         return None
 
 
-def read_head(line: bytes) -> tuple[Untold, AnnouncedLines | None] | None:
+def read_head(line: bytes) -> tuple[Unreported, AnnouncedLines | None] | None:
     """Reads the first line. Returns `None` if it is another line. Version 1 announces no lines."""
     if found := FIRST_VERSION.fullmatch(line):
         job = read_job(*found.groups()[2:])
-        return (Untold(job, None, int(found[1]), [], int(found[2])), None) if job else None
+        return (Unreported(job, None, int(found[1]), [], int(found[2])), None) if job else None
     found = HEAD.fullmatch(line)
     ranges = read_ranges(found[3]) if found else None
     job = read_job(*found.groups()[5:]) if found else None
     if found is None or ranges is None or job is None:
         return None
-    untold = Untold(job, ranges, int(found[1]), [], int(found[2]))
-    return untold, AnnouncedLines(found[4], found[5])
+    unreported = Unreported(job, ranges, int(found[1]), [], int(found[2]))
+    return unreported, AnnouncedLines(found[4], found[5])
 
 
-def read_untold(text: Iterable[bytes]) -> Untold:
+def read_unreported(text: Iterable[bytes]) -> Unreported:
     """Reads a text, given by its lines with their line feeds. Raises `BadFinds` if it isn't a
     FILE.finds, or if the lines aren't those that the first line announces."""
     lines = iter(text)
     head = read_head(next(lines, b""))
     if head is None:
         raise BadFinds("line 1: not a header")
-    untold, announced = head
+    unreported, announced = head
     for number, line in enumerate(lines, 2):
         if not FIND.fullmatch(line) or number > MOST_LINES + 1:
             raise BadFinds(f"line {number}: not a find")
         if announced:
             announced.read(line)
-        untold.finds.append(line.decode("ascii").removesuffix("\n").split("\t"))
-    loss = announced.find_loss(len(untold.finds)) if announced else None
+        unreported.finds.append(line.decode("ascii").removesuffix("\n").split("\t"))
+    loss = announced.find_loss(len(unreported.finds)) if announced else None
     if loss is not None:
         raise BadFinds(loss)
-    return untold
+    return unreported
 
 
-def open_untold(haul: Haul, kept: Companion) -> Untold:
+def open_unreported(haul: Haul, kept: SideFile) -> Unreported:
     """Returns what the previous searches haven't reported about the soups of a haul."""
-    untold = kept.read(read_untold, BadFinds)
-    why = untold.find_misfit(haul) if untold is not None else None
+    unreported = kept.read(read_unreported, BadFinds)
+    why = unreported.find_misfit(haul) if unreported is not None else None
     if why is not None:
         kept.reject(why)
-        untold = None
-    if untold is None:
-        return Untold(haul.job)
-    if untold.left_out:
-        count = write_count(untold.left_out, "find")
-        were = pluralize(untold.left_out, "was", "were")
+        unreported = None
+    if unreported is None:
+        return Unreported(haul.job)
+    if unreported.left_out:
+        count = write_count(unreported.left_out, "find")
+        were = pluralize(unreported.left_out, "was", "were")
         kept.complain(f"{kept.name}: {count} {were} left out")
-    finds = [fields for fields in untold.finds if is_in(int(fields[SOUP_FIELD]), haul.ranges)]
-    return Untold(haul.job, haul.ranges, untold.since, finds)
+    finds = [fields for fields in unreported.finds if is_in(int(fields[SOUP_FIELD]), haul.ranges)]
+    return Unreported(haul.job, haul.ranges, unreported.since, finds)

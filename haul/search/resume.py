@@ -1,14 +1,22 @@
-"""Begins the haul of a search, or checks that the arguments agree with the haul in its file."""
+"""Opens the files of a search. If FILE exists, the search goes on after its last soup, and the
+arguments must agree with its haul. Otherwise, the arguments begin a haul."""
 
 from __future__ import annotations
 
 import argparse
 import secrets
 import string
+from collections.abc import Callable
+from dataclasses import dataclass
 
 from haul.formats.haul import Haul, Job
+from haul.formats.late_file import Late
 from haul.formats.profile import STANDARD, Profile
 from haul.patterns.rules import LIFE
+from haul.search.haul_file import HaulFile
+from haul.search.late_soups import open_late
+from haul.search.side_file import SideFile
+from haul.search.unreported import Unreported, open_unreported
 
 # Seeds are drawn from 62^12 texts, so two people won't draw the same one and take the same soups.
 SEED_BEGINS, SEED_LENGTH = "h_", 12
@@ -18,6 +26,36 @@ USUAL_RARER = 1_000_000
 
 class Disagrees(Exception):
     """Raised if an argument contradicts the haul in the file."""
+
+
+@dataclass
+class SearchFiles:
+    """The files of a search, and their contents when it begins."""
+
+    haul_file: HaulFile
+    haul: Haul
+    # FILE.late, and its soups (`None` if the search keeps no late soups).
+    late_file: SideFile
+    late: Late | None
+    # FILE.finds, and what the previous search hadn't reported.
+    finds_file: SideFile
+    unreported: Unreported
+
+
+def open_files(asked: argparse.Namespace, complain: Callable[[str], None]) -> SearchFiles:
+    """Locks and reads the files of a search. Problems with FILE.late and FILE.finds are passed to
+    `complain` as lines. Raises `CantUseFile` if FILE can't be used, and `Disagrees`."""
+    haul_file = HaulFile(asked.file)
+    haul = haul_file.read()
+    if haul is None:
+        haul = begin_haul(asked)
+    refuse_other_jobs(asked, haul)
+    late_file, finds_file = (
+        SideFile(haul_file.path, haul_file.name, suffix, complain) for suffix in ("late", "finds")
+    )
+    late = open_late(asked, haul, find_next_soup(asked, haul), late_file)
+    unreported = open_unreported(haul, finds_file)
+    return SearchFiles(haul_file, haul, late_file, late, finds_file, unreported)
 
 
 def begin_haul(asked: argparse.Namespace) -> Haul:

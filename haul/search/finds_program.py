@@ -13,7 +13,7 @@ from haul.census.launcher import DONE
 MOST_SECONDS = 60.0
 
 
-class FindCalls:
+class FindsProgram:
     """The pending calls, and the running one."""
 
     def __init__(

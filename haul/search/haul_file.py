@@ -17,7 +17,7 @@ from haul.formats.field_reader import BadHaul
 from haul.formats.haul import Haul
 from haul.formats.haul_reader import read_one_haul
 from haul.formats.haul_writer import format_haul
-from haul.search.companion import Companion
+from haul.search.side_file import SideFile
 from haul.search.whole_files import (
     ANY_RIGHTS,
     find_stamp,
@@ -30,7 +30,7 @@ from haul.search.whole_files import (
 SECONDS_FOR_LOCK, SECONDS_BETWEEN_TRIES = 2.0, 0.02
 
 
-class CantKeep(Exception):
+class CantUseFile(Exception):
     """Raised if a search can't use FILE or FILE.late. Gives the reason."""
 
 
@@ -43,12 +43,12 @@ class Beside(NamedTuple):
     """A file beside FILE, the function that returns its lines, and whether the lines have
     changed."""
 
-    file: Companion
+    file: SideFile
     write: Callable[[], Iterable[bytes]]
     is_changed: bool
 
 
-class Keeper:
+class HaulFile:
     """A file with a haul, and a lock that prevents a second search from keeping the same file.
 
     The running search holds the lock on FILE.lock. That file remains after the search. A new text
@@ -56,7 +56,7 @@ class Keeper:
     """
 
     def __init__(self, name: str) -> None:
-        """Locks the file. Raises `CantKeep` if it is locked or isn't a regular file."""
+        """Locks the file. Raises `CantUseFile` if it is locked or isn't a regular file."""
         self.name = name
         # Symbolic links are resolved, so that a file and a link to it have the same lock.
         self.path = os.path.realpath(name) if os.path.islink(name) else name
@@ -69,20 +69,20 @@ class Keeper:
         try:
             lock_within(self.lock, SECONDS_FOR_LOCK)
         except BlockingIOError:
-            raise CantKeep(f"{name}: another search keeps this file") from None
+            raise CantUseFile(f"{name}: another search keeps this file") from None
         except OSError as error:
             raise OSError(error.errno, error.strerror, f"{self.path}.lock") from None
 
     def refuse_other_files(self) -> None:
         with suppress(FileNotFoundError):
             if not stat.S_ISREG(os.stat(self.path).st_mode):
-                raise CantKeep(f"{self.name}: not a regular file")
+                raise CantUseFile(f"{self.name}: not a regular file")
 
     def is_there(self) -> bool:
         return os.path.exists(self.path)
 
     def read(self) -> Haul | None:
-        """Returns the haul in the file, or `None` if there is no file. Raises `CantKeep` if the
+        """Returns the haul in the file, or `None` if there is no file. Raises `CantUseFile` if the
         file isn't a single haul, or if soups are missing from the haul."""
         try:
             with open(self.path, "rb") as file:
@@ -92,9 +92,9 @@ class Keeper:
             self.known = None
             return None
         except BadHaul as bad:
-            raise CantKeep(f"{self.name}: {bad}") from None
+            raise CantUseFile(f"{self.name}: {bad}") from None
         if haul.soups != haul.size():
-            raise CantKeep(f"{self.name}: haul with missing soups")
+            raise CantUseFile(f"{self.name}: haul with missing soups")
         return haul
 
     def write(self, haul: Haul, beside: Sequence[Beside] = ()) -> None:

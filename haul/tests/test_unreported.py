@@ -10,7 +10,7 @@ import time
 from pathlib import Path
 from unittest.mock import patch
 
-from haul.search import untold
+from haul.search import unreported
 from haul.tests.called import CENSUS, HAUL, census
 from haul.tests.searching import CLOCK, CLOCK_SOUP, Searches
 
@@ -19,7 +19,7 @@ WORDS = ["--seed=", "--first=23000", "--rarer=10000"]
 HEADER = "rule=b3s23 profile=64,512,101,30300 seed="
 
 
-class UntoldFinds(Searches):
+class UnreportedFinds(Searches):
     def setUp(self) -> None:
         super().setUp()
         self.finds = self.folder / "mine.haul.finds"
@@ -41,7 +41,7 @@ class UntoldFinds(Searches):
         return ended.returncode, ended.stderr.decode()
 
 
-class NotPrinted(UntoldFinds):
+class NotPrinted(UnreportedFinds):
     def test_a_full_device(self) -> None:
         """If the finds can't be printed, the soups are in the file, and the next search prints the
         finds first."""
@@ -93,7 +93,7 @@ class NotPrinted(UntoldFinds):
         self.assertEqual(sorted(self.told(again)), sorted(self.told("".join(lines))))
 
 
-class AfterAKill(UntoldFinds):
+class AfterAKill(UnreportedFinds):
     """FILE.finds says which objects haven't been examined."""
 
     def header(self, since: int, left_out: int = 0, job: str = HEADER) -> str:
@@ -126,7 +126,7 @@ class AfterAKill(UntoldFinds):
 
     def test_no_more_than_these(self) -> None:
         self.file.unlink()
-        with patch.object(untold, "MOST_LINES", 2):
+        with patch.object(unreported, "MOST_LINES", 2):
             with self.start(*WORDS, "--late=0", "--until=5", is_forked=True) as program:
                 assert program.stdout
                 program.stdout.close()
