@@ -5,13 +5,21 @@ from __future__ import annotations
 import argparse
 from collections.abc import Iterator
 
+from haul.census.bounded import SOUP_SECONDS
 from haul.census.client import Census
 from haul.cli.arguments import Argument, Command, option
 from haul.cli.faults import find_fault_of_why
 from haul.cli.shared_options import CENSUS, FORMS, list_profile_options
 from haul.cli.statuses import DONE
 from haul.cli.streams import Refused, Streams, format_place
-from haul.cli.values import read_count, read_path, read_rule_value, read_seed, read_subject
+from haul.cli.values import (
+    read_count,
+    read_path,
+    read_rule_value,
+    read_seed,
+    read_subject,
+    read_within,
+)
 from haul.fates.explain import Fates, TooLate
 from haul.fates.fate import Kind
 from haul.patterns.coordinates import BadCoordinates, is_coordinates, read_coordinates
@@ -25,6 +33,8 @@ from haul.views.why import FateTable
 
 # The most soups of a file that are explained, unless `--most` is given.
 USUAL_MOST = 20
+# The most seconds that a soup may get, which are a day.
+MOST_SECONDS = 86_400
 
 
 def run_why(asked: argparse.Namespace, streams: Streams) -> int:
@@ -45,7 +55,7 @@ def run_why(asked: argparse.Namespace, streams: Streams) -> int:
 
 def explain_soups(asked: argparse.Namespace, census: Census) -> FateTable:
     job = Job(asked.seed or "", asked.rule or LIFE, read_profile(asked))
-    fates = Fates(census, job)
+    fates = Fates(census, job, asked.soup_seconds)
     return FateTable(job, list(zip(asked.soups, fates.find_all(asked.soups), strict=True)))
 
 
@@ -63,7 +73,8 @@ def explain_file(asked: argparse.Namespace, streams: Streams, census: Census) ->
     if reports.job is None:
         return FateTable(None, [])
     soups = sorted(unsettled)[: USUAL_MOST if asked.most is None else asked.most]
-    found = list(zip(soups, Fates(census, reports.job).find_all(soups), strict=True))
+    fates = Fates(census, reports.job, asked.soup_seconds)
+    found = list(zip(soups, fates.find_all(soups), strict=True))
     for soup, fate in found:
         if fate.kind is Kind.SETTLED:
             streams.terminal.complain(
@@ -76,7 +87,8 @@ def explain_pattern(asked: argparse.Namespace, streams: Streams, census: Census)
     rows, rule = read_any_pattern(asked.pattern, streams)
     job = Job("", asked.rule or rule or LIFE, read_profile(asked))
     pattern = "".join(f"{row}\n" for row in rows).encode("ascii")
-    return FateTable(job, [(asked.pattern, Fates(census, job).find(pattern))], is_of_pattern=True)
+    fate = Fates(census, job, asked.soup_seconds).find(pattern)
+    return FateTable(job, [(asked.pattern, fate)], is_of_pattern=True)
 
 
 def read_any_pattern(name: str, streams: Streams) -> tuple[Rows, str | None]:
@@ -116,9 +128,9 @@ WHY = Command(
     "why",
     "say why soups are unsettled, or why a pattern is",
     "Each soup has a line: it `settled`, an object\n`falls apart`, or has a `period` that is too long, "
-    "it `settles` soon, shows `linear growth`,\n`collides soon` or is `still active`; and then what "
-    "explains that. Soups are given by their\nnumbers, or by a FILE of report lines, such as the "
-    "FILE.late of `haul search`.\n\n"
+    "it `settles` soon, shows `linear growth`,\n`collides soon` or is `still active`, or the fate is "
+    "`not decided`; and then what explains\nthat. Soups are given by their numbers, or by a FILE of "
+    "report lines, such as the FILE.late\nof `haul search`.\n\n"
     "examples:\n  haul why 33569\n  haul why --most 5 mine.haul.late\n  haul why --pattern gun.rle",
     (
         option("--seed", "SEED", "the seed of the soups (default: the empty seed)", read_seed),
@@ -137,6 +149,14 @@ WHY = Command(
             "N",
             f"explain the first N unsettled soups of FILE (default: {USUAL_MOST})",
             read_count,
+        ),
+        option(
+            "--soup-seconds",
+            "N",
+            f"give up on a soup or a pattern after N seconds, 0 to {MOST_SECONDS} (default: "
+            f"{SOUP_SECONDS}; 0: never)",
+            read_within(0, MOST_SECONDS),
+            SOUP_SECONDS,
         ),
         FORMS,
         CENSUS,

@@ -16,9 +16,17 @@ from unittest.mock import patch
 from haul.census.children import children
 from haul.census.forks import work_apart
 from haul.fates import rest
-from haul.fates.fate import MOST_LIMIT, Fate, Kind, Size, tell_activity
-from haul.fates.growth import GENERATIONS, MOST_CYCLE, Growth, find_growth
+from haul.fates.fate import MOST_LIMIT, Fate, Kind, tell_activity
+from haul.fates.growth import (
+    GENERATIONS,
+    MOST_CYCLE,
+    Growth,
+    find_cycle_of_sizes,
+    is_growing,
+    name_engine,
+)
 from haul.fates.rest import Rest, look_for_rest
+from haul.fates.sizes import Size
 from haul.formats.profile import STANDARD
 from haul.patterns.rle import read_rle
 from haul.life.cells import Cells
@@ -228,19 +236,19 @@ class Growths(unittest.TestCase):
 
     def test_the_least_cycle(self) -> None:
         for step, cycle in ((16, 144), (59, 384), (5, 30), (1, 1), (7, 2880)):
-            self.assertEqual(find_growth(self.sizes(step, cycle)), Growth(step, cycle))
+            self.assertEqual(find_cycle_of_sizes(self.sizes(step, cycle)), Growth(step, cycle))
 
     def test_what_isnt_linear(self) -> None:
-        self.assertIsNone(find_growth(self.sizes(0, 30)))
-        self.assertIsNone(find_growth(self.sizes(-3, 30)))
-        self.assertIsNone(find_growth(self.sizes(1, 2881)))
+        self.assertEqual(find_cycle_of_sizes(self.sizes(0, 30)), Growth(0, 30))
+        self.assertIsNone(find_cycle_of_sizes(self.sizes(-3, 30)))
+        self.assertIsNone(find_cycle_of_sizes(self.sizes(1, 2881)))
         for changed in (0, GENERATIONS // 2, GENERATIONS):
             sizes = self.sizes(5, 30)
             sizes[changed] += 1
-            self.assertIsNone(find_growth(sizes))
+            self.assertIsNone(find_cycle_of_sizes(sizes))
         sizes = self.sizes(5, 30)
         sizes[-1] += 1
-        self.assertEqual(find_growth(sizes), Growth(5, 30))
+        self.assertEqual(find_cycle_of_sizes(sizes), Growth(5, 30))
 
     def test_engines(self) -> None:
         block_laying, glider_producing = (
@@ -253,7 +261,7 @@ class Growths(unittest.TestCase):
             (59, 384, glider_producing),
             (5, 30, None),
         ):
-            self.assertEqual(Growth(cells, generations).engine(), name)
+            self.assertEqual(name_engine(Growth(cells, generations), set()), name)
 
 
 class Hints(unittest.TestCase):
@@ -263,8 +271,14 @@ class Hints(unittest.TestCase):
         size = Size(9, 5, 4)
         for limit, more in ((0, 30_300), (20_000, 40_000), (MOST_LIMIT - 1, MOST_LIMIT)):
             told = f"9 cells, 5 by 4; try --limit {more}"
-            self.assertEqual(tell_activity(size, limit).why, told)
-        self.assertEqual(tell_activity(size, MOST_LIMIT).why, "9 cells, 5 by 4")
+            self.assertEqual(tell_activity(size, limit, False).why, told)
+        self.assertEqual(tell_activity(size, MOST_LIMIT, False).why, "9 cells, 5 by 4")
+
+    def test_none_for_a_pattern_that_grows(self) -> None:
+        self.assertEqual(tell_activity(Size(9, 5, 4), 0, True).why, "9 cells, 5 by 4")
+        self.assertTrue(is_growing([5, 7, 6, 8, 9, 10]))
+        for populations in ([5, 9, 6, 8, 9, 10], [5, 5, 5, 5], [9, 8, 7, 6], [1, 2, 8, 2]):
+            self.assertFalse(is_growing(populations))
 
 
 class Told(unittest.TestCase):
