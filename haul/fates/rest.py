@@ -114,8 +114,7 @@ def describe_all(
 
 def describe(one: Recurring, rest: Rest) -> None:
     """Adds to `rest` an object that a census doesn't recognise."""
-    is_apart = all(len(split_clusters(phase)) > 1 for phase in one.phases)
-    if is_apart and one.period() <= PERIOD:
+    if one.period() <= PERIOD and all(len(split_clusters(phase)) > 1 for phase in one.phases):
         recurrence = Recurrence(
             one.period(), unpack(one.move), [unpack_all(phase) for phase in one.phases]
         )
