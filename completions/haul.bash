@@ -11,7 +11,7 @@ _haul() {
     # After an option that takes a value, only its values are proposed.
     case $before in
         =) return ;;
-        --until | --part | --workers | --late | --rarer | --seed | --first | --rule | --period | --horizon | --stride | --limit | --random | --choice | --least | --top | --kind | --play | --lives | --separate | --longest | --code | --pattern | --most) return ;;
+        --until | --part | --workers | --late | --rarer | --seed | --first | --rule | --period | --horizon | --stride | --limit | --random | --choice | --least | --top | --kind | --play | --lives | --separate | --longest | --code | --pattern | --most | --soup-seconds) return ;;
         --per)
             mapfile -t COMPREPLY < <(compgen -W 'million soup' -- "$word")
             return
@@ -32,7 +32,7 @@ _haul() {
         page) options='--least --play --lives --census --help' ;;
         soup) options='--rle --separate --help' ;;
         soups) options='--longest --unsettled --code --why --exact --csv --json --census --help' ;;
-        why) options='--seed --rule --period --horizon --stride --limit --pattern --most --csv --json --census --help' ;;
+        why) options='--seed --rule --period --horizon --stride --limit --pattern --most --soup-seconds --csv --json --census --help' ;;
         cells) options='--help' ;;
         rle) options='--rule --help' ;;
     esac

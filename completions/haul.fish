@@ -70,4 +70,5 @@ complete -c haul -n '__fish_seen_subcommand_from why' -l stride -x -d 'The profi
 complete -c haul -n '__fish_seen_subcommand_from why' -l limit -x -d 'The profile’s limit'
 complete -c haul -n '__fish_seen_subcommand_from why' -l pattern -x -d 'Explain a pattern, in plaintext, RLE or coordinates'
 complete -c haul -n '__fish_seen_subcommand_from why' -l most -x -d 'Explain the first N unsettled soups of FILE'
+complete -c haul -n '__fish_seen_subcommand_from why' -l soup-seconds -x -d 'Give up on a soup or a pattern after N seconds'
 complete -c haul -n '__fish_seen_subcommand_from rle' -l rule -x -d 'The rule of the header'

@@ -7,10 +7,8 @@ from dataclasses import dataclass
 from enum import Enum
 
 from haul.fates.growth import GENERATIONS, MOST_CYCLE, Growth
-from haul.fates.rest import Rest
-from haul.fates.shuttles import describe_shuttle
+from haul.fates.rest import InPieces, Rest
 from haul.fates.sizes import MOST_GENERATIONS, Size
-from haul.life.generations import Rule
 from haul.names.objects import find_name
 from haul.plurals import write_count
 
@@ -50,11 +48,13 @@ def tell_settled(checkpoint: int) -> Fate:
     return Fate(Kind.SETTLED, str(checkpoint))
 
 
-def tell_rest(rest: Rest, limit: int, rule: Rule) -> Fate:
+def tell_rest(rest: Rest, limit: int) -> Fate:
     """Returns the fate of a pattern whose groups recur and don't meet."""
     if rest.apart:
-        codes = sorted(Counter(rest.apart).items())
-        objects = [name_object(code, count, rule) for code, count in codes]
+        ordered = sorted(
+            Counter(rest.apart).items(), key=lambda one: (one[0].code, one[0].shuttle or "")
+        )
+        objects = [name_object(one, count) for one, count in ordered]
         return Fate(Kind.FALLS_APART, ", ".join([*objects, *map(name_period, list_periods(rest))]))
     if rest.periods:
         return Fate(Kind.PERIOD, ", ".join(map(str, list_periods(rest))))
@@ -69,11 +69,11 @@ def name_period(period: int) -> str:
     return f"{Kind.PERIOD.value} {period}"
 
 
-def name_object(code: str, count: int, rule: Rule) -> str:
+def name_object(one: InPieces, count: int) -> str:
     """Returns the code and the name of an object, with the count if there are several."""
     several = f"{count} " if count > 1 else ""
-    name = describe_shuttle(rule, code) or find_name(code)
-    return f"{several}{code}" + (f" ({name})" if name else "")
+    name = one.shuttle or find_name(one.code)
+    return f"{several}{one.code}" + (f" ({name})" if name else "")
 
 
 def tell_growth(growth: Growth, engine: str | None) -> Fate:

@@ -50,7 +50,7 @@ class Inquiry:
         cells = self.list_cells(limit)
         rest = self.work(partial(look_for_rest, rule, cells, self.job.profile, periods))
         if rest is not None and rest.meeting is None:
-            return tell_rest(rest, limit, rule)
+            return tell_rest(rest, limit)
         sizes = self.sizes().between(limit, limit + GENERATIONS_OF_SIZES)
         populations = [size.cells for size in sizes]
         growth = find_cycle_of_sizes(populations)
@@ -59,7 +59,7 @@ class Inquiry:
         if rest is None and growth is not None:
             rest = self.work(partial(look_longer_for_rest, rule, cells, self.job.profile))
             if rest is not None and rest.meeting is None:
-                return tell_rest(rest, limit, rule)
+                return tell_rest(rest, limit)
         if rest is not None and rest.meeting is not None:
             return tell_collision(limit + rest.meeting)
         return tell_activity(first, limit, is_growing(populations))

@@ -5,9 +5,11 @@ from __future__ import annotations
 
 from collections.abc import Iterable
 from dataclasses import dataclass, field
+from typing import NamedTuple
 
 from haul.fates.meeting import find_meeting
 from haul.fates.recurring import Recognition, Recurring, find_recurring
+from haul.fates.shuttles import describe_shuttle
 from haul.formats.profile import Profile
 from haul.life.apgcodes import find_code
 from haul.life.field import MOST_CELLS, Field, TooManyCells, find_move, unpack, unpack_all
@@ -22,12 +24,19 @@ PERIOD, LONG_PERIOD = 64, 1152
 HORIZON = 512
 
 
+class InPieces(NamedTuple):
+    """An object that falls apart: its code, and the name of the shuttle that it is, if any."""
+
+    code: str
+    shuttle: str | None = None
+
+
 @dataclass
 class Rest:
     """What was found about a pattern if all its groups recur."""
 
-    # The codes of the objects that fall apart, one for each such object.
-    apart: list[str] = field(default_factory=list)
+    # The objects that fall apart.
+    apart: list[InPieces] = field(default_factory=list)
     # The periods of other objects that a census doesn't recognise.
     periods: list[int] = field(default_factory=list)
     # The first generation in which two groups meet, counted from the given pattern. It is `None` if
@@ -108,16 +117,17 @@ def describe_all(
     rest = Rest(meeting=meeting)
     for one in recurring:
         if not Recognition(rule, one, profile.period).is_recognised():
-            describe(one, rest)
+            describe(rule, one, rest)
     return rest
 
 
-def describe(one: Recurring, rest: Rest) -> None:
+def describe(rule: Rule, one: Recurring, rest: Rest) -> None:
     """Adds to `rest` an object that a census doesn't recognise."""
     if one.period() <= PERIOD and all(len(split_clusters(phase)) > 1 for phase in one.phases):
         recurrence = Recurrence(
             one.period(), unpack(one.move), [unpack_all(phase) for phase in one.phases]
         )
-        rest.apart.append(find_code(recurrence))
+        shuttle = None if one.move else describe_shuttle(rule, one.phases)
+        rest.apart.append(InPieces(find_code(recurrence), shuttle))
     else:
         rest.periods.append(one.period())

@@ -8,13 +8,12 @@ from collections.abc import Iterable, Iterator
 from dataclasses import dataclass
 from functools import cached_property
 
-from haul.life.apgcodes import find_code, list_orientations, read_wechsler
+from haul.life.apgcodes import find_code, list_orientations
 from haul.life.cells import read_rle_cells
 from haul.life.field import pack, unpack_all
 from haul.life.generations import Rule, find_recurrence
-from haul.life.groups import run_alone, split_clusters
+from haul.life.groups import split_clusters
 from haul.names.objects import find_name
-from haul.patterns.codes import read_drawing, read_kind
 from haul.plurals import pluralize
 
 # A cluster of live cells.
@@ -58,27 +57,23 @@ SHUTTLES = (
 )
 
 
-def describe_shuttle(rule: Rule, code: str) -> str | None:
-    """Returns the name of the shuttle in the object that has this code, and what stands beside it,
-    such as `queen bee shuttle, with blocks`. Returns `None` if there is no known shuttle."""
-    drawing, kind = read_drawing(code), read_kind(code)
-    cells = read_wechsler(drawing) if drawing else None
-    if cells is None or kind is None or kind.letter != "p":
-        return None
+def describe_shuttle(rule: Rule, phases: list[set[int]]) -> str | None:
+    """Returns the name of the shuttle that an object with these phases is, and what stands beside
+    it, such as `queen bee shuttle, with blocks`. Returns `None` if there is no known shuttle."""
     for shuttle in SHUTTLES:
-        if kind.number % shuttle.period == 0:
-            run = run_alone(rule, set(map(pack, cells)), kind.number - 1)
-            found = list(find_moving(shuttle, [set(list_clusters(phase)) for phase in run]))
+        if len(phases) % shuttle.period == 0:
+            found = list(find_moving(shuttle, [set(list_clusters(phase)) for phase in phases]))
             if found:
                 several = f"{len(found)} {shuttle.name}s" if len(found) > 1 else shuttle.name
-                beside = name_objects(rule, found[0])
+                beside = name_still_lifes(rule, found[0])
                 return f"{several}, with {beside}" if beside else several
     return None
 
 
 def find_moving(shuttle: Shuttle, phases: list[set[Cluster]]) -> Iterator[set[Cluster]]:
-    """Finds each thing that moves in an object as in a shuttle. Yields the other clusters of the
-    object in the phase in which it is found. `phases` has the clusters of each phase."""
+    """Finds each thing that moves in an object as in a shuttle. Yields the clusters of the object
+    that stand beside it, both on its way there and on its way back. `phases` has the clusters of
+    each phase."""
     found: set[tuple[int, Cluster]] = set()
     half = shuttle.period // 2
     for place, phase in enumerate(phases):
@@ -89,7 +84,7 @@ def find_moving(shuttle: Shuttle, phases: list[set[Cluster]]) -> Iterator[set[Cl
                 if moving <= phase and move_all(back, move) <= later:
                     whole = frozenset().union(*moving)
                     if (place % shuttle.period, whole) not in found:
-                        yield phase - moving
+                        yield phase & later
                     found.add((place % shuttle.period, whole))
                     on_way_back = frozenset().union(*move_all(back, move))
                     found.add(((place + half) % shuttle.period, on_way_back))
@@ -107,7 +102,7 @@ def move_all(clusters: list[Cluster], move: int) -> set[Cluster]:
     return {frozenset(cell + move for cell in cluster) for cluster in clusters}
 
 
-def name_objects(rule: Rule, clusters: set[Cluster]) -> str:
+def name_still_lifes(rule: Rule, clusters: set[Cluster]) -> str:
     """Returns the names of the still lifes among some clusters, such as `a block and an eater 1`."""
     codes: Counter[str] = Counter()
     for cluster in clusters:

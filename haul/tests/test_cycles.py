@@ -95,7 +95,7 @@ class Told(unittest.TestCase):
     def why(self, cells: set[int], *words: str) -> str:
         text = "".join(f"{x} {y}\n" for x, y in unpack_all(cells))
         status, output, errors = run(
-            "why", "--census", CENSUS, "--pattern=-", *words, text=text.encode()
+            "why", "--soup-seconds=0", "--census", CENSUS, "--pattern=-", *words, text=text.encode()
         )
         self.assertEqual((status, errors), (0, ""))
         return output.removeprefix("- ")
