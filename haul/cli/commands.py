@@ -4,6 +4,7 @@ from __future__ import annotations
 
 import argparse
 from contextlib import suppress
+from itertools import chain
 
 from haul.census.children import children
 from haul.census.client import Census
@@ -14,7 +15,8 @@ from haul.formats.field_reader import BadHaul
 from haul.formats.haul import Haul
 from haul.formats.haul_reader import read_hauls
 from haul.formats.haul_writer import format_haul
-from haul.formats.report_files import BadLines, Reports
+from haul.formats.recognition import describe_other_form
+from haul.formats.report_files import Reports
 from haul.hauls.by_parts import Objects
 from haul.hauls.join import CantJoin, Joining
 from haul.life.generations import read_rule
@@ -145,9 +147,11 @@ def read_lives(name: str, streams: Streams, census: Census, haul: Haul) -> Lives
     the haul are left out."""
     try:
         with streams.open_input(name) as stream:
-            late, job = read_late(stream)
+            first = stream.readline()
+            late, job = read_late(chain([first] if first else [], stream))
     except BadLate as bad:
-        raise Refused(f"{format_place(name)}{bad}") from None
+        other = describe_other_form(first, "late")
+        raise Refused(f"{format_place(name)}{bad}{other}") from None
     if job not in (None, haul.job):
         raise Refused(f"{format_place(name)}other job")
     late.lines = [line for line in late.lines if is_in(line.soup, haul.ranges)]
@@ -167,13 +171,9 @@ def run_soups(asked: argparse.Namespace, streams: Streams) -> int:
         choose_soup_list(asked, streams.terminal),
     )
     for name in asked.files or [None]:
-        with streams.open_input(name) as stream:
-            try:
-                for report in reports.read(stream, format_place(name)):
-                    settling.add(report)
-                    soups.add(report)
-            except BadLines as bad:
-                raise Refused(str(bad)) from None
+        for report in streams.read_reports(reports, name):
+            settling.add(report)
+            soups.add(report)
     reports.tell_skipped()
     streams.terminal.show_progress("")
     try:

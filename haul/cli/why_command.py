@@ -21,11 +21,12 @@ from haul.cli.values import (
     read_within,
 )
 from haul.fates.explain import Fates, TooLate
-from haul.fates.fate import Kind
+from haul.fates.fate import Kind, describe_wrong_line
 from haul.patterns.coordinates import BadCoordinates, is_coordinates, read_coordinates
 from haul.formats.haul import Job
 from haul.patterns.plaintext import SIDE, BadPlaintext, Rows, is_plaintext, read_plaintext
 from haul.formats.profile import STANDARD, Profile
+from haul.formats.recognition import describe_other_form
 from haul.formats.report_files import Reports
 from haul.patterns.rle import BadRle, read_rle
 from haul.patterns.rules import LIFE, parse_rule
@@ -63,12 +64,9 @@ def explain_file(asked: argparse.Namespace, streams: Streams, census: Census) ->
     """Explains the unsettled soups with the lowest numbers in a file of report lines."""
     (name,) = asked.soups
     reports = Reports(streams.terminal)
-    with streams.open_input(name) as stream:
-        unsettled = [
-            report.soup
-            for report in reports.read(stream, format_place(name))
-            if report.settled is None
-        ]
+    unsettled = [
+        report.soup for report in streams.read_reports(reports, name) if report.settled is None
+    ]
     reports.tell_skipped()
     if reports.job is None:
         return FateTable(None, [])
@@ -77,9 +75,7 @@ def explain_file(asked: argparse.Namespace, streams: Streams, census: Census) ->
     found = list(zip(soups, fates.find_all(soups), strict=True))
     for soup, fate in found:
         if fate.kind is Kind.SETTLED:
-            streams.terminal.complain(
-                f"{format_place(name)}soup {soup} isn't unsettled: its line is wrong"
-            )
+            streams.terminal.complain(f"{format_place(name)}{describe_wrong_line(soup)}")
     return FateTable(reports.job, found)
 
 
@@ -94,6 +90,7 @@ def explain_pattern(asked: argparse.Namespace, streams: Streams, census: Census)
 def read_any_pattern(name: str, streams: Streams) -> tuple[Rows, str | None]:
     """Reads a pattern in plaintext, RLE or coordinates. Returns its rows and its rule. The rule is
     `None` if the text has no rule."""
+    text = b""
     try:
         with streams.open_pattern(name) as (text, lines):
             if is_coordinates(text):
@@ -103,7 +100,8 @@ def read_any_pattern(name: str, streams: Streams) -> tuple[Rows, str | None]:
             rows, rule = read_rle(text)
             return rows, None if rule is None else parse_rule(rule)
     except (BadPlaintext, BadRle, BadCoordinates) as bad:
-        raise Refused(f"{format_place(name)}{bad}") from None
+        other = describe_other_form(text, "rle", "plaintext", "coordinates")
+        raise Refused(f"{format_place(name)}{bad}{other}") from None
 
 
 def draw_columns(lines: Iterator[bytes]) -> Rows:

@@ -99,3 +99,9 @@ def tell_activity(size: Size, limit: int, is_growing: bool) -> Fate:
 
 def tell_undecided(why: str) -> Fate:
     return Fate(Kind.UNDECIDED, why)
+
+
+def describe_wrong_line(soup: int) -> str:
+    """Returns the message about the report line of a soup that settles, if the line says that it is
+    unsettled."""
+    return f"soup {soup} isn't unsettled: its line is wrong"

@@ -426,6 +426,11 @@ class Files(unittest.TestCase):
             (0, f"haul: {name}: soup {soup} isn't unsettled: its line is wrong\n"),
         )
         self.assertRegex(output, rf"^{soup} settled \d+\n$")
+        status, output, errors = run("soups", "--unsettled", "--why", "--census", CENSUS, name)
+        self.assertEqual(
+            (status, errors), (0, f"haul: soup {soup} isn't unsettled: its line is wrong\n")
+        )
+        self.assertTrue(output.endswith("  settled\n"))
 
     def test_bad_lines(self) -> None:
         name = self.file("nothing", *self.lines(1))
@@ -433,6 +438,17 @@ class Files(unittest.TestCase):
         self.assertEqual((status, errors), (0, f"haul: {name}: line 1: bad line at 0\n"))
         self.assertEqual(output, why("1", "--limit=101")[1])
         self.assertEqual(why(self.file()), (0, "", ""))
+        # Without any report line, the file is refused in one line.
+        status, output, errors = why(self.file("nothing", "more"))
+        self.assertEqual((status, output, errors.count("\n")), (3, "", 1))
+        self.assertTrue(
+            errors.endswith("no report lines, which `census work` and `haul search` write\n")
+        )
+        # A damaged report line is still one.
+        lines = [line.replace("unsettled", "unsettle") for line in self.lines(1)]
+        status, output, errors = why(self.file(*lines))
+        self.assertEqual((status, output), (0, ""))
+        self.assertRegex(errors, r": line 1: bad line at \d+\n$")
 
     def test_a_column_of_soups(self) -> None:
         text = "".join(f"{line}\n" for line in self.lines(1, 2)).encode()
