@@ -32,7 +32,7 @@ _haul() {
         page) options='--least --play --lives --workers --census --help' ;;
         soup) options='--rle --separate --help' ;;
         soups) options='--longest --unsettled --code --why --exact --csv --json --workers --census --help' ;;
-        why) options='--seed --rule --period --horizon --stride --limit --pattern --most --csv --json --census --help' ;;
+        why) options='--seed --rule --period --horizon --stride --limit --pattern --most --soup-seconds --csv --json --workers --census --help' ;;
         cells) options='--help' ;;
         rle) options='--rule --help' ;;
     esac

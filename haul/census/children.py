@@ -73,14 +73,16 @@ class Children:
         stderr: int | None,
         stdin: int = subprocess.DEVNULL,
         how: str = LAUNCH_CENSUS,
+        most_memory: int | None = None,
     ) -> subprocess.Popen[bytes]:
         """Starts a program with `launcher.py`, in the mode `how`. The launcher runs it in a session
         of its own, and ends it and everything that it has started when this process ends, even by
-        SIGKILL. Raises `OSError` if the launcher can't be started."""
+        SIGKILL. If `most_memory` is given, the program gets at most this many bytes of memory.
+        Raises `OSError` if the launcher can't be started."""
         with block_interrupts():
             return self.add(
                 lambda: subprocess.Popen(
-                    [*list_starter_words(how), *words],
+                    [*list_starter_words(how, most_memory), *words],
                     stdin=stdin,
                     stdout=stdout,
                     stderr=stderr,
@@ -196,9 +198,14 @@ def open_text(text: bytes) -> Iterator[int]:
 
 @contextmanager
 def start_child(
-    words: list[str], stdout: int, stderr: int | None, stdin: int = subprocess.DEVNULL
+    words: list[str],
+    stdout: int,
+    stderr: int | None,
+    stdin: int = subprocess.DEVNULL,
+    most_memory: int | None = None,
 ) -> Iterator[subprocess.Popen[bytes]]:
     """Starts a program with `Children.start`. The program has ended when the context is left. If
     `stderr` is `None`, the program writes to this process's standard error."""
-    with children.track(children.start(words, stdout, stderr, stdin)) as program:
+    started = children.start(words, stdout, stderr, stdin, most_memory=most_memory)
+    with children.track(started) as program:
         yield program

@@ -1,9 +1,10 @@
 """Starts a program that ends when `haul` ends, even if `haul` is killed. This is a tiny program of
 its own, whose text `haul` passes to Python.
 
-usage: python3 -I -S -c TEXT HOW PARENT PROGRAM [ARGUMENT ..]
+usage: python3 -I -S -c TEXT HOW PARENT MEMORY PROGRAM [ARGUMENT ..]
 
-The launcher runs in its own session. PARENT is the process that started it. HOW is one of:
+The launcher runs in its own session. PARENT is the process that started it. PROGRAM gets at most
+MEMORY bytes of memory, or any number if MEMORY is 0. HOW is one of:
 
     census    runs PROGRAM, and ends in the same way
     find      runs PROGRAM with standard input and output closed, and prints `done` or what went
@@ -70,8 +71,8 @@ def call_prctl(option: int, value: int) -> None:
     ctypes.CDLL(None).prctl(option, value)
 
 
-def run_census(parent: int, words: list[str]) -> None:
-    ended, why = run_program(parent, words, closes_streams=False)
+def run_census(parent: int, memory: int, words: list[str]) -> None:
+    ended, why = run_program(parent, memory, words, closes_streams=False)
     if why:
         name = os.fsencode(words[0])
         is_missing = why in NOT_THERE
@@ -90,13 +91,15 @@ def run_census(parent: int, words: list[str]) -> None:
     os._exit(ended)
 
 
-def run_find(parent: int, words: list[str]) -> None:
-    ended, why = run_program(parent, words, closes_streams=True)
+def run_find(parent: int, memory: int, words: list[str]) -> None:
+    ended, why = run_program(parent, memory, words, closes_streams=True)
     print(why or how_ended(ended), flush=True)
     end_session()
 
 
-def run_program(parent: int, words: list[str], closes_streams: bool) -> tuple[int, str]:
+def run_program(
+    parent: int, memory: int, words: list[str], closes_streams: bool
+) -> tuple[int, str]:
     """Runs a program to its end, then ends all processes that it has left, even those in sessions
     of their own. Returns the program's exit status (below 0 for a signal), and the reason if it
     can't be started. If the parent ends, or if this process receives SIGTERM, kills the program,
@@ -120,6 +123,10 @@ def run_program(parent: int, words: list[str], closes_streams: bool) -> tuple[in
     if program == 0:
         for number in (_signal.SIGTERM, _signal.SIGCONT):
             _signal.signal(number, _signal.SIG_DFL)
+        if memory:
+            import resource
+
+            resource.setrlimit(resource.RLIMIT_AS, (memory, memory))
         become(itself, writing, words, closes_streams)
     os.close(writing)
     with open(reason, encoding="utf-8") as pipe:
@@ -205,4 +212,5 @@ def how_ended(status: int) -> str:
 
 if __name__ == "__main__":
     drop_interrupts()
-    (run_find if sys.argv[1] == "find" else run_census)(int(sys.argv[2]), sys.argv[3:])
+    run = run_find if sys.argv[1] == "find" else run_census
+    run(int(sys.argv[2]), int(sys.argv[3]), sys.argv[4:])

@@ -16,7 +16,7 @@ from haul.formats.field_reader import BadHaul
 from haul.formats.haul import Haul
 from haul.formats.haul_reader import read_hauls
 from haul.formats.haul_writer import format_haul
-from haul.formats.report_files import BadLines, Reports
+from haul.formats.report_files import Reports
 from haul.hauls.by_parts import Objects
 from haul.hauls.join import CantJoin, Joining
 from haul.life.generations import read_rule
@@ -163,13 +163,9 @@ def run_soups(asked: argparse.Namespace, streams: Streams) -> int:
     )
     for name in asked.files or [None]:
         warn_of_lost_lines(name, streams)
-        with streams.open_input(name) as stream:
-            try:
-                for report in reports.read(stream, format_place(name)):
-                    settling.add(report)
-                    soups.add(report)
-            except BadLines as bad:
-                raise Refused(str(bad)) from None
+        for report in streams.read_reports(reports, name):
+            settling.add(report)
+            soups.add(report)
     reports.tell_skipped()
     streams.terminal.show_progress("")
     try:

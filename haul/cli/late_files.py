@@ -4,11 +4,13 @@ from __future__ import annotations
 
 import os
 from contextlib import suppress
+from itertools import chain
 
 from haul.cli.streams import Refused, Streams, format_place
 from haul.formats.field_reader import BadHaul
 from haul.formats.haul import Haul
 from haul.formats.haul_reader import read_one_haul
+from haul.formats.recognition import describe_other_form
 from haul.formats.late_file import BadLate, Late, is_late_file, read_late
 
 SUFFIX = ".late"
@@ -17,11 +19,13 @@ SUFFIX = ".late"
 def read_late_soups(name: str, streams: Streams, haul: Haul) -> Late:
     """Reads the FILE.late of a haul, without the soups that aren't in the haul. Raises `Refused` if
     lines are lost, or if it isn't of this haul. Complains if it doesn't cover the whole haul."""
+    first = b""
     try:
         with streams.open_input(name) as stream:
-            late = read_late(stream)
+            first = stream.readline()
+            late = read_late(chain([first] if first else [], stream))
     except BadLate as bad:
-        raise Refused(f"{format_place(name)}{bad}") from None
+        raise Refused(f"{format_place(name)}{bad}{describe_other_form(first, 'late')}") from None
     if late.job not in (None, haul.job):
         raise Refused(f"{format_place(name)}other job")
     late = late.choose(haul.ranges, late.generation)

@@ -8,6 +8,7 @@ from pathlib import Path
 
 from haul.cli.statuses import DONE
 from haul.cli.streams import Refused, Streams, format_place
+from haul.formats.recognition import describe_other_form
 from haul.life.catagolue_soups import BadSample, Sample, read_sample
 from haul.patterns.coordinates import (
     BadCoordinates,
@@ -74,7 +75,8 @@ def run_cells(asked: argparse.Namespace, streams: Streams) -> int:
         else:
             rows, rule = read_rle(text)
     except (BadPlaintext, BadRle) as bad:
-        raise Refused(f"{format_place(asked.file)}{bad}") from None
+        other = describe_other_form(text, "rle", "plaintext")
+        raise Refused(f"{format_place(asked.file)}{bad}{other}") from None
     if rule is not None and parse_rule(rule) != LIFE:
         streams.terminal.complain(f"rule {rule} is --rule {parse_rule(rule)}")
     streams.write_lines(rows)
@@ -82,6 +84,7 @@ def run_cells(asked: argparse.Namespace, streams: Streams) -> int:
 
 
 def run_rle(asked: argparse.Namespace, streams: Streams) -> int:
+    text = b""
     try:
         with streams.open_pattern(asked.file) as (text, lines):
             if is_coordinates(text):
@@ -89,6 +92,7 @@ def run_rle(asked: argparse.Namespace, streams: Streams) -> int:
             else:
                 rle = iter(format_rle(read_plaintext(text), asked.rule))
     except (BadPlaintext, BadCoordinates) as bad:
-        raise Refused(f"{format_place(asked.file)}{bad}") from None
+        other = describe_other_form(text, "plaintext", "coordinates")
+        raise Refused(f"{format_place(asked.file)}{bad}{other}") from None
     streams.write_lines(rle)
     return DONE

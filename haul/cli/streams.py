@@ -4,6 +4,7 @@ from __future__ import annotations
 
 import errno
 import io
+import os
 from collections.abc import Iterable, Iterator
 from contextlib import contextmanager
 from itertools import chain
@@ -13,7 +14,8 @@ from haul.patterns.coordinates import is_coordinates
 from haul.formats.field_reader import BadHaul
 from haul.formats.haul import Haul
 from haul.formats.haul_reader import read_any_haul
-from haul.formats.report_files import INPUT_LIMIT
+from haul.formats.report_files import INPUT_LIMIT, BadLines, Reports
+from haul.formats.report_lines import Report
 from haul.terminal import Terminal
 
 # The most bytes that a pattern may have, as in `census`, unless it is given as coordinates.
@@ -36,9 +38,12 @@ class Streams:
 
     @contextmanager
     def open_input(self, name: str | None) -> Iterator[BinaryIO]:
-        """Opens a file. It is closed when the context is left, unless it is standard input."""
+        """Opens a file. It is closed when the context is left, unless it is standard input. Raises
+        `Refused` for a folder."""
         if name is None or name == "-":
             yield self.stdin
+        elif os.path.isdir(name):
+            raise Refused(f"{name}: this is a folder, and not a file in it")
         else:
             with open(name, "rb") as file:
                 yield file
@@ -57,6 +62,14 @@ class Streams:
                 f"table are {haul.objects()}"
             )
         return haul
+
+    def read_reports(self, reports: Reports, name: str | None) -> Iterator[Report]:
+        """Yields the reports of a file. Raises `Refused` if it isn't report lines."""
+        with self.open_input(name) as stream:
+            try:
+                yield from reports.read(stream, format_place(name))
+            except BadLines as bad:
+                raise Refused(str(bad)) from None
 
     def read_pattern(self, name: str | None) -> bytes:
         """Reads the text of a pattern. Raises `OSError` if it is too long."""

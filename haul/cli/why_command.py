@@ -5,19 +5,29 @@ from __future__ import annotations
 import argparse
 from collections.abc import Iterator
 
+from haul.census.bounded import SOUP_SECONDS
 from haul.census.client import Census
 from haul.cli.arguments import Argument, Command, option
 from haul.cli.faults import find_fault_of_why
-from haul.cli.shared_options import CENSUS, FORMS, list_profile_options
+from haul.cli.late_files import warn_of_lost_lines
+from haul.cli.shared_options import CENSUS, FORMS, WORKERS, list_profile_options
 from haul.cli.statuses import DONE
 from haul.cli.streams import Refused, Streams, format_place
-from haul.cli.values import read_count, read_path, read_rule_value, read_seed, read_subject
+from haul.cli.values import (
+    read_count,
+    read_path,
+    read_rule_value,
+    read_seed,
+    read_subject,
+    read_within,
+)
 from haul.fates.explain import Fates, TooLate
-from haul.fates.fate import Kind
+from haul.fates.fate import Kind, describe_wrong_line
 from haul.patterns.coordinates import BadCoordinates, is_coordinates, read_coordinates
 from haul.formats.haul import Job
 from haul.patterns.plaintext import SIDE, BadPlaintext, Rows, is_plaintext, read_plaintext
 from haul.formats.profile import STANDARD, Profile
+from haul.formats.recognition import describe_other_form
 from haul.formats.report_files import Reports
 from haul.patterns.rle import BadRle, read_rle
 from haul.patterns.rules import LIFE, parse_rule
@@ -25,10 +35,12 @@ from haul.views.why import FateTable
 
 # The most soups of a file that are explained, unless `--most` is given.
 USUAL_MOST = 20
+# The most seconds that a soup may get, which are a day.
+MOST_SECONDS = 86_400
 
 
 def run_why(asked: argparse.Namespace, streams: Streams) -> int:
-    census = Census(asked.census, streams.terminal)
+    census = Census(asked.census, streams.terminal, asked.workers)
     try:
         table = (
             explain_pattern(asked, streams, census)
@@ -45,30 +57,27 @@ def run_why(asked: argparse.Namespace, streams: Streams) -> int:
 
 def explain_soups(asked: argparse.Namespace, census: Census) -> FateTable:
     job = Job(asked.seed or "", asked.rule or LIFE, read_profile(asked))
-    fates = Fates(census, job)
+    fates = Fates(census, job, asked.soup_seconds)
     return FateTable(job, list(zip(asked.soups, fates.find_all(asked.soups), strict=True)))
 
 
 def explain_file(asked: argparse.Namespace, streams: Streams, census: Census) -> FateTable:
     """Explains the unsettled soups with the lowest numbers in a file of report lines."""
     (name,) = asked.soups
+    warn_of_lost_lines(name, streams)
     reports = Reports(streams.terminal)
-    with streams.open_input(name) as stream:
-        unsettled = [
-            report.soup
-            for report in reports.read(stream, format_place(name))
-            if report.settled is None
-        ]
+    unsettled = [
+        report.soup for report in streams.read_reports(reports, name) if report.settled is None
+    ]
     reports.tell_skipped()
     if reports.job is None:
         return FateTable(None, [])
     soups = sorted(unsettled)[: USUAL_MOST if asked.most is None else asked.most]
-    found = list(zip(soups, Fates(census, reports.job).find_all(soups), strict=True))
+    fates = Fates(census, reports.job, asked.soup_seconds)
+    found = list(zip(soups, fates.find_all(soups), strict=True))
     for soup, fate in found:
         if fate.kind is Kind.SETTLED:
-            streams.terminal.complain(
-                f"{format_place(name)}soup {soup} isn't unsettled: its line is wrong"
-            )
+            streams.terminal.complain(f"{format_place(name)}{describe_wrong_line(soup)}")
     return FateTable(reports.job, found)
 
 
@@ -76,12 +85,14 @@ def explain_pattern(asked: argparse.Namespace, streams: Streams, census: Census)
     rows, rule = read_any_pattern(asked.pattern, streams)
     job = Job("", asked.rule or rule or LIFE, read_profile(asked))
     pattern = "".join(f"{row}\n" for row in rows).encode("ascii")
-    return FateTable(job, [(asked.pattern, Fates(census, job).find(pattern))], is_of_pattern=True)
+    fate = Fates(census, job, asked.soup_seconds).find(pattern)
+    return FateTable(job, [(asked.pattern, fate)], is_of_pattern=True)
 
 
 def read_any_pattern(name: str, streams: Streams) -> tuple[Rows, str | None]:
     """Reads a pattern in plaintext, RLE or coordinates. Returns its rows and its rule. The rule is
     `None` if the text has no rule."""
+    text = b""
     try:
         with streams.open_pattern(name) as (text, lines):
             if is_coordinates(text):
@@ -91,7 +102,8 @@ def read_any_pattern(name: str, streams: Streams) -> tuple[Rows, str | None]:
             rows, rule = read_rle(text)
             return rows, None if rule is None else parse_rule(rule)
     except (BadPlaintext, BadRle, BadCoordinates) as bad:
-        raise Refused(f"{format_place(name)}{bad}") from None
+        other = describe_other_form(text, "rle", "plaintext", "coordinates")
+        raise Refused(f"{format_place(name)}{bad}{other}") from None
 
 
 def draw_columns(lines: Iterator[bytes]) -> Rows:
@@ -116,9 +128,9 @@ WHY = Command(
     "why",
     "say why soups are unsettled, or why a pattern is",
     "Each soup has a line: it `settled`, an object\n`falls apart`, or has a `period` that is too long, "
-    "it `settles` soon, shows `linear growth`,\n`collides soon` or is `still active`; and then what "
-    "explains that. Soups are given by their\nnumbers, or by a FILE of report lines, such as the "
-    "FILE.late of `haul search`.\n\n"
+    "it `settles` soon, shows `linear growth`,\n`collides soon` or is `still active`, or the fate is "
+    "`not decided`; and then what explains\nthat. Soups are given by their numbers, or by a FILE of "
+    "report lines, such as the FILE.late\nof `haul search`.\n\n"
     "examples:\n  haul why 33569\n  haul why --most 5 mine.haul.late\n  haul why --pattern gun.rle",
     (
         option("--seed", "SEED", "the seed of the soups (default: the empty seed)", read_seed),
@@ -138,7 +150,16 @@ WHY = Command(
             f"explain the first N unsettled soups of FILE (default: {USUAL_MOST})",
             read_count,
         ),
+        option(
+            "--soup-seconds",
+            "N",
+            f"give up on a soup or a pattern after N seconds, 0 to {MOST_SECONDS} (default: "
+            f"{SOUP_SECONDS}; 0: never)",
+            read_within(0, MOST_SECONDS),
+            SOUP_SECONDS,
+        ),
         FORMS,
+        WORKERS,
         CENSUS,
         Argument(
             "soups",

@@ -7,12 +7,11 @@ from dataclasses import dataclass
 from enum import Enum
 
 from haul.fates.growth import GENERATIONS, MOST_CYCLE, Growth
-from haul.fates.rest import Rest
+from haul.fates.rest import InPieces, Rest
+from haul.fates.sizes import MOST_GENERATIONS, Size
 from haul.names.objects import find_name
 from haul.plurals import write_count
 
-# The most generations by which `census run` advances a pattern.
-MOST_GENERATIONS = 100_000
 # Linear growth is looked for in this many generations after the limit.
 GENERATIONS_OF_SIZES = GENERATIONS + MOST_CYCLE
 USUAL_LIMIT, MOST_LIMIT = 30_300, MOST_GENERATIONS - GENERATIONS_OF_SIZES
@@ -28,6 +27,7 @@ class Kind(Enum):
     GROWS = "linear growth"
     COLLIDES = "collides soon"
     ACTIVE = "still active"
+    UNDECIDED = "not decided"
 
 
 @dataclass(frozen=True)
@@ -44,16 +44,6 @@ class Fate:
         return f"{self.kind.value}{between}{self.why}"
 
 
-@dataclass(frozen=True)
-class Size:
-    """The size of a pattern: its number of live cells, and the columns and rows of its bounding
-    box."""
-
-    cells: int
-    width: int
-    height: int
-
-
 def tell_settled(checkpoint: int) -> Fate:
     return Fate(Kind.SETTLED, str(checkpoint))
 
@@ -61,7 +51,10 @@ def tell_settled(checkpoint: int) -> Fate:
 def tell_rest(rest: Rest, limit: int) -> Fate:
     """Returns the fate of a pattern whose groups recur and don't meet."""
     if rest.apart:
-        objects = [name_object(code, count) for code, count in sorted(Counter(rest.apart).items())]
+        ordered = sorted(
+            Counter(rest.apart).items(), key=lambda one: (one[0].code, one[0].shuttle or "")
+        )
+        objects = [name_object(one, count) for one, count in ordered]
         return Fate(Kind.FALLS_APART, ", ".join([*objects, *map(name_period, list_periods(rest))]))
     if rest.periods:
         return Fate(Kind.PERIOD, ", ".join(map(str, list_periods(rest))))
@@ -76,18 +69,17 @@ def name_period(period: int) -> str:
     return f"{Kind.PERIOD.value} {period}"
 
 
-def name_object(code: str, count: int) -> str:
+def name_object(one: InPieces, count: int) -> str:
     """Returns the code and the name of an object, with the count if there are several."""
     several = f"{count} " if count > 1 else ""
-    name = find_name(code)
-    return f"{several}{code}" + (f" ({name})" if name else "")
+    name = one.shuttle or find_name(one.code)
+    return f"{several}{one.code}" + (f" ({name})" if name else "")
 
 
-def tell_growth(growth: Growth) -> Fate:
+def tell_growth(growth: Growth, engine: str | None) -> Fate:
     rate = (
         f"+{write_count(growth.cells, 'cell')} in {write_count(growth.generations, 'generation')}"
     )
-    engine = growth.engine()
     return Fate(Kind.GROWS, f"{rate} ({engine})" if engine else rate)
 
 
@@ -95,9 +87,21 @@ def tell_collision(generation: int) -> Fate:
     return Fate(Kind.COLLIDES, f"generation {generation}")
 
 
-def tell_activity(size: Size, limit: int) -> Fate:
+def tell_activity(size: Size, limit: int, is_growing: bool) -> Fate:
     """Returns the fate of a pattern about which nothing else was found. The explanation suggests a
-    limit that may show more, if there is a larger one."""
+    limit that may show more, if there is a larger one. A pattern that is growing will hardly
+    settle, so none is suggested for it."""
     more = min(max(2 * limit, USUAL_LIMIT), MOST_LIMIT)
     extent = f"{write_count(size.cells, 'cell')}, {size.width:,} by {size.height:,}"
-    return Fate(Kind.ACTIVE, f"{extent}; try --limit {more}" if more > limit else extent)
+    has_advice = more > limit and not is_growing
+    return Fate(Kind.ACTIVE, f"{extent}; try --limit {more}" if has_advice else extent)
+
+
+def tell_undecided(why: str) -> Fate:
+    return Fate(Kind.UNDECIDED, why)
+
+
+def describe_wrong_line(soup: int) -> str:
+    """Returns the message about the report line of a soup that settles, if the line says that it is
+    unsettled."""
+    return f"soup {soup} isn't unsettled: its line is wrong"

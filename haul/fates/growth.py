@@ -5,6 +5,8 @@ from __future__ import annotations
 from dataclasses import dataclass
 from fractions import Fraction
 
+from haul.fates.guns import find_guns
+
 # The longest cycle that is looked for. Each of the first `GENERATIONS + 1` populations is compared
 # with the population one cycle later.
 MOST_CYCLE, GENERATIONS = 2880, 8640
@@ -22,17 +24,17 @@ class Growth:
     cells: int
     generations: int
 
-    def engine(self) -> str | None:
-        """Returns the name of an engine that grows at this rate, or `None` if none is known."""
-        return ENGINES.get(Fraction(self.cells, self.generations))
+    def rate(self) -> Fraction:
+        return Fraction(self.cells, self.generations)
 
 
-def find_growth(populations: list[int]) -> Growth | None:
-    """Returns the linear growth with the shortest cycle, or `None` if there is none. `populations`
-    has the populations of `GENERATIONS + MOST_CYCLE + 1` successive generations."""
+def find_cycle_of_sizes(populations: list[int]) -> Growth | None:
+    """Returns the shortest cycle in which the population never changes, or gains the same number of
+    cells each time. Returns `None` if there is none. `populations` has the populations of
+    `GENERATIONS + MOST_CYCLE + 1` successive generations."""
     for cycle in range(1, MOST_CYCLE + 1):
         cells = populations[cycle] - populations[0]
-        if cells > 0 and all(
+        if cells >= 0 and all(
             later - earlier == cells
             for earlier, later in zip(
                 populations[: GENERATIONS + 1], populations[cycle : cycle + GENERATIONS + 1]
@@ -40,3 +42,15 @@ def find_growth(populations: list[int]) -> Growth | None:
         ):
             return Growth(cells, cycle)
     return None
+
+
+def name_engine(growth: Growth, cells: set[int]) -> str | None:
+    """Returns the name of an engine that grows at this rate, or `None` if none is known. A gun is
+    only named if its cells are in the pattern, whose live cells are `cells`."""
+    return ENGINES.get(growth.rate()) or find_guns(growth.rate(), cells)
+
+
+def is_growing(populations: list[int]) -> bool:
+    """Checks whether each population in the second half is larger than all in the first half."""
+    half = len(populations) // 2
+    return min(populations[half:]) > max(populations[:half])

@@ -3,37 +3,40 @@ has the definition."""
 
 from __future__ import annotations
 
+from collections.abc import Iterable
 from dataclasses import dataclass, field
+from typing import NamedTuple
 
+from haul.fates.meeting import find_meeting
+from haul.fates.recurring import Recognition, Recurring, find_recurring
+from haul.fates.shuttles import describe_shuttle
 from haul.formats.profile import Profile
 from haul.life.apgcodes import find_code
-from haul.life.field import (
-    NEAR,
-    NEIGHBOURS,
-    Change,
-    Field,
-    TooManyCells,
-    find_move,
-    unpack,
-    unpack_all,
-)
+from haul.life.field import MOST_CELLS, Field, TooManyCells, find_move, unpack, unpack_all
 from haul.life.generations import Recurrence, Rule
-from haul.life.groups import Group, Watched, find_period, run_alone, split_clusters
+from haul.life.groups import Watched, find_period, split_clusters
 
 # The longest period that is recognised while the whole pattern runs, and the longest period of a
-# group that is run by itself.
+# whole pattern, or of a group that is run by itself.
 PERIOD, LONG_PERIOD = 64, 1152
 # Groups must stay apart for this number of generations, or for the profile's horizon if that is
 # larger.
 HORIZON = 512
 
 
+class InPieces(NamedTuple):
+    """An object that falls apart: its code, and the name of the shuttle that it is, if any."""
+
+    code: str
+    shuttle: str | None = None
+
+
 @dataclass
 class Rest:
     """What was found about a pattern if all its groups recur."""
 
-    # The codes of the objects that fall apart, one for each such object.
-    apart: list[str] = field(default_factory=list)
+    # The objects that fall apart.
+    apart: list[InPieces] = field(default_factory=list)
     # The periods of other objects that a census doesn't recognise.
     periods: list[int] = field(default_factory=list)
     # The first generation in which two groups meet, counted from the given pattern. It is `None` if
@@ -41,138 +44,90 @@ class Rest:
     meeting: int | None = None
 
 
-@dataclass
-class Recurring:
-    """A group that recurs: its phases, and how far it has moved when the first phase recurs."""
-
-    phases: list[set[int]]
-    move: int
-
-    def period(self) -> int:
-        return len(self.phases)
-
-
-def look_for_rest(rule: Rule, cells: set[int], profile: Profile) -> Rest | None:
+def look_for_rest(
+    rule: Rule, cells: set[int], profile: Profile, periods: Iterable[int] | None = None
+) -> Rest | None:
     """Returns what was found about a pattern, or `None` if one of its groups doesn't recur or there
-    are too many cells to tell."""
+    are too many cells to tell. `periods` has the periods that the whole pattern may have, if they
+    are known."""
+    if len(cells) > MOST_CELLS:
+        return None
     try:
-        return look_at_groups(rule, cells, profile)
+        wanted = range(1, LONG_PERIOD + 1) if periods is None else periods
+        cycle = find_cycle(rule, cells, set(wanted))
+        if cycle is not None:
+            return look_at_cycle(rule, cells, profile, *cycle)
+        return look_at_groups(rule, cells, profile, 2 * PERIOD)
     except TooManyCells:
         return None
 
 
-def look_at_groups(rule: Rule, cells: set[int], profile: Profile) -> Rest | None:
+def look_longer_for_rest(rule: Rule, cells: set[int], profile: Profile) -> Rest | None:
+    """Returns the same as `look_for_rest` for a pattern that doesn't recur as a whole. Groups are
+    linked for longer, so that the pieces of an object with a long period are found together."""
+    try:
+        return look_at_groups(rule, cells, profile, PERIOD + LONG_PERIOD)
+    except TooManyCells:
+        return None
+
+
+def find_cycle(rule: Rule, cells: set[int], periods: set[int]) -> tuple[int, int] | None:
+    """Returns the first of these periods after which the pattern is the same, and its move until
+    then, or `None` if there is none."""
+    pattern = Field(rule, cells)
+    for generation in range(1, max(periods, default=0) + 1):
+        pattern.step()
+        if generation in periods:
+            move = find_move(cells, pattern.live)
+            if move is not None:
+                return generation, move
+    return None
+
+
+def look_at_cycle(rule: Rule, cells: set[int], profile: Profile, period: int, move: int) -> Rest:
+    """Returns what was found about a pattern that is the same, moved by `move`, after `period`
+    generations. It doesn't depend on the phase in which the pattern is."""
+    recurring: list[Recurring] = []
+    for group in Watched(Field(rule, cells), period).groups(move):
+        if not group.is_still(0, period):
+            phases = group.phases(0, period)
+            own, shift = find_period(phases) or (period, move)
+            recurring.append(Recurring(phases[:own], shift))
+    return describe_all(rule, recurring, profile)
+
+
+def look_at_groups(rule: Rule, cells: set[int], profile: Profile, last: int) -> Rest | None:
+    """Returns what was found about a pattern whose groups are linked for `last` generations."""
     field = Field(rule, cells)
-    groups = Watched(field, 2 * PERIOD).groups()
+    groups = Watched(field, last).groups()
     recurring: list[Recurring] = []
     for group in groups:
-        if not group.is_still(PERIOD, 2 * PERIOD):
-            found = find_recurring(rule, group)
+        if not group.is_still(PERIOD, last):
+            found = find_recurring(rule, group.phases(PERIOD, last), LONG_PERIOD)
             if found is None:
                 return None
             recurring += [found] if found.phases[0] else []
-    rest = Rest(meeting=find_meeting(field, groups, max(HORIZON, profile.horizon)))
+    meeting = find_meeting(field, groups, last, max(HORIZON, profile.horizon))
+    return describe_all(rule, recurring, profile, meeting)
+
+
+def describe_all(
+    rule: Rule, recurring: list[Recurring], profile: Profile, meeting: int | None = None
+) -> Rest:
+    rest = Rest(meeting=meeting)
     for one in recurring:
-        if not is_recognised(rule, one, profile.period):
-            describe(one, rest)
+        if not Recognition(rule, one, profile.period).is_recognised():
+            describe(rule, one, rest)
     return rest
 
 
-def find_recurring(rule: Rule, group: Group) -> Recurring | None:
-    """Returns how a group recurs, or `None` if it doesn't. A group that has died, such as a spark,
-    has a single phase without cells."""
-    phases = group.phases(PERIOD, 2 * PERIOD)
-    if not phases[0]:
-        return Recurring([set()], 0)
-    found = find_period(phases)
-    if found is not None:
-        period, move = found
-        return Recurring(phases[:period], move)
-    return find_late_recurrence(rule, phases[0])
-
-
-def find_late_recurrence(rule: Rule, cells: set[int]) -> Recurring | None:
-    """Returns how a pattern recurs within `LONG_PERIOD` generations, or `None` if it doesn't."""
-    field = Field(rule, cells)
-    for period in range(1, LONG_PERIOD + 1):
-        field.step()
-        move = find_move(cells, field.live)
-        if move is not None:
-            return Recurring(list(run_alone(rule, cells, period - 1)), move)
-    return None
-
-
-def find_meeting(field: Field, groups: list[Group], last: int) -> int | None:
-    """Advances a pattern, which is at generation `2 * PERIOD`, up to generation `last`. Returns the
-    first generation in which two groups are near one another, or `None` if there is none."""
-    owners = {
-        cell: number
-        for number, group in enumerate(groups)
-        for cell, (_, end) in group.stays
-        if end == 2 * PERIOD
-    }
-    for generation in range(2 * PERIOD + 1, last + 1):
-        if not pass_on(owners, field.step()):
-            return generation
-    return None
-
-
-def pass_on(owners: dict[int, int], change: Change) -> bool:
-    """Assigns each newborn cell to the group of its parents. Returns `False` if a newborn cell is
-    near another group, otherwise `True`."""
-    born = {
-        cell: next(owners[cell + step] for step in NEIGHBOURS if cell + step in owners)
-        for cell in change.births
-    }
-    for cell in change.deaths:
-        del owners[cell]
-    owners.update(born)
-    return all(
-        owners.get(cell + step, owner) == owner for cell, owner in born.items() for step in NEAR
-    )
-
-
-def is_recognised(rule: Rule, one: Recurring, most: int) -> bool:
-    """Checks whether a census would recognise a group as objects. It would if, in one of the
-    group's first `PERIOD` phases, each cluster recurs within `most` generations when it is run
-    alone, and evolves alone as it does in the group."""
-    phases = one.phases
-    for place in range(min(one.period(), PERIOD)):
-        wanted = [*phases[place:], *({c + one.move for c in phase} for phase in phases[:place])]
-        clusters = split_clusters(wanted[0])
-        if len(clusters) == 1 and one.period() <= most:
-            return True
-        if len(clusters) > 1 and are_independent(rule, clusters, wanted, most):
-            return True
-    return False
-
-
-def are_independent(
-    rule: Rule, clusters: list[set[int]], wanted: list[set[int]], most: int
-) -> bool:
-    """Checks whether each cluster recurs within `most` generations when it is run alone, and
-    whether these runs share no cell in any generation and together make up the phases `wanted`."""
-    together: list[set[int]] = [set() for _ in wanted]
-    for cluster in clusters:
-        runs = list(run_alone(rule, cluster, max(len(wanted), most)))
-        if find_period(runs[: most + 1]) is None:
-            return False
-        for live, alone in zip(together, runs):
-            if live & alone:
-                return False
-            live |= alone
-        if any(not alone <= phase for alone, phase in zip(runs, wanted)):
-            return False
-    return together == wanted
-
-
-def describe(one: Recurring, rest: Rest) -> None:
+def describe(rule: Rule, one: Recurring, rest: Rest) -> None:
     """Adds to `rest` an object that a census doesn't recognise."""
-    is_apart = all(len(split_clusters(phase)) > 1 for phase in one.phases)
-    if is_apart and one.period() <= PERIOD:
+    if one.period() <= PERIOD and all(len(split_clusters(phase)) > 1 for phase in one.phases):
         recurrence = Recurrence(
             one.period(), unpack(one.move), [unpack_all(phase) for phase in one.phases]
         )
-        rest.apart.append(find_code(recurrence))
+        shuttle = None if one.move else describe_shuttle(rule, one.phases)
+        rest.apart.append(InPieces(find_code(recurrence), shuttle))
     else:
         rest.periods.append(one.period())

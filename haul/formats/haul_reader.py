@@ -43,7 +43,7 @@ MORE_SOUPS = "more soups than numbers in the ranges"
 MORE_UNSETTLED = "more unsettled soups than soups"
 MORE_FOR_GOOD = "more soups for good than settled soups"
 BELOW_PERIOD = "the horizon is below the period"
-MORE_HAULS = "more than one haul"
+MORE_HAULS = "more than one haul, which `haul join` adds up"
 
 
 def read_hauls(stream: IO[bytes]) -> Iterator[Haul]:

@@ -4,16 +4,18 @@ Doesn't check whether the soups really left what the reports say."""
 from __future__ import annotations
 
 import errno
-import re
 from collections.abc import Iterator
 from typing import IO
 
 from haul.formats.haul import Job
+from haul.formats.recognition import describe_other_form
 from haul.formats.report_lines import LINE_LIMIT, BadLine, Report, read_report_line
 from haul.terminal import Terminal
 
-# How the first line of a haul begins.
-HAUL = re.compile(rb"@VERSION ")
+# Every report line begins like this.
+REPORT = b"report "
+# The forms of texts that may be report lines. A text that looks like another form isn't read.
+READ = ("reports", "late", "empty")
 # A line that begins with this is skipped. An example is the first line of FILE.late.
 COMMENT = b"#"
 # The progress line is updated after this many lines.
@@ -25,7 +27,7 @@ INPUT_LIMIT = 2**32
 
 
 class BadLines(Exception):
-    """Raised if an input is a haul instead of report lines."""
+    """Raised if an input isn't report lines. Says what it looks like instead."""
 
 
 class Reports:
@@ -43,13 +45,18 @@ class Reports:
     def read(self, stream: IO[bytes], place: str) -> Iterator[Report]:
         """Yields each report that has the job of the first report, unless a report of the same soup
         has been read before. Comments are skipped silently. A bad line, or a report of another job,
-        is skipped with a message on standard error that begins with `place`. Raises `BadLines` for
-        a haul."""
+        is skipped with a message on standard error that begins with `place`. Raises `BadLines` if
+        the input looks like something else, or has other lines, but none that begins like a report
+        line."""
+        # The messages about the lines before the first report line. `None` after that.
+        waiting: list[str] | None = []
         for number, line in enumerate(split_lines(stream), 1):
-            if number == 1 and HAUL.match(line):
-                raise BadLines(
-                    f"{place}this is a haul, and not report lines, which `census work` prints"
-                )
+            if number == 1 and (other := describe_other_form(line + b"\n", *READ)):
+                raise BadLines(f"{place}no report lines{other}")
+            if waiting is not None and line.startswith(REPORT):
+                for why in waiting:
+                    self.skip(why)
+                waiting = None
             self.lines += 1
             if self.lines % LINES_BETWEEN_PROGRESS == 0:
                 self.terminal.show_progress(f"{self.lines} lines")
@@ -58,7 +65,11 @@ class Reports:
             try:
                 report = read_report_line(line)
             except BadLine as bad:
-                self.skip(f"{place}line {number}: {bad}")
+                why = f"{place}line {number}: {bad}"
+                if waiting is None:
+                    self.skip(why)
+                else:
+                    waiting.append(why)
                 continue
             self.job = self.job or report.job
             if report.job != self.job:
@@ -66,6 +77,8 @@ class Reports:
             elif report.soup not in self.soups:
                 self.soups.add(report.soup)
                 yield report
+        if waiting:
+            raise BadLines(f"{place}no report lines, which `census work` and `haul search` write")
 
     def skip(self, why: str) -> None:
         """Counts a skipped line. Writes the message `why` about it, unless `MOST_TOLD` messages

@@ -8,9 +8,16 @@ from __future__ import annotations
 from collections.abc import Iterable
 
 from haul.patterns.plaintext import Rows
+from haul.patterns.rle import read_rle
 
 Cell = tuple[int, int]
 Cells = frozenset[Cell]
+
+
+def read_rle_cells(rle: str) -> Cells:
+    """Returns the live cells of a pattern in RLE, whose corner is at (0, 0)."""
+    rows, _ = read_rle(rle.encode("ascii"))
+    return frozenset((x, y) for y, row in enumerate(rows) for x, c in enumerate(row) if c == "O")
 
 
 def move(cells: Iterable[Cell], shift: Cell) -> Cells:

@@ -61,7 +61,10 @@ class Watched:
         for cell, first in began.items():
             self.stays[cell].append((first, generations))
 
-    def groups(self) -> list[Group]:
+    def groups(self, move: int | None = None) -> list[Group]:
+        """Returns the groups. If `move` is given, the last generation is the first one, moved by
+        `move`. Then the pattern's generations are a cycle, and the last one is taken for the first
+        one, so the groups are the same whichever generation is the first."""
         links = Links(sum(map(len, self.stays.values())))
         firsts, place = {}, 0
         for cell, stays in self.stays.items():
@@ -73,6 +76,8 @@ class Watched:
                 if other is not None:
                     for one, another in list_meetings(stays, other):
                         links.join(firsts[cell] + one, firsts[cell + step] + another)
+            if move is not None and stays[-1][1] == self.last:
+                links.join(firsts[cell] + len(stays) - 1, firsts[cell - move])
         found: defaultdict[int, Group] = defaultdict(Group)
         for cell, stays in self.stays.items():
             for place, stay in enumerate(stays, firsts[cell]):

@@ -45,6 +45,13 @@ def census(*words: str) -> bytes:
     ).stdout
 
 
+def census_of(pattern: bytes, *words: str) -> bytes:
+    """Returns what a call of the built program prints about a pattern on standard input."""
+    return subprocess.run(
+        [CENSUS, *words], input=pattern, stdout=subprocess.PIPE, check=True
+    ).stdout
+
+
 def make_client(path: str = CENSUS) -> Census:
     """Returns a client of the built program, or of the program at `path`."""
     return Census(path, Terminal(sys.stderr))

@@ -127,7 +127,8 @@ class Apgsearch(unittest.TestCase):
             self.assertEqual(self.refused(*words, self.file), parts)
         self.assertEqual(
             self.refused("join", self.file),
-            "bad haul at line 1 column 10: this looks like a haul of apgsearch",
+            "bad haul at line 1 column 10: this looks like a haul of apgsearch, which `haul table` and "
+            "`haul check` read",
         )
         self.assertEqual(
             self.refused("index", self.file),
@@ -286,7 +287,7 @@ class Apgsearch(unittest.TestCase):
         )
         self.assertEqual(
             self.refused("soups", self.write("haul", own)),
-            "this is a haul, and not report lines, which `census work` prints",
+            "no report lines: this looks like a haul, which `haul table` and `haul check` read",
         )
 
     def test_rules(self) -> None:

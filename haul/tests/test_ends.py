@@ -152,7 +152,8 @@ class Streams(unittest.TestCase):
 
     def test_an_input_without_end(self) -> None:
         self.assertEqual(
-            in_shell("haul join < /dev/zero"), (3, "", "haul: bad haul at line 1 column 1\n")
+            in_shell("haul join < /dev/zero"),
+            (3, "", "haul: bad haul at line 1 column 1: this looks like a binary file\n"),
         )
 
     def test_unbuffered(self) -> None:

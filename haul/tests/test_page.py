@@ -896,7 +896,11 @@ class Comparing(unittest.TestCase):
             self.assertIn("more than 8 hauls", errors)
             self.assertEqual(
                 run("page", name, "/dev/null"),
-                (3, "", "haul: /dev/null: bad haul at line 1 column 1\n"),
+                (
+                    3,
+                    "",
+                    "haul: /dev/null: bad haul at line 1 column 1: this looks like an empty text\n",
+                ),
             )
 
 

@@ -188,7 +188,11 @@ class Checking(unittest.TestCase):
         text = census("take", "--count", "0")
         self.assertEqual(
             run("check", text=text + text),
-            (3, "", "haul: bad haul at line 15 column 1: more than one haul\n"),
+            (
+                3,
+                "",
+                "haul: bad haul at line 15 column 1: more than one haul, which `haul join` adds up\n",
+            ),
         )
         self.assertEqual(
             run("check", text=text + b"x"), (3, "", "haul: bad haul at line 15 column 1\n")
@@ -248,7 +252,10 @@ class Joining(unittest.TestCase):
         self.assertEqual(run("join", text=parts), (0, census("take", "--count", "40").decode(), ""))
 
     def test_nothing(self) -> None:
-        self.assertEqual(run("join"), (3, "", "haul: bad haul at line 1 column 1\n"))
+        self.assertEqual(
+            run("join"),
+            (3, "", "haul: bad haul at line 1 column 1: this looks like an empty text\n"),
+        )
 
     def test_no_file(self) -> None:
         self.assertEqual(
@@ -284,7 +291,12 @@ class Comparing(unittest.TestCase):
             "compare", "--whole", "-", "/dev/null", text=census("take", "--count", "1")
         )
         self.assertEqual(
-            (status, output, errors), (3, "", "haul: /dev/null: bad haul at line 1 column 1\n")
+            (status, output, errors),
+            (
+                3,
+                "",
+                "haul: /dev/null: bad haul at line 1 column 1: this looks like an empty text\n",
+            ),
         )
         haul = Haul(
             Job("", "b3s23", Profile(1, 1, 1, 0)),

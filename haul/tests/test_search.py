@@ -174,11 +174,11 @@ class Refusals(Searches):
 
     def test_no_haul(self) -> None:
         for text, line in (
-            (b"", "bad haul at line 1 column 1"),
+            (b"", "bad haul at line 1 column 1: this looks like an empty text"),
             (b"x\n", "bad haul at line 1 column 1"),
             (
                 2 * census("take", "--count", "0"),
-                "bad haul at line 15 column 1: more than one haul",
+                "bad haul at line 15 column 1: more than one haul, which `haul join` adds up",
             ),
         ):
             self.file.write_bytes(text)

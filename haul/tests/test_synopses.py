@@ -59,7 +59,7 @@ def read_alternatives(text: str) -> Iterator[list[list[str]]]:
             if depth == 0:
                 group = text[start + 1 : place]
                 parts = re.split(r" \| ", group)
-                yield [re.findall(r"--\w+", part) for part in parts if "--" in part]
+                yield [re.findall(r"--[\w-]+", part) for part in parts if "--" in part]
 
 
 class Synopses(unittest.TestCase):
@@ -80,7 +80,7 @@ class Synopses(unittest.TestCase):
     def positional(self, synopsis: str) -> list[str]:
         """Returns values for the arguments that a synopsis names outside of brackets."""
         bare = re.sub(r"\[[^\[\]]*\]", "", re.sub(r"\[[^\[\]]*\]", "", synopsis))
-        words = re.sub(r"--\w+ [A-Z]+", "", bare).split()
+        words = re.sub(r"--[\w-]+ [A-Z]+", "", bare).split()
         given = {"NAME|CODE": "block", "ID": "C1/a0", "SOUP": "5"}
         named = [given.get(word, "x") for word in words if word != ".."]
         return named + ["x"] * ("[FILE" in synopsis)
@@ -89,7 +89,7 @@ class Synopses(unittest.TestCase):
         """A command accepts every pair of options in its synopsis, unless they are alternatives."""
         for command, synopsis in list_synopses():
             known = self.options_of(command)
-            bare = re.findall(r"--\w+ [A-Z]+(?![^\[]*\])", re.sub(r"\[[^\[\]]*\]", "", synopsis))
+            bare = re.findall(r"--[\w-]+ [A-Z]+(?![^\[]*\])", re.sub(r"\[[^\[\]]*\]", "", synopsis))
             needed = [option.split()[0] for option in bare]
             groups = [group for group in read_alternatives(synopsis) if group]
             self.assertLessEqual(
@@ -111,7 +111,7 @@ class Synopses(unittest.TestCase):
         profile and, in `search`, those of a table."""
         named: dict[str, set[str]] = {}
         for command, synopsis in list_synopses():
-            named.setdefault(command, set()).update(re.findall(r"--\w+", synopsis))
+            named.setdefault(command, set()).update(re.findall(r"--[\w-]+", synopsis))
         left_out = {"--census", "--workers", "--period", "--horizon", "--stride", "--limit"}
         for one in COMMANDS:
             if one.name != "search":

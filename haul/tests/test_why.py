@@ -16,9 +16,17 @@ from unittest.mock import patch
 from haul.census.children import children
 from haul.census.forks import work_apart
 from haul.fates import rest
-from haul.fates.fate import MOST_LIMIT, Fate, Kind, Size, tell_activity
-from haul.fates.growth import GENERATIONS, MOST_CYCLE, Growth, find_growth
+from haul.fates.fate import MOST_LIMIT, Fate, Kind, tell_activity
+from haul.fates.growth import (
+    GENERATIONS,
+    MOST_CYCLE,
+    Growth,
+    find_cycle_of_sizes,
+    is_growing,
+    name_engine,
+)
 from haul.fates.rest import Rest, look_for_rest
+from haul.fates.sizes import Size
 from haul.formats.profile import STANDARD
 from haul.patterns.rle import read_rle
 from haul.life.cells import Cells
@@ -59,7 +67,8 @@ def cells_of_rows(text: str) -> set[int]:
 
 
 def why(*words: str, text: str = "") -> tuple[int, str, str]:
-    return run("why", *words, "--census", CENSUS, text=text.encode("latin-1"))
+    """Calls `haul why`. There is no bound of time, since many tests may run at once."""
+    return run("why", "--soup-seconds=0", *words, "--census", CENSUS, text=text.encode("latin-1"))
 
 
 def why_pattern(text: str, *words: str) -> str:
@@ -149,7 +158,8 @@ class WiderRest(unittest.TestCase):
             (TWIN_BEES_SHUTTLE, "xp46_033y133zzzckgsxsgkczz0ccy1cc"),
             (COES_P8, "xp8_wgovnz234z33"),
         ):
-            self.assertEqual(look_for_rest(LIFE, cells_of(rle), STANDARD), Rest([code]))
+            found = look_for_rest(LIFE, cells_of(rle), STANDARD)
+            self.assertEqual(found and [one.code for one in found.apart], [code])
 
     def test_objects_that_a_census_knows(self) -> None:
         """Objects that a census knows aren't reported, even if they are several clusters in some
@@ -228,19 +238,19 @@ class Growths(unittest.TestCase):
 
     def test_the_least_cycle(self) -> None:
         for step, cycle in ((16, 144), (59, 384), (5, 30), (1, 1), (7, 2880)):
-            self.assertEqual(find_growth(self.sizes(step, cycle)), Growth(step, cycle))
+            self.assertEqual(find_cycle_of_sizes(self.sizes(step, cycle)), Growth(step, cycle))
 
     def test_what_isnt_linear(self) -> None:
-        self.assertIsNone(find_growth(self.sizes(0, 30)))
-        self.assertIsNone(find_growth(self.sizes(-3, 30)))
-        self.assertIsNone(find_growth(self.sizes(1, 2881)))
+        self.assertEqual(find_cycle_of_sizes(self.sizes(0, 30)), Growth(0, 30))
+        self.assertIsNone(find_cycle_of_sizes(self.sizes(-3, 30)))
+        self.assertIsNone(find_cycle_of_sizes(self.sizes(1, 2881)))
         for changed in (0, GENERATIONS // 2, GENERATIONS):
             sizes = self.sizes(5, 30)
             sizes[changed] += 1
-            self.assertIsNone(find_growth(sizes))
+            self.assertIsNone(find_cycle_of_sizes(sizes))
         sizes = self.sizes(5, 30)
         sizes[-1] += 1
-        self.assertEqual(find_growth(sizes), Growth(5, 30))
+        self.assertEqual(find_cycle_of_sizes(sizes), Growth(5, 30))
 
     def test_engines(self) -> None:
         block_laying, glider_producing = (
@@ -253,7 +263,7 @@ class Growths(unittest.TestCase):
             (59, 384, glider_producing),
             (5, 30, None),
         ):
-            self.assertEqual(Growth(cells, generations).engine(), name)
+            self.assertEqual(name_engine(Growth(cells, generations), set()), name)
 
 
 class Hints(unittest.TestCase):
@@ -263,8 +273,14 @@ class Hints(unittest.TestCase):
         size = Size(9, 5, 4)
         for limit, more in ((0, 30_300), (20_000, 40_000), (MOST_LIMIT - 1, MOST_LIMIT)):
             told = f"9 cells, 5 by 4; try --limit {more}"
-            self.assertEqual(tell_activity(size, limit).why, told)
-        self.assertEqual(tell_activity(size, MOST_LIMIT).why, "9 cells, 5 by 4")
+            self.assertEqual(tell_activity(size, limit, False).why, told)
+        self.assertEqual(tell_activity(size, MOST_LIMIT, False).why, "9 cells, 5 by 4")
+
+    def test_none_for_a_pattern_that_grows(self) -> None:
+        self.assertEqual(tell_activity(Size(9, 5, 4), 0, True).why, "9 cells, 5 by 4")
+        self.assertTrue(is_growing([5, 7, 6, 8, 9, 10]))
+        for populations in ([5, 9, 6, 8, 9, 10], [5, 5, 5, 5], [9, 8, 7, 6], [1, 2, 8, 2]):
+            self.assertFalse(is_growing(populations))
 
 
 class Told(unittest.TestCase):
@@ -274,10 +290,14 @@ class Told(unittest.TestCase):
         limit = ["--limit", "1010"]
         cases: list[tuple[str, list[str], str]] = [
             ("OO\nOO\n", [], "settled 0"),
-            (QUEEN_BEE_SHUTTLE, limit, "falls apart: xp30_w33z8kqrqk8zzzx33 (queen bee shuttle)"),
+            (
+                QUEEN_BEE_SHUTTLE,
+                limit,
+                "falls apart: xp30_w33z8kqrqk8zzzx33 (queen bee shuttle, with blocks)",
+            ),
             (PULSAR, [*limit, "--period=2"], "period 3"),
             (TO_A_BLOCK, ["--limit=0"], "collides soon: generation 21"),
-            (GUN, limit, "linear growth: +5 cells in 30 generations"),
+            (GUN, limit, "linear growth: +5 cells in 30 generations (Gosper glider gun)"),
             (REPLICATOR, limit, "still active: 1,216 cells, 337 by 337; try --limit 30300"),
         ]
         for text, words, told in cases:
@@ -311,7 +331,8 @@ class Told(unittest.TestCase):
         text = "".join(f"{x} {y}\n" for x, y in unpack_all(both))
         self.assertEqual(
             why_pattern(text, "--limit=101"),
-            "falls apart: 2 xp30_w33z8kqrqk8zzzx33 (queen bee shuttle), xp8_wgovnz234z33 (Coe's p8)",
+            "falls apart: 2 xp30_w33z8kqrqk8zzzx33 (queen bee shuttle, with blocks), "
+            "xp8_wgovnz234z33 (Coe's p8)",
         )
 
     def test_formats_of_a_pattern(self) -> None:
@@ -380,7 +401,7 @@ class Files(unittest.TestCase):
 
     def test_unsettled_soups_of_a_file(self) -> None:
         settled = f"report 2 {self.JOB} worker=1 soup=9 at=101 good=yes"
-        name = self.file("# late 101 since 0 left-out 0", *self.lines(2, 1), settled)
+        name = self.file(*self.lines(2, 1), settled)
         status, output, errors = why(name)
         self.assertEqual((status, errors), (0, ""))
         self.assertEqual([line.split()[0] for line in output.splitlines()], ["1", "2"])
@@ -405,6 +426,11 @@ class Files(unittest.TestCase):
             (0, f"haul: {name}: soup {soup} isn't unsettled: its line is wrong\n"),
         )
         self.assertRegex(output, rf"^{soup} settled \d+\n$")
+        status, output, errors = run("soups", "--unsettled", "--why", "--census", CENSUS, name)
+        self.assertEqual(
+            (status, errors), (0, f"haul: soup {soup} isn't unsettled: its line is wrong\n")
+        )
+        self.assertTrue(output.endswith("  settled\n"))
 
     def test_bad_lines(self) -> None:
         name = self.file("nothing", *self.lines(1))
@@ -412,6 +438,17 @@ class Files(unittest.TestCase):
         self.assertEqual((status, errors), (0, f"haul: {name}: line 1: bad line at 0\n"))
         self.assertEqual(output, why("1", "--limit=101")[1])
         self.assertEqual(why(self.file()), (0, "", ""))
+        # Without any report line, the file is refused in one line.
+        status, output, errors = why(self.file("nothing", "more"))
+        self.assertEqual((status, output, errors.count("\n")), (3, "", 1))
+        self.assertTrue(
+            errors.endswith("no report lines, which `census work` and `haul search` write\n")
+        )
+        # A damaged report line is still one.
+        lines = [line.replace("unsettled", "unsettle") for line in self.lines(1)]
+        status, output, errors = why(self.file(*lines))
+        self.assertEqual((status, output), (0, ""))
+        self.assertRegex(errors, r": line 1: bad line at \d+\n$")
 
     def test_a_column_of_soups(self) -> None:
         text = "".join(f"{line}\n" for line in self.lines(1, 2)).encode()

@@ -8,6 +8,7 @@ from dataclasses import dataclass, field
 from haul.census.client import Census
 from haul.census.soup_runs import find_exact_generations, measure_growths
 from haul.fates.explain import Fates
+from haul.fates.fate import Kind, describe_wrong_line
 from haul.formats.haul import Job
 from haul.formats.report_lines import Report
 from haul.names.objects import find_name
@@ -108,8 +109,11 @@ class Unsettled(SoupList):
         if not self.says_why:
             return SoupTable("growth", heads, rows)
         if job:
-            for row, fate in zip(rows, Fates(self.census, job).find_all(soups), strict=True):
+            fates = Fates(self.census, job).find_all(soups)
+            for soup, row, fate in zip(soups, rows, fates, strict=True):
                 row.append(fate.kind.value)
+                if fate.kind is Kind.SETTLED:
+                    self.census.terminal.complain(describe_wrong_line(soup))
         return SoupTable("growth", [*heads, "kind"], rows)
 
 
