@@ -267,7 +267,9 @@ def command_list(commands: list[Command]) -> str:
         for paragraph in [*paragraphs, last]:
             if paragraph is not (paragraphs or [last])[0]:
                 lines.append(".Pp")
-            for sentence in re.split(r"(?<=[A-Za-z0-9`)]\.) (?=[A-Z])", " ".join(paragraph.split())):
+            for sentence in re.split(
+                r"(?<=[A-Za-z0-9`)]\.) (?=[A-Z])", " ".join(paragraph.split())
+            ):
                 lines += wrap(sentence)
     return "\n".join([*lines, ".El"]) + "\n"
 
