@@ -42,7 +42,7 @@ from haul.tests.pages import (
 )
 from haul.tests.test_whole import cells_of, drawn, made
 from haul.rarity.reference import find_dispersion
-from haul.views.intervals import find_dispersed_interval, find_interval
+from haul.statistics.intervals import find_dispersed_interval, find_interval
 
 PULSAR = "xp3_co9nas0san9oczgoldlo0oldlogz1047210127401"
 

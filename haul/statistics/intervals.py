@@ -16,7 +16,7 @@ from __future__ import annotations
 from collections.abc import Callable
 from math import erfc, exp, log1p, pi, sqrt
 
-from haul.rarity.incomplete import compute_gamma_tail
+from haul.statistics.incomplete_functions import compute_gamma_tail
 
 TAIL = 0.025
 # After this many steps a double no longer changes.

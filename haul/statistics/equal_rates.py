@@ -2,7 +2,7 @@
 
 from __future__ import annotations
 
-from haul.rarity.incomplete import compute_beta
+from haul.statistics.incomplete_functions import compute_beta
 
 # A difference with a smaller p-value gets a star. A comparison has hundreds of rows, so a limit of
 # 0.05 would star many of them by chance.
