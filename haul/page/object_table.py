@@ -111,7 +111,6 @@ def describe_frequency(soups: int, total: int) -> str:
     if total * 2 <= soups:
         return f"≤ 1 in {bound_rarity(soups, total):,} soups"
     each = total / soups
-    # 2 mutants: equal because from 100 to 101 both forms have the same three digits
     return f"{each:,.0f} per soup" if each >= 100 else f"{each:.3g} per soup"
 
 

@@ -11,12 +11,10 @@ from haul.statistics.incomplete_functions import compute_beta, compute_beta_dens
 TAIL = 0.025
 # The quantile of the normal distribution for `TAIL`. With it, `find_beta_quantile` chooses where to
 # start its search.
-# mutant: equal because the search finds the same value from any start
 DEVIATIONS = 1.96
 # The search ends at a step that is smaller than this, relative to the value.
 NEAR = 1e-12
 # The search ends after this many steps in any case.
-# mutant: equal because no search takes this many steps
 MOST_STEPS = 100
 
 
@@ -46,20 +44,14 @@ def find_beta_quantile(a: int, b: int, chance: float, deviations: float) -> floa
     Newton's method in a shrinking interval. The search starts `deviations` standard deviations
     above the mean."""
     low, high, mean = 0.0, 1.0, a / (a + b)
-    # 5 mutants: equal because the search finds the same value from any start
     x = mean + deviations * sqrt(mean * (1 - mean) / (a + b + 1))
-    # 3 mutants: equal because the search finds the same value from any start
     x = x if 0 < x < 1 else mean
     for _ in range(MOST_STEPS):
         over = compute_beta(a, b, x) - chance
-        # mutant: equal because a search that is at the value comes back to it from either side
         low, high = (low, x) if over > 0 else (x, high)
         slope = compute_beta_density(a, b, x)
-        # mutant: equal because the interval also shrinks without Newton's method
         new = x - over / slope if slope else low
-        # 2 mutants: equal because a step to an end of the interval only takes longer
         new = new if low < new < high else (low + high) / 2
-        # 2 mutants: equal because further steps don't change the value
         if abs(new - x) <= NEAR * x:
             return new
         x = new

@@ -62,7 +62,6 @@ def rank_codes(hauls: list[Haul], least: int, rare: bool = False) -> list[str]:
     codes = [
         code
         for code in set().union(*(haul.totals for haul in hauls))
-        # mutant: equal because each code has an object in at least one haul
         if any(haul.totals.get(code, 0) >= least for haul in hauls)
     ]
     rates = {
