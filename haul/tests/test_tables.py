@@ -547,9 +547,8 @@ in A alone: xq4_153 xs8_rr; in B alone: xp15_4r4z4r4
                 printed = self.printed(words[0], "--default", *form, *words[1:])
                 self.assertEqual(printed, self.printed(words[0], "--parts", *form, *words[1:]))
                 self.assertNotEqual(printed, self.printed(words[0], *form, *words[1:]))
-        strict = self.printed("table", "--strict", "a")
-        self.assertEqual(strict, self.printed("table", "--strict", "--default", "--whole", "a"))
         for words in (
+            ["table", "--strict", "--whole"],
             ["table", "--parts", "--whole"],
             ["table", "--parts", "--strict"],
             ["compare", "--parts", "--whole", "-", "-"],
