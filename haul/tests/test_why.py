@@ -53,7 +53,7 @@ TO_A_BLOCK = "bo$2bo$3o48$50b2o$50b2o!"
 
 
 def cells_of(rle: str) -> set[int]:
-    rows, _ = read_rle(rle.encode())
+    rows = read_rle(rle.encode()).rows
     return {pack((x, y)) for y, row in enumerate(rows) for x, c in enumerate(row) if c == "O"}
 
 
