@@ -11,7 +11,7 @@ _haul() {
     # After an option that takes a value, only its values are proposed.
     case $before in
         =) return ;;
-        --until | --part | --workers | --late | --rarer | --seed | --first | --rule | --period | --horizon | --stride | --limit | --random | --choice | --least | --top | --kind | --play | --lives | --separate | --longest | --code | --pattern | --most | --soup-seconds) return ;;
+        --until | --batch | --workers | --soup-seconds | --late | --rarer | --seed | --first | --rule | --period | --horizon | --stride | --limit | --random | --choice | --least | --top | --kind | --play | --lives | --separate | --longest | --code | --pattern | --most) return ;;
         --per)
             mapfile -t COMPREPLY < <(compgen -W 'million soup' -- "$word")
             return
@@ -22,17 +22,17 @@ _haul() {
             ;;
     esac
     case ${COMP_WORDS[1]} in
-        search) options='--until --part --workers --late --rarer --finds --seed --first --rule --period --horizon --stride --limit --census --help' ;;
+        search) options='--until --batch --workers --soup-seconds --late --rarer --finds --seed --first --rule --period --horizon --stride --limit --census --help' ;;
         check) options='--workers --samples --totals --first --random --choice --census --help' ;;
         index) options='--help' ;;
         join) options='--help' ;;
         compare) options='--least --intervals --per --rare --parts --whole --csv --json --help' ;;
         table) options='--top --rare --kind --period --strict --parts --whole --csv --json --help' ;;
         rarity) options='--help' ;;
-        page) options='--least --play --lives --census --help' ;;
+        page) options='--least --play --lives --workers --census --help' ;;
         soup) options='--rle --separate --help' ;;
-        soups) options='--longest --unsettled --code --why --exact --csv --json --census --help' ;;
-        why) options='--seed --rule --period --horizon --stride --limit --pattern --plane --most --soup-seconds --csv --json --census --help' ;;
+        soups) options='--longest --unsettled --code --why --exact --csv --json --workers --census --help' ;;
+        why) options='--seed --rule --period --horizon --stride --limit --pattern --plane --most --soup-seconds --csv --json --workers --census --help' ;;
         cells) options='--plane --help' ;;
         rle) options='--rule --help' ;;
     esac

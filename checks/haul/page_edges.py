@@ -222,7 +222,7 @@ def try_paper(driver: Driver, two: Path) -> None:
         count.holds(
             f"on paper there is {what}", driver.find_element("css selector", what).is_displayed()
         )
-    count.holds("and what * means", "* differs from A" in text(driver, "#shown"))
+    count.holds("and what bars are", "Bars: per million soups." in text(driver, "#shown"))
     count.equal(
         "and all columns of two hauls",
         driver.execute_script(

@@ -6,6 +6,7 @@ from __future__ import annotations
 
 import re
 import textwrap
+from collections.abc import Iterator
 from dataclasses import replace
 
 from checks.repository.option_tables import Command, Option, lower, shell_text, upper
@@ -212,6 +213,73 @@ def roff(text: str) -> str:
     return quoted.replace("--", "\\-\\-")
 
 
+# What stands for several options of a command in a synopsis.
+GROUPS = {
+    "soups": ("seed", "first", "also"),
+    "profile": ("period", "horizon", "stride", "limit"),
+}
+
+
+def synopsis(commands: list[Command]) -> str:
+    """Returns the synopsis of a manual, in mdoc."""
+    lines: list[str] = []
+    for command in commands:
+        lines += [".Nm", f".Cm {command.name}", *list_synopsis(command)]
+    return "\n".join([*lines, ".Nm", ".Fl Fl version"]) + "\n"
+
+
+def list_synopsis(command: Command) -> Iterator[str]:
+    """Yields a line for each argument of a command, or for several of them: for alternatives, and
+    for those of a group."""
+    names = {option.name for option in command.options}
+    group_of = {
+        name: group for group, some in GROUPS.items() if names.issuperset(some) for name in some
+    }
+    done: set[str] = set()
+    for option in sorted(command.options, key=lambda option: not option.flag):
+        if option.name in done:
+            continue
+        group = group_of.get(option.name)
+        if group is not None:
+            done.update(GROUPS[group])
+            yield f".Op Ar {group}"
+            continue
+        others = [one for one in command.options if f"--{one.name}" in option.excludes]
+        done.update(one.name for one in others)
+        words = " | ".join(map(words_of, [option, *others]))
+        yield f".{words}" if option.is_needed else f".Op {words}"
+
+
+def words_of(option: Option) -> str:
+    several = " ..." if option.several else ""
+    if not option.flag:
+        return f"Ar {option.value}{several}"
+    return f"Fl Fl {option.name}" + (f" Ar {option.value}" if option.value else "")
+
+
+def command_list(commands: list[Command]) -> str:
+    """Returns what a manual says about each command, in mdoc: its help without the examples."""
+    lines = [f".Bl -tag -width {max((one.name for one in commands), key=len)}"]
+    for command in commands:
+        lines.append(f".It Cm {command.name}")
+        said = f"{upper(command.about)}. {command.more}"
+        *paragraphs, last = re.split(r"\n\nexamples?:", said)[0].split("\n\n")
+        for paragraph in [*paragraphs, last]:
+            if paragraph is not (paragraphs or [last])[0]:
+                lines.append(".Pp")
+            for sentence in re.split(
+                r"(?<=[A-Za-z0-9`)]\.) (?=[A-Z])", " ".join(paragraph.split())
+            ):
+                lines += wrap(sentence)
+    return "\n".join([*lines, ".El"]) + "\n"
+
+
+def wrap(sentence: str) -> list[str]:
+    lines = textwrap.wrap(roff(sentence), 78, break_on_hyphens=False, break_long_words=False)
+    # At the beginning of a line, these characters would be a command.
+    return [f"\\&{line}" if line[0] in ".'" else line for line in lines]
+
+
 def manual(commands: list[Command]) -> str:
     """Returns the list of options of a manual, in mdoc."""
     lines = [".Bl -tag -width indent"]
@@ -219,9 +287,7 @@ def manual(commands: list[Command]) -> str:
         if option.flag:
             lines.append(f".It Fl Fl {option.name}{f' Ar {option.value}' if option.value else ''}")
             for sentence in sentences(option):
-                lines += textwrap.wrap(
-                    roff(sentence), 78, break_on_hyphens=False, break_long_words=False
-                )
+                lines += wrap(sentence)
             lines.append("For")
             lines += [
                 f".Cm {name}{' ,' if place < len(names) - 1 else ' .'}"

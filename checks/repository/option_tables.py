@@ -13,6 +13,8 @@ from haul.cli.command_table import COMMANDS as HAUL_COMMANDS
 OPTIONS, COMMANDS = (
     TOP / "crates" / "arguments" / "src" / name for name in ("options.rt", "commands.rt")
 )
+# Options of `census` that can't be given together.
+EXCLUDES = {"coordinates": ("--sizes",), "sizes": ("--coordinates",)}
 # The placeholders of values that are files.
 FILES = {"PATH", "PROGRAM"}
 
@@ -43,6 +45,11 @@ class Option:
         return self.flag and self.value != "" and self.default is None and not self.optional
 
     @property
+    def is_needed(self) -> bool:
+        """Checks whether a call without this argument is refused."""
+        return self.is_required if self.flag else not self.optional
+
+    @property
     def short(self) -> str:
         """Returns the first words of the help, for a list of options."""
         said = re.sub(r"^with --\w+: ", "", self.help)
@@ -65,6 +72,8 @@ class Command:
     name: str
     about: str
     options: list[Option] = field(default_factory=list)
+    # The rest of the help.
+    more: str = ""
 
 
 def lower(text: str) -> str:
@@ -114,6 +123,7 @@ def census_options() -> dict[str, Option]:
             default,
             flag=place is not None,
             optional=parts["optional"] is not None,
+            excludes=EXCLUDES.get(own, ()),
         )
     return found
 
@@ -141,7 +151,7 @@ def census_commands() -> list[Command]:
 
 def haul_commands() -> list[Command]:
     return [
-        Command(command.name, command.about, list(haul_options(command)))
+        Command(command.name, command.about, list(haul_options(command)), command.more)
         for command in HAUL_COMMANDS
     ]
 
@@ -161,5 +171,5 @@ def haul_options(command: HaulCommand) -> Iterator[Option]:
             value in FILES or (not argument.is_option() and value != "ID"),
             argument.repeats in ("*", "+"),
             tuple(other.name for other in others),
-            optional=True,
+            optional=argument.is_option() or argument.repeats in ("?", "*"),
         )

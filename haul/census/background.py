@@ -7,11 +7,12 @@ import os
 import re
 import selectors
 import subprocess
+import time
 from collections.abc import Callable
 from contextlib import suppress
 from typing import IO
 
-from haul.census.children import children, kill_apart
+from haul.census.children import children, kill_apart, measure_session
 from haul.census.client import FAILED, Ended, check_ending
 from haul.census.starters import LAUNCH_CENSUS
 from haul.formats.report_lines import LINE_LIMIT
@@ -26,6 +27,9 @@ BYTES_AT_A_TIME = 65_536
 MOST_PRINTED, BYTES_OF_A_SOUP, MOST_COMPLAINED = 2**26, 4096, 2**20
 # How long to wait at a time for a program that has closed its streams.
 SECONDS_TO_END = 0.05
+# How long to read from a program that was killed. All its processes are killed, too, so the streams
+# end at once, unless a process had a user of its own.
+SECONDS_FOR_REST = 1.0
 # The progress line of `census take`.
 PROGRESS = re.compile(rb"([0-9]{1,8}) of [0-9]{1,8} soups")
 # How a report line of `census take` begins, and the expression that finds the soup's number in it.
@@ -69,7 +73,7 @@ class BackgroundProgram:
         """Starts a program with `launcher.py`, in the mode `how`: `LAUNCH_CENSUS` or `FIND`. Raises
         `OSError` if `launcher.py` can't be started."""
         self.waiter = waiter
-        self.process = children.start(words, subprocess.PIPE, stderr, apart=how)
+        self.process = children.start(words, subprocess.PIPE, stderr, how=how)
         self.printed, self.complained = bytearray(), bytearray()
         # The name of the stream to which the program has written too much, or `None`.
         self.flooded: str | None = None
@@ -107,6 +111,10 @@ class BackgroundProgram:
                 self.kill()
                 text.clear()
 
+    def measure_memory(self) -> int:
+        """Returns the number of bytes of memory that the program and its children use."""
+        return measure_session(self.process.pid)
+
     def is_ended(self) -> bool:
         """Checks whether the program has ended and everything that it printed has been read."""
         if self.open == 0:
@@ -123,6 +131,13 @@ class BackgroundProgram:
 
     def kill(self) -> None:
         kill_apart(self.process)
+
+    def read_rest(self) -> None:
+        """Reads what a program that was killed has printed before."""
+        self.process.wait()
+        end = time.monotonic() + SECONDS_FOR_REST
+        while self.open > 0 and time.monotonic() < end:
+            self.waiter.wait(SECONDS_TO_END)
 
     def end(self) -> None:
         """Kills the program, waits for its end, and discards what it printed."""

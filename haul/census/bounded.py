@@ -81,10 +81,10 @@ def lack_memory() -> Undecided:
 def work_bounded(work: Callable[[], Result], seconds: float | None) -> tuple[Result] | None:
     """Does work in this process, which was forked for it. Returns `None` if the time is up. Raises
     `MemoryError` if it takes too much memory."""
-    with suppress(OSError):
+    with suppress(OSError, ValueError):
         with open("/proc/self/statm", encoding="ascii") as file:
             used = int(file.read().split()[0]) * resource.getpagesize()
-        limit_memory(0, used + MOST_MEMORY)
+            resource.setrlimit(resource.RLIMIT_AS, (used + MOST_MEMORY, used + MOST_MEMORY))
     signal.signal(signal.SIGALRM, end_work)
     signal.setitimer(signal.ITIMER_REAL, seconds or 0)
     try:
@@ -97,12 +97,6 @@ def work_bounded(work: Callable[[], Result], seconds: float | None) -> tuple[Res
 
 def end_work(_number: int, _frame: FrameType | None) -> NoReturn:
     raise TimeIsUp
-
-
-def limit_memory(pid: int, most: int) -> None:
-    """Limits the memory of a process. A process that has ended already is passed over."""
-    with suppress(OSError, ValueError):
-        resource.prlimit(pid, resource.RLIMIT_AS, (most, most))
 
 
 @dataclass(frozen=True)
@@ -167,9 +161,8 @@ class BoundedCensus:
     def start(self, words: list[str], pattern: bytes) -> Iterator[subprocess.Popen[bytes]]:
         """Starts the program. If it is still running when the context is left, it is ended."""
         with open_text(pattern) as read, start_child(
-            [self.census.path, *words], subprocess.PIPE, subprocess.PIPE, read
+            [self.census.path, *words], subprocess.PIPE, subprocess.PIPE, read, MOST_MEMORY
         ) as program:
-            limit_memory(program.pid, MOST_MEMORY)
             try:
                 yield program
             finally:

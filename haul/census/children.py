@@ -3,29 +3,16 @@ module, so that none is missing from the list: if a signal ends this process, th
 
 from __future__ import annotations
 
-import errno
 import os
 import signal
 import subprocess
 import threading
 from collections.abc import Callable, Iterator
-from contextlib import contextmanager, nullcontext, suppress
+from contextlib import contextmanager, suppress
 from typing import Protocol, TypeVar
 
-from haul.census.starters import list_starter_words
+from haul.census.starters import LAUNCH_CENSUS, list_starter_words
 
-# The errors of a start if there is no program at the path, or none that this machine can run. If a
-# start fails with any other error, there may be such a program.
-NOT_THERE = (
-    errno.ENOENT,
-    errno.ENOTDIR,
-    errno.EACCES,
-    errno.EPERM,
-    errno.ENOEXEC,
-    errno.ELOOP,
-    errno.ENAMETOOLONG,
-    errno.EINVAL,
-)
 # How many seconds `launcher.py` has after SIGTERM to kill its program and everything that the
 # program has started. Then `launcher.py` itself is killed.
 MOST_SECONDS_TO_END = 2.0
@@ -85,20 +72,21 @@ class Children:
         stdout: int,
         stderr: int | None,
         stdin: int = subprocess.DEVNULL,
-        apart: str | None = None,
+        how: str = LAUNCH_CENSUS,
+        most_memory: int | None = None,
     ) -> subprocess.Popen[bytes]:
-        """Starts a program. If `apart` is given, it is a mode of `launcher.py`, which then runs the
-        program in a session of its own. Raises `OSError` if the program can't be started. With
-        `apart`, `OSError` is raised only if `launcher.py` can't be started."""
-        starter = [] if apart is None else list_starter_words(apart)
-        with block_interrupts() if starter else nullcontext():
+        """Starts a program with `launcher.py`, in the mode `how`. The launcher runs it in a session
+        of its own, and ends it and everything that it has started when this process ends, even by
+        SIGKILL. If `most_memory` is given, the program gets at most this many bytes of memory.
+        Raises `OSError` if the launcher can't be started."""
+        with block_interrupts():
             return self.add(
                 lambda: subprocess.Popen(
-                    [*starter, *words],
+                    [*list_starter_words(how, most_memory), *words],
                     stdin=stdin,
                     stdout=stdout,
                     stderr=stderr,
-                    start_new_session=apart is not None,
+                    start_new_session=True,
                 )
             )
 
@@ -119,12 +107,12 @@ class Children:
         self.stopping = stopping
 
     @contextmanager
-    def track(self, program: subprocess.Popen[bytes]) -> Iterator[None]:
+    def track(self, program: subprocess.Popen[bytes]) -> Iterator[subprocess.Popen[bytes]]:
         """Keeps a started program in the list until it ends. It has ended when the context is
         left."""
         try:
             with program:
-                yield
+                yield program
         finally:
             self.remove(program)
 
@@ -158,10 +146,27 @@ def kill_apart(program: subprocess.Popen[bytes]) -> None:
     it kills all the others, and then it is killed, too."""
     if program.poll() is None:
         program.terminate()
+        # The program may have stopped the launcher.
+        program.send_signal(signal.SIGCONT)
         with suppress(subprocess.TimeoutExpired):
             program.wait(MOST_SECONDS_TO_END)
     with suppress(ProcessLookupError, PermissionError):
         os.killpg(program.pid, signal.SIGKILL)
+
+
+def measure_session(session: int) -> int:
+    """Returns the number of bytes of memory that the processes of a session use."""
+    pages = 0
+    for name in filter(str.isdigit, os.listdir("/proc")):
+        # The process may have ended meanwhile.
+        with suppress(OSError), open(
+            f"/proc/{name}/stat", encoding="utf-8", errors="replace"
+        ) as file:
+            # After the name, which is in parentheses: the state, the parent, the group, the session.
+            fields = file.read().rpartition(")")[2].split()
+            if int(fields[3]) == session:
+                pages += int(fields[21])
+    return pages * os.sysconf("SC_PAGE_SIZE")
 
 
 class NoCensus(Exception):
@@ -197,16 +202,10 @@ def start_child(
     stdout: int,
     stderr: int | None,
     stdin: int = subprocess.DEVNULL,
-    apart: str | None = None,
+    most_memory: int | None = None,
 ) -> Iterator[subprocess.Popen[bytes]]:
     """Starts a program with `Children.start`. The program has ended when the context is left. If
-    `stderr` is `None`, the program writes to this process's standard error. Raises `NoCensus` if
-    there is no program at the path, unless `apart` is given: then `launcher.py` reports this."""
-    try:
-        program = children.start(words, stdout, stderr, stdin, apart)
-    except OSError as error:
-        if error.errno in NOT_THERE:
-            raise NoCensus.at(words[0]) from None
-        raise
-    with children.track(program):
+    `stderr` is `None`, the program writes to this process's standard error."""
+    started = children.start(words, stdout, stderr, stdin, most_memory=most_memory)
+    with children.track(started) as program:
         yield program

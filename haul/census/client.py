@@ -30,8 +30,17 @@ LIVE = b"O"
 # The part of a report line that follows `soup=`: the soup's number, and what was found.
 REPORT = re.compile(rb"([0-9]{1,13}) ([a-z0-9_=* ]+)")
 
+# The most workers.
+MOST_WORKERS = 1024
+
 Asked = TypeVar("Asked")
 Said = TypeVar("Said")
+
+
+def count_processors() -> int:
+    """Returns the default number of workers: one for each processor that this process may use, but
+    at most `MOST_WORKERS`."""
+    return min(MOST_WORKERS, len(os.sched_getaffinity(0)))
 
 
 class Ended(Exception):
@@ -46,11 +55,14 @@ class Ended(Exception):
 class Census:
     """The census program at a path."""
 
-    def __init__(self, path: str | None, terminal: Terminal) -> None:
+    def __init__(self, path: str | None, terminal: Terminal, workers: int | None = None) -> None:
+        """`workers` is the number of calls that run at a time, or of workers in a call: by default,
+        one for each processor."""
         found = path or find_beside() or shutil.which("census")
         if found is None:
             raise NoCensus("no census beside this program or on the PATH")
         self.path = found
+        self.workers = workers or count_processors()
         # The terminal on which progress is shown.
         self.terminal = terminal
 
@@ -86,7 +98,7 @@ class Census:
         parts = [asked[start : start + size] for start in range(0, len(asked), size)]
         done = 0
         # mutant: equal because the number of threads doesn't change what is printed
-        with ThreadPoolExecutor(len(os.sched_getaffinity(0))) as pool:
+        with ThreadPoolExecutor(min(self.workers, len(parts) or 1)) as pool:
             for part, said in zip(parts, ask_all(pool, ask, parts), strict=True):
                 done += len(part)
                 self.terminal.show_progress(f"{done} of {len(asked)} {done_what}")
@@ -109,10 +121,10 @@ class Census:
             raise NoCensus.at(self.path)
         return reports
 
-    def take(self, job: Job, ranges: list[Range], workers: int, out: IO[bytes]) -> None:
+    def take(self, job: Job, ranges: list[Range], out: IO[bytes]) -> None:
         """Writes the haul of a set of soups to a file. The set must be small enough for one call.
         The program's progress line is shown on a terminal."""
-        words = list_take_arguments(job, ranges, workers, self.terminal.is_interactive())
+        words = list_take_arguments(job, ranges, self.workers, self.terminal.is_interactive())
         with start_child([self.path, *words], subprocess.PIPE, subprocess.PIPE) as program:
             # mutant: equal because both streams exist
             assert program.stdout and program.stderr

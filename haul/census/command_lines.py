@@ -12,6 +12,8 @@ from haul.patterns.rules import LIFE
 
 # The most soups that `census` takes in one call.
 NUMBERS_IN_A_CALL = 2**24
+# The most workers of one call.
+WORKERS_OF_A_CALL = 16
 # The most ranges in one call: on Linux an argument has at most 131,071 bytes, and a range takes at
 # most 23, with its comma.
 RANGES_IN_A_CALL = 2000
@@ -26,8 +28,8 @@ def list_take_arguments(
 ) -> list[str]:
     """Returns the arguments for taking a set of soups that is small enough for one call. If `late`
     is given, the call also writes the report lines of soups that settle in that generation or
-    later, and of unsettled soups."""
-    options = [f"--workers={workers}"]
+    later, and of unsettled soups. More than `WORKERS_OF_A_CALL` workers count as that many."""
+    options = [f"--workers={min(workers, WORKERS_OF_A_CALL)}"]
     options += ["--progress"] if has_progress else []
     options += [f"--report-from={late}"] if late is not None else []
     return ["take", *list_set_options(job, ranges), *options]
@@ -99,14 +101,19 @@ def split_ranges(ranges: list[Range], numbers: int = NUMBERS_IN_A_CALL) -> Itera
 def format_find_command(job: Job, soup: int) -> str:
     """Returns the command that runs the soup of a find and names what it leaves. If the profile
     isn't the standard one, the command has the whole profile."""
-    # A value that begins with a hyphen has to be attached to its option.
-    seed = ["--seed", job.seed] if not job.seed.startswith("-") else [f"--seed={job.seed}"]
     profile: list[str] = []
     if job.profile != STANDARD:
         for option, number in job.profile.list_options():
             profile += [option, str(number)]
-    print_soup = shlex.join(["census", "soup", *seed, str(soup)])
-    return f"{print_soup} | {shlex.join(['census', 'name', '--rule', job.rule, *profile])}"
+    name = shlex.join(["census", "name", "--rule", job.rule, *profile])
+    return f"{format_soup_command(job, soup)} | {name}"
+
+
+def format_soup_command(job: Job, soup: int) -> str:
+    """Returns the command that prints a soup."""
+    # A value that begins with a hyphen has to be attached to its option.
+    seed = ["--seed", job.seed] if not job.seed.startswith("-") else [f"--seed={job.seed}"]
+    return shlex.join(["census", "soup", *seed, str(soup)])
 
 
 def format_soup_commands(job: Job) -> tuple[str, str]:

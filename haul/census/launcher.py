@@ -1,16 +1,18 @@
 """Starts a program that ends when `haul` ends, even if `haul` is killed. This is a tiny program of
 its own, whose text `haul` passes to Python.
 
-usage: python3 -I -S -c TEXT HOW PARENT PROGRAM [ARGUMENT ..]
+usage: python3 -I -S -c TEXT HOW PARENT MEMORY PROGRAM [ARGUMENT ..]
 
-The launcher runs in its own session. PARENT is the process that started it. HOW is one of:
+The launcher runs in its own session. PARENT is the process that started it. PROGRAM gets at most
+MEMORY bytes of memory, or any number if MEMORY is 0. HOW is one of:
 
     census    runs PROGRAM, and ends in the same way
     find      runs PROGRAM with standard input and output closed, and prints `done` or what went
               wrong
 
 When PROGRAM or `haul` ends, all processes that PROGRAM has started are killed, even those in
-sessions of their own.
+sessions of their own. It doesn't matter how `haul` ends, or whether PROGRAM has stopped the
+launcher.
 """
 
 from __future__ import annotations
@@ -33,6 +35,9 @@ NOT_THERE = (
     "Permission denied",
     "Operation not permitted",
     "Exec format error",
+    "Too many levels of symbolic links",
+    "File name too long",
+    "Invalid argument",
 )
 # mutant: equal because `haul` passes on only the statuses 2 to 5, and otherwise ends with 5
 USAGE, FAILED = 2, 5
@@ -66,8 +71,8 @@ def call_prctl(option: int, value: int) -> None:
     ctypes.CDLL(None).prctl(option, value)
 
 
-def run_census(parent: int, words: list[str]) -> None:
-    ended, why = run_program(parent, words, closes_streams=False)
+def run_census(parent: int, memory: int, words: list[str]) -> None:
+    ended, why = run_program(parent, memory, words, closes_streams=False)
     if why:
         name = os.fsencode(words[0])
         is_missing = why in NOT_THERE
@@ -86,29 +91,42 @@ def run_census(parent: int, words: list[str]) -> None:
     os._exit(ended)
 
 
-def run_find(parent: int, words: list[str]) -> None:
-    ended, why = run_program(parent, words, closes_streams=True)
+def run_find(parent: int, memory: int, words: list[str]) -> None:
+    ended, why = run_program(parent, memory, words, closes_streams=True)
     print(why or how_ended(ended), flush=True)
     end_session()
 
 
-def run_program(parent: int, words: list[str], closes_streams: bool) -> tuple[int, str]:
+def run_program(
+    parent: int, memory: int, words: list[str], closes_streams: bool
+) -> tuple[int, str]:
     """Runs a program to its end, then ends all processes that it has left, even those in sessions
     of their own. Returns the program's exit status (below 0 for a signal), and the reason if it
     can't be started. If the parent ends, or if this process receives SIGTERM, kills the program,
     the processes that it has started, and this process."""
     import _signal
 
+    def end_as_orphan(_number: int, _frame: object) -> None:
+        if os.getppid() != parent:
+            end_session()
+
     # Orphaned processes of the program become children of this one.
     call_prctl(PR_SET_CHILD_SUBREAPER, 1)
     _signal.signal(_signal.SIGTERM, lambda _number, _frame: end_session())
-    end_with(parent, _signal.SIGTERM)
+    # SIGCONT also reaches this process if the program has stopped it.
+    _signal.signal(_signal.SIGCONT, end_as_orphan)
+    end_with(parent, _signal.SIGCONT)
     itself = os.getpid()
     # This pipe is closed when the program starts. If it can't start, the reason is written first.
     reason, writing = os.pipe()
     program = os.fork()
     if program == 0:
-        _signal.signal(_signal.SIGTERM, _signal.SIG_DFL)
+        for number in (_signal.SIGTERM, _signal.SIGCONT):
+            _signal.signal(number, _signal.SIG_DFL)
+        if memory:
+            import resource
+
+            resource.setrlimit(resource.RLIMIT_AS, (memory, memory))
         become(itself, writing, words, closes_streams)
     os.close(writing)
     with open(reason, encoding="utf-8") as pipe:
@@ -149,7 +167,7 @@ def end_session() -> None:
 def end_descendants() -> None:
     """Kills all children, and descendants that become children when their parents are killed, until
     none is left."""
-    while True:
+    while has_children():
         for child in list_children():
             try:
                 os.kill(child, SIGKILL)
@@ -159,6 +177,16 @@ def end_descendants() -> None:
             os.waitpid(-1, 0)
         except ChildProcessError:
             return
+
+
+def has_children() -> bool:
+    """Checks whether there is a child that is running. Waits for those that have ended."""
+    try:
+        while os.waitpid(-1, os.WNOHANG)[0]:
+            pass
+    except ChildProcessError:
+        return False
+    return True
 
 
 def list_children() -> list[int]:
@@ -184,4 +212,5 @@ def how_ended(status: int) -> str:
 
 if __name__ == "__main__":
     drop_interrupts()
-    (run_find if sys.argv[1] == "find" else run_census)(int(sys.argv[2]), sys.argv[3:])
+    run = run_find if sys.argv[1] == "find" else run_census
+    run(int(sys.argv[2]), int(sys.argv[3]), sys.argv[4:])

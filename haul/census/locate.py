@@ -9,7 +9,6 @@ import sys
 from pathlib import Path
 
 from haul.census.children import NoCensus, start_child
-from haul.census.starters import LAUNCH_CENSUS
 
 # A release has several census programs, each for a level of x86-64 processors. This shell script
 # prints the path of the program that fits this processor.
@@ -30,10 +29,8 @@ def find_beside() -> str | None:
         return choose_for_processor(starter, top / "libexec" / "gokzerd")
     if not (starter.parent / "built.bash").is_file():
         return str(starter)
-    # bin/census builds the program if necessary. If this process ends, `launcher.py` ends the
-    # build.
-    words = [str(starter), "--version"]
-    with start_child(words, subprocess.DEVNULL, None, apart=LAUNCH_CENSUS) as launcher:
+    # bin/census builds the program if necessary.
+    with start_child([str(starter), "--version"], subprocess.DEVNULL, None) as launcher:
         launcher.wait()
     if launcher.returncode != 0:
         raise NoCensus.at(str(starter))

@@ -19,9 +19,11 @@ def read_launcher() -> str:
     return files("haul.census").joinpath("launcher.py").read_text("utf-8")
 
 
-def list_starter_words(how: str) -> list[str]:
+def list_starter_words(how: str, most_memory: int | None = None) -> list[str]:
     """Returns the words with which the command line of `launcher.py` begins. The words of the
-    program to start must follow."""
+    program to start must follow. The program gets at most `most_memory` bytes of memory, or any
+    number if that is `None`."""
     # Without a PATH, `sys.executable` may be empty.
     python = sys.executable or os.readlink("/proc/self/exe")
-    return [python, "-I", "-S", "-c", read_launcher(), how, str(os.getpid())]
+    memory = str(most_memory or 0)
+    return [python, "-I", "-S", "-c", read_launcher(), how, str(os.getpid()), memory]

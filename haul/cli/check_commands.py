@@ -3,21 +3,34 @@
 from __future__ import annotations
 
 import argparse
+import time
 from collections.abc import Iterator
+from itertools import islice
 
 from haul.census.client import Census
 from haul.cli.statuses import DONE, NOT_RIGHT, REFUSED, USAGE
 from haul.cli.streams import Refused, Streams, format_place
 from haul.formats.field_reader import BadHaul
-from haul.formats.haul import Haul, Range
-from haul.formats.index import Index, compute_digest, format_index, is_index, name_part, read_index
+from haul.formats.haul import Haul, Job, Range
+from haul.formats.index import Index, compute_digest, format_index, is_index, name_piece, read_index
 from haul.hauls.apgsearch_check import ApgsearchCheck, CantCheck
-from haul.hauls.check import find_wrong_samples, list_differences, retake
+from haul.hauls.check import (
+    count_right_rows,
+    count_samples,
+    find_wrong_samples,
+    list_differences,
+    resembles_nothing,
+    retake,
+)
 from haul.hauls.file_choice import FileChoice
 from haul.hauls.indexing import CantIndex, Indexing
+from haul.plurals import write_count
+from haul.terminal import escape_controls
 
 
 RIGHT = "right"
+# The most differences that are listed.
+MOST_LINES = 20
 
 
 def run_check(asked: argparse.Namespace, streams: Streams) -> int:
@@ -45,7 +58,8 @@ def check_one_file(asked: argparse.Namespace, streams: Streams, name: str) -> in
         place = format_place(name)
         streams.terminal.complain(str(why) if str(why).startswith(place) else f"{place}{why}")
         return REFUSED
-    streams.write_lines(f"{name}: {line}" for line in lines)
+    # The name of a file can't end a line, or a file could forge the line of another.
+    streams.write_lines(f"{escape_controls(name)}: {line}" for line in lines)
     streams.stdout.flush()
     return DONE if lines == [RIGHT] else NOT_RIGHT
 
@@ -63,17 +77,50 @@ def check_haul(asked: argparse.Namespace, streams: Streams, name: str | None) ->
         return check_apgsearch_haul(asked, streams, haul, name)
     if asked.totals:
         raise Refused(f"{format_place(name)}--totals is for hauls of apgsearch")
-    census = Census(asked.census, streams.terminal)
+    census = Census(asked.census, streams.terminal, asked.workers)
+    began = time.monotonic()
     if asked.samples:
-        wrong = list(find_wrong_samples(census, haul))
+        wrong = shorten(find_wrong_samples(census, haul))
+        soups = write_count(count_samples(haul), "sample soup")
     elif haul.soups != haul.size():
         raise Refused(
             f"{format_place(name)}haul with missing soups, which can't be taken again; --samples "
             "runs its sample soups"
         )
     else:
-        wrong = list(list_differences(haul, retake(census, haul, asked.workers)))
+        wrong = shorten(list_all_differences(haul, retake(census, haul)))
+        soups = describe_soups(haul)
+    streams.terminal.complain(f"{format_place(name)}{describe_run(soups, haul.job, began)}")
     return wrong or [RIGHT]
+
+
+def describe_soups(haul: Haul) -> str:
+    ranges = write_count(len(haul.ranges), "range")
+    return f"{write_count(haul.size(), 'soup')} in {ranges}"
+
+
+def describe_run(soups: str, job: Job, began: float) -> str:
+    """Returns what was run under which rule, and how many seconds that took. `began` is when it
+    began, in seconds."""
+    return f"{soups} run under {job.rule} in {time.monotonic() - began:.1f} s"
+
+
+def list_all_differences(haul: Haul, right: Haul) -> Iterator[str]:
+    """Yields the differences. If nothing resembles the right haul, a line before them says so."""
+    if resembles_nothing(haul, right):
+        yield (
+            f"nothing here resembles a census of these soups of the seed '{haul.job.seed}': "
+            f"{count_right_rows(haul, right)} of {write_count(len(haul.samples), 'row')} of samples "
+            "are right"
+        )
+    yield from list_differences(haul, right)
+
+
+def shorten(lines: Iterator[str]) -> list[str]:
+    """Returns the first `MOST_LINES` lines. If there are more, the last line says how many."""
+    first = list(islice(lines, MOST_LINES))
+    more = sum(1 for _ in lines)
+    return first + ([f".. and {write_count(more, 'more difference')}"] if more else [])
 
 
 def check_apgsearch_haul(
@@ -87,14 +134,14 @@ def check_apgsearch_haul(
             "sample soups, and --totals takes a census of as many soups"
         )
     try:
-        check = ApgsearchCheck(Census(asked.census, streams.terminal), haul)
+        check = ApgsearchCheck(Census(asked.census, streams.terminal, asked.workers), haul)
         if asked.totals:
-            return list(check.find_other_totals(asked.first or 0, asked.workers)) or [RIGHT]
+            return shorten(check.find_other_totals(asked.first or 0)) or [RIGHT]
         for reason, codes in check.list_unchecked().items():
             streams.terminal.complain(
                 f"{format_place(name)}not checked, since {reason}: {' '.join(codes)}"
             )
-        return list(check.find_wrong_samples()) or [RIGHT]
+        return shorten(check.find_wrong_samples()) or [RIGHT]
     except CantCheck as why:
         raise Refused(f"{format_place(name)}{why}") from None
 
@@ -111,7 +158,7 @@ def run_index(asked: argparse.Namespace, streams: Streams) -> int:
 
 
 def run_index_check(asked: argparse.Namespace, streams: Streams) -> int:
-    """Checks the parts of an index. If hauls are given after the index, checks their digests
+    """Checks the pieces of an index. If hauls are given after the index, checks their digests
     instead."""
     name, *hauls = asked.files
     with streams.open_input(name) as stream:
@@ -122,46 +169,50 @@ def run_index_check(asked: argparse.Namespace, streams: Streams) -> int:
     if hauls:
         # All hauls are read before the first line is printed.
         return report(list(compare_hauls(streams, index, hauls)), streams)
-    parts = list(index.parts)
+    pieces = list(index.pieces)
     if asked.random is not None:
-        if asked.random > len(parts):
-            streams.terminal.complain(f"--random {asked.random} is more than there are parts")
+        if asked.random > len(pieces):
+            streams.terminal.complain(f"--random {asked.random} is more than there are pieces")
             return USAGE
-        choice = FileChoice(list(map(name_part, parts)), asked.random, asked.choice, "part")
+        choice = FileChoice(list(map(name_piece, pieces)), asked.random, asked.choice, "piece")
         streams.write_lines([choice.text()])
         streams.stdout.flush()
         chosen = set(choice.choose())
-        parts = [part for part in parts if name_part(part) in chosen]
-    return report(retake_parts(asked, streams, index, parts), streams)
+        pieces = [piece for piece in pieces if name_piece(piece) in chosen]
+    return report(retake_pieces(asked, streams, index, pieces), streams)
 
 
 def report(found: Iterator[tuple[Range, bool]] | list[tuple[Range, bool]], streams: Streams) -> int:
-    """Writes a line for each part as soon as it has been checked, and returns the status."""
+    """Writes a line for each piece as soon as it has been checked, and returns the status."""
     status = DONE
-    for part, is_right in found:
-        streams.write_lines([f"{name_part(part)}: {'right' if is_right else 'other digest'}"])
+    for piece, is_right in found:
+        streams.write_lines([f"{name_piece(piece)}: {'right' if is_right else 'other digest'}"])
         streams.stdout.flush()
         status = status if is_right else NOT_RIGHT
     return status
 
 
 def compare_hauls(streams: Streams, index: Index, names: list[str]) -> Iterator[tuple[Range, bool]]:
-    """Yields, for each haul, its part of the index, and whether its digest is the one in the
+    """Yields, for each haul, its piece of the index, and whether its digest is the one in the
     index."""
     for name in names:
         haul = streams.read_haul(name)
-        if haul.job != index.job or len(haul.ranges) != 1 or haul.ranges[0] not in index.parts:
-            raise Refused(f"{format_place(name)}no part of the index")
-        part = haul.ranges[0]
-        yield part, compute_digest(haul) == index.parts[part]
+        if haul.job != index.job or len(haul.ranges) != 1 or haul.ranges[0] not in index.pieces:
+            raise Refused(f"{format_place(name)}no piece of the index")
+        piece = haul.ranges[0]
+        yield piece, compute_digest(haul) == index.pieces[piece]
 
 
-def retake_parts(
-    asked: argparse.Namespace, streams: Streams, index: Index, parts: list[Range]
+def retake_pieces(
+    asked: argparse.Namespace, streams: Streams, index: Index, pieces: list[Range]
 ) -> Iterator[tuple[Range, bool]]:
-    """Takes the census of each part again. Yields the part, and whether the digest of the new haul
+    """Takes the census of each piece again. Yields the piece, and whether the digest of the new haul
     is the one in the index."""
-    census = Census(asked.census, streams.terminal)
-    for part in parts:
-        right = retake(census, Haul(index.job, ranges=[part]), asked.workers)
-        yield part, compute_digest(right) == index.parts[part]
+    census = Census(asked.census, streams.terminal, asked.workers)
+    for piece in pieces:
+        began = time.monotonic()
+        right = retake(census, Haul(index.job, ranges=[piece]))
+        streams.terminal.complain(
+            f"{name_piece(piece)}: {describe_run(describe_soups(right), index.job, began)}"
+        )
+        yield piece, compute_digest(right) == index.pieces[piece]

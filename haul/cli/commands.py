@@ -4,37 +4,33 @@ from __future__ import annotations
 
 import argparse
 from contextlib import suppress
-from itertools import chain
 
 from haul.census.children import children
 from haul.census.client import Census
-from haul.cli.statuses import DONE
+from haul.cli.late_files import read_late_soups, warn_of_lost_lines
+from haul.cli.statuses import DONE, USAGE
 from haul.cli.streams import Refused, Streams, format_place
+from haul.cli.values import describe_unknown, find_code
 from haul.fates.explain import TooLate
 from haul.formats.field_reader import BadHaul
 from haul.formats.haul import Haul
 from haul.formats.haul_reader import read_hauls
 from haul.formats.haul_writer import format_haul
-from haul.formats.recognition import describe_other_form
 from haul.formats.report_files import Reports
 from haul.hauls.by_parts import Objects
 from haul.hauls.join import CantJoin, Joining
 from haul.life.generations import read_rule
 from haul.life.parts import Separator
-from haul.names.objects import load_names
+from haul.names.objects import find_code_of_name, load_names
 from haul.page.document import make_page
 from haul.page.lives import Lives, find_lives
 from haul.patterns.rules import LIFE
 from haul.rarity.reference import is_covered
 from haul.search.batches import Plan
-from haul.search.companion import Companion
-from haul.search.job import Disagrees, USUAL_RARER, begin_haul, find_next_soup, refuse_other_jobs
-from haul.search.keeper import CantKeep, Keeper
-from haul.search.late_file import BadLate, read_late
-from haul.search.late_soups import open_late
-from haul.search.search import Dropped, Kept, Search, count_processors
+from haul.search.resume import Disagrees, USUAL_RARER, find_next_soup, open_files
+from haul.search.haul_file import CantUseFile
+from haul.search.search import Dropped, Search
 from haul.search.stopping import Stopping
-from haul.search.untold import is_in, open_untold
 from haul.terminal import Terminal, find_output_width
 from haul.views.compare import Comparison, rank_codes
 from haul.views.rarity import describe_rarity
@@ -129,34 +125,29 @@ def run_table(asked: argparse.Namespace, streams: Streams) -> int:
 
 def run_rarity(asked: argparse.Namespace, streams: Streams) -> int:
     separator = Separator(read_rule(LIFE))
-    lines = [line for code in asked.objects for line in describe_rarity(separator, code)]
-    streams.write_lines(lines)
-    return DONE
+    status = DONE
+    for text in asked.objects:
+        code = find_code_of_name(text) or find_code(text)
+        if code is None:
+            streams.terminal.complain(describe_unknown(text))
+            status = USAGE
+        else:
+            streams.write_lines(describe_rarity(separator, code))
+    return status
 
 
 def run_page(asked: argparse.Namespace, streams: Streams) -> int:
     hauls = [streams.read_haul(name) for name in asked.files or [None]]
-    census = Census(asked.census, streams.terminal)
+    census = Census(asked.census, streams.terminal, asked.workers)
     lives = None if asked.lives is None else read_lives(asked.lives, streams, census, hauls[0])
     streams.stdout.writelines(make_page(census, hauls, asked.least, asked.play, lives=lives))
     return DONE
 
 
 def read_lives(name: str, streams: Streams, census: Census, haul: Haul) -> Lives:
-    """Reads a file of late soups, and returns what a page shows about them. Soups that aren't in
-    the haul are left out."""
+    """Reads a file of late soups, and returns what a page shows about them."""
     try:
-        with streams.open_input(name) as stream:
-            first = stream.readline()
-            late, job = read_late(chain([first] if first else [], stream))
-    except BadLate as bad:
-        other = describe_other_form(first, "late")
-        raise Refused(f"{format_place(name)}{bad}{other}") from None
-    if job not in (None, haul.job):
-        raise Refused(f"{format_place(name)}other job")
-    late.lines = [line for line in late.lines if is_in(line.soup, haul.ranges)]
-    try:
-        lives, wrong = find_lives(census, haul, late)
+        lives, wrong = find_lives(census, haul, read_late_soups(name, streams, haul))
     except TooLate as why:
         raise Refused(str(why)) from None
     for line in wrong:
@@ -171,6 +162,7 @@ def run_soups(asked: argparse.Namespace, streams: Streams) -> int:
         choose_soup_list(asked, streams.terminal),
     )
     for name in asked.files or [None]:
+        warn_of_lost_lines(name, streams)
         for report in streams.read_reports(reports, name):
             settling.add(report)
             soups.add(report)
@@ -188,49 +180,37 @@ def run_soups(asked: argparse.Namespace, streams: Streams) -> int:
 def choose_soup_list(asked: argparse.Namespace, terminal: Terminal) -> SoupList:
     """Returns the list of soups that the arguments ask for."""
     if asked.longest is not None:
-        return Longest(asked.longest, Census(asked.census, terminal) if asked.exact else None)
+        return Longest(
+            asked.longest, Census(asked.census, terminal, asked.workers) if asked.exact else None
+        )
     if asked.unsettled:
-        return Unsettled(Census(asked.census, terminal), asked.why)
+        return Unsettled(Census(asked.census, terminal, asked.workers), asked.why)
     return Leaving(asked.code) if asked.code is not None else SoupList()
-
-
-def open_files(asked: argparse.Namespace, terminal: Terminal) -> Kept:
-    """Locks and reads the files of a search."""
-    keeper = Keeper(asked.file)
-    haul = keeper.read()
-    if haul is None:
-        haul = begin_haul(asked)
-    refuse_other_jobs(asked, haul)
-    late_file, finds_file = (
-        Companion(keeper.path, keeper.name, suffix, terminal.complain, is_always_there)
-        for suffix, is_always_there in (("late", True), ("finds", False))
-    )
-    late = open_late(asked, haul, find_next_soup(asked, haul), late_file)
-    return Kept(keeper, haul, late_file, late, finds_file, open_untold(haul, finds_file))
 
 
 def run_search(asked: argparse.Namespace, streams: Streams) -> int:
     try:
-        kept = open_files(asked, streams.terminal)
+        files = open_files(asked, streams.terminal.complain)
         # The names are loaded now, since the file of this program may be replaced while the search
         # is running.
         load_names()
+        census = Census(asked.census, streams.terminal, asked.workers)
         plan = Plan(
-            find_next_soup(asked, kept.haul),
+            find_next_soup(asked, files.haul),
             asked.until,
-            asked.part,
-            asked.workers or count_processors(),
+            asked.batch,
+            census.workers,
             asked.finds,
             USUAL_RARER if asked.rarer is None else asked.rarer,
-            None if kept.late is None else kept.late.generation,
-            kept.haul.job.rule == LIFE or asked.late is not None,
+            None if files.late is None else files.late.generation,
+            files.haul.job.rule == LIFE or asked.late is not None,
+            asked.soup_seconds,
         )
         stopping = Stopping()
-        census = Census(asked.census, streams.terminal)
-        search = Search(plan, kept, census, stopping, streams.stdout)
+        search = Search(plan, files, census, stopping, streams.stdout)
         children.heed(stopping)
         with suppress(Dropped):
             search.run()
-    except (CantKeep, Disagrees, CantJoin) as why:
+    except (CantUseFile, Disagrees, CantJoin) as why:
         raise Refused(str(why)) from None
     return DONE

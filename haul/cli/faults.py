@@ -33,12 +33,8 @@ def find_fault_of_index_check(asked: argparse.Namespace) -> str | None:
         option = "--samples" if asked.samples else "--totals"
         return f"{option} needs hauls, and {asked.files[0]} is an index, which has no samples"
     if asked.random is not None and len(asked.files) > 1:
-        return "--random draws parts of the index, so no haul can be given beside it"
+        return "--random draws pieces of the index, so no haul can be given beside it"
     return None
-
-
-def find_fault_of_counting(asked: argparse.Namespace) -> str | None:
-    return "--parts doesn't go with --whole" if asked.parts and asked.whole else None
 
 
 def find_fault_of_page(asked: argparse.Namespace) -> str | None:

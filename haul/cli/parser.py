@@ -19,16 +19,16 @@ examples:
   haul search mine.haul                           run soups until Ctrl-C, and keep their haul
   census take --count 400 | haul check            is this haul right?
   haul check --samples rare.haul                  do the sample soups leave their objects?
-  haul check reference/index --random 2           are two parts of the reference census right?
-  haul index parts/*.haul > index                 an index, by which others can check a census
-  haul join parts/*.haul > all.haul               one haul from the hauls of all parts of a census
+  haul check reference/index --random 2           are two pieces of the reference census right?
+  haul index pieces/*.haul > index                an index, by which others can check a census
+  haul join pieces/*.haul > all.haul              one haul from the hauls of all pieces of a census
   haul compare life.haul highlife.haul            two hauls side by side
   haul table --strict --rare all.haul             the rarest objects of a haul
   haul rarity loafer block                        how rare are they?
   haul page < all.haul > all.html                 a page with a picture of each object
   haul page life.haul highlife.haul > both.html   a page of two hauls side by side
   haul soup C1/k_abcdef12345 | census name        what a soup of Catagolue leaves
-  haul soups --longest 10 parts/*.lines           the soups in report lines that settled last
+  haul soups --longest 10 pieces/*.lines          the soups in report lines that settled last
   haul why --most 5 mine.haul.late                why are these soups unsettled?
   haul cells gun.rle | census run 30              run a pattern in RLE for 30 generations
   census show xq4_153 | haul rle                  draw an object in RLE for Golly
@@ -37,6 +37,10 @@ examples:
 
 exit status: 0 done, 2 usage, 3 a text is refused, 4 out of memory, 5 a read or write failed, 7 a haul isn't right
 """
+
+
+# Options that had other names in earlier states of the program.
+RENAMED = {"--part": "the number of soups in a batch is --batch"}
 
 
 def parse_arguments(words: list[str]) -> argparse.Namespace:
@@ -53,7 +57,15 @@ class Parser(argparse.ArgumentParser):
     """A parser that escapes control characters of the arguments in its error messages."""
 
     def error(self, message: str) -> NoReturn:
-        super().error(escape_controls(message))
+        super().error(escape_controls(message + describe_renamed(message)))
+
+
+def describe_renamed(message: str) -> str:
+    """Returns what to use instead of an option that `message` doesn't know, if it had this name
+    once. Returns an empty text otherwise."""
+    unknown = message.partition("unrecognized arguments: ")[2].split()
+    new = next((RENAMED[word] for one in unknown if (word := one.split("=")[0]) in RENAMED), None)
+    return f"; {new}" if new else ""
 
 
 def make_parser() -> Parser:

@@ -2,8 +2,9 @@
 
 from __future__ import annotations
 
+from haul.census.client import MOST_WORKERS
 from haul.cli.arguments import Argument, Exclusive, flag, option
-from haul.cli.values import read_as_census, read_path
+from haul.cli.values import read_as_census, read_path, read_within
 from haul.formats.profile import LIMIT, MOST_HORIZON, PERIOD, STANDARD, STRIDE, Profile
 
 CENSUS = option(
@@ -13,6 +14,12 @@ CENSUS = option(
     read_path,
 )
 PLANE = flag("--plane", "read RLE with a rule on a bounded grid as a pattern on the plane")
+WORKERS = option(
+    "--workers",
+    "W",
+    f"run soups with W workers, 1 to {MOST_WORKERS} (default: one per processor)",
+    read_within(1, MOST_WORKERS),
+)
 FORMS = Exclusive(
     (
         flag("--csv", "print comma-separated values, for a spreadsheet"),
@@ -24,12 +31,16 @@ FORMS = Exclusive(
 def list_profile_options(before: str) -> tuple[Argument, ...]:
     """Returns the options for the four numbers of a profile. The help of each option begins with
     `before` and the name of the number."""
+
+    def describe_least(name: str, least: int) -> str:
+        return "from the period" if name == "horizon" else str(least)
+
     ranges = (PERIOD, (0, MOST_HORIZON), STRIDE, LIMIT)
     return tuple(
         option(
             f"--{name}",
             "N",
-            f"{before} {name}, {least} to {most} (default: {standard})",
+            f"{before} {name}, {describe_least(name, least)} to {most} (default: {standard})",
             read_as_census(least, most),
         )
         for name, (least, most), standard in zip(Profile._fields, ranges, STANDARD, strict=True)

@@ -3,15 +3,19 @@
 from __future__ import annotations
 
 import argparse
+import re
 from collections.abc import Callable
 
 from haul.formats.haul import NUMBER_LIMIT
 from haul.patterns.rules import parse_rule
-from haul.search.late_file import ONLY_UNSETTLED
+from haul.formats.late_file import ONLY_UNSETTLED
 from haul.formats.syntax import CODE, RULE, SEED
-from haul.names.objects import find_code_of_name
-from haul.search.batches import MOST_WORKERS
+from haul.names.objects import find_code_of_name, find_near_names
 from haul.search.late_soups import NEVER
+
+
+# Codes of apgsearch with other characters than those of `census`.
+OF_APGSEARCH = re.compile("zz_[A-Z0-9_]{1,40}|PATHOLOGICAL")
 
 
 def read_path(text: str) -> str:
@@ -24,16 +28,6 @@ def read_word(text: str) -> str:
     if not text or not text.isprintable():
         raise argparse.ArgumentTypeError("no choice")
     return text
-
-
-def read_many_workers(text: str) -> int:
-    return read_within(1, MOST_WORKERS)(text)
-
-
-def read_workers(text: str) -> int:
-    if not (text.isascii() and text.isdigit() and 1 <= int(text) <= 16):
-        raise argparse.ArgumentTypeError(f"{text} is not in 1 to 16")
-    return int(text)
 
 
 def read_late(text: str) -> int:
@@ -99,16 +93,32 @@ def read_kinds(text: str) -> str:
     return text
 
 
+def read_object(text: str) -> str:
+    """Reads the code or the name of an object, without looking it up."""
+    if not text:
+        raise argparse.ArgumentTypeError("an empty name")
+    return text
+
+
 def read_code(text: str) -> str:
     """Reads a code or the name of an object, and returns the code."""
-    code = find_code_of_name(text)
-    if code is not None:
-        return code
-    if not CODE.fullmatch(text.encode("utf-8", "surrogateescape")) or "_" not in text:
-        raise argparse.ArgumentTypeError(
-            f"{text} is neither a code such as xs4_33 nor a known name"
-        )
-    return text
+    code = find_code_of_name(text) or find_code(text)
+    if code is None:
+        raise argparse.ArgumentTypeError(describe_unknown(text))
+    return code
+
+
+def find_code(text: str) -> str | None:
+    """Returns a text that has the form of a code, or `None` if it has another form."""
+    is_code = CODE.fullmatch(text.encode("utf-8", "surrogateescape")) and "_" in text
+    return text if is_code or OF_APGSEARCH.fullmatch(text) else None
+
+
+def describe_unknown(text: str) -> str:
+    """Says that a text is neither a code nor a name, and which names look like it."""
+    near = find_near_names(text)
+    meant = f"; did you mean {' or '.join(near)}?" if near else ""
+    return f"{text} is neither a code such as xs4_33 nor a known name{meant}"
 
 
 class RuleValue(str):

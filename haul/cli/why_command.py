@@ -9,7 +9,8 @@ from haul.census.bounded import SOUP_SECONDS
 from haul.census.client import Census
 from haul.cli.arguments import Argument, Command, option
 from haul.cli.faults import find_fault_of_why
-from haul.cli.shared_options import CENSUS, FORMS, PLANE, list_profile_options
+from haul.cli.late_files import warn_of_lost_lines
+from haul.cli.shared_options import CENSUS, FORMS, PLANE, WORKERS, list_profile_options
 from haul.cli.statuses import DONE
 from haul.cli.streams import Refused, Streams, format_place
 from haul.cli.values import (
@@ -39,7 +40,7 @@ MOST_SECONDS = 86_400
 
 
 def run_why(asked: argparse.Namespace, streams: Streams) -> int:
-    census = Census(asked.census, streams.terminal)
+    census = Census(asked.census, streams.terminal, asked.workers)
     try:
         table = (
             explain_pattern(asked, streams, census)
@@ -63,6 +64,7 @@ def explain_soups(asked: argparse.Namespace, census: Census) -> FateTable:
 def explain_file(asked: argparse.Namespace, streams: Streams, census: Census) -> FateTable:
     """Explains the unsettled soups with the lowest numbers in a file of report lines."""
     (name,) = asked.soups
+    warn_of_lost_lines(name, streams)
     reports = Reports(streams.terminal)
     unsettled = [
         report.soup for report in streams.read_reports(reports, name) if report.settled is None
@@ -160,6 +162,7 @@ WHY = Command(
             SOUP_SECONDS,
         ),
         FORMS,
+        WORKERS,
         CENSUS,
         Argument(
             "soups",

@@ -1,5 +1,5 @@
-"""Indexes: the parts of a census, each with the SHA-256 of its haul, so that anyone can check some
-of the parts."""
+"""Indexes: the pieces of a census, each with the SHA-256 of its haul, so that anyone can check some
+of the pieces."""
 
 from __future__ import annotations
 
@@ -17,15 +17,15 @@ from haul.formats.haul_writer import format_haul, format_job
 
 BEGINNING = b"@INDEX"
 DIGEST = re.compile(rb"[0-9a-f]{64}")
-PARTS_DESCEND = "the parts are not in ascending order, or share a soup"
+PIECES_DESCEND = "the pieces are not in ascending order, or share a soup"
 
 
 @dataclass
 class Index:
-    """The parts of a census in ascending order, each with the SHA-256 of its haul text."""
+    """The pieces of a census in ascending order, each with the SHA-256 of its haul text."""
 
     job: Job
-    parts: dict[Range, str]
+    pieces: dict[Range, str]
 
 
 def is_index(path: str) -> bool:
@@ -36,8 +36,8 @@ def is_index(path: str) -> bool:
         return file.read(len(BEGINNING)) == BEGINNING
 
 
-def name_part(part: Range) -> str:
-    return f"{part[0]}+{part[1]}"
+def name_piece(piece: Range) -> str:
+    return f"{piece[0]}+{piece[1]}"
 
 
 def compute_digest(haul: Haul) -> str:
@@ -51,7 +51,7 @@ def compute_digest(haul: Haul) -> str:
 def format_index(index: Index) -> Iterator[str]:
     """Yields the lines of an index, without their line feeds."""
     yield from ["@INDEX 1", *format_job(index.job), ""]
-    for (first, count), digest in index.parts.items():
+    for (first, count), digest in index.pieces.items():
         yield f"{first} {count} {digest}"
 
 
@@ -62,20 +62,20 @@ def read_index(stream: IO[bytes]) -> Index:
         lines.only_words(BEGINNING, b"1")
         job = read_job(lines)
         lines.only_words()
-        return Index(job, read_parts(lines))
+        return Index(job, read_pieces(lines))
     except BadHaul as bad:
         raise BadHaul(bad.line, bad.column, bad.why, "index") from None
 
 
-def read_parts(lines: FieldReader) -> dict[Range, str]:
-    """Reads one or more parts, up to the end of the input."""
-    parts: dict[Range, str] = {}
+def read_pieces(lines: FieldReader) -> dict[Range, str]:
+    """Reads one or more pieces, up to the end of the input."""
+    pieces: dict[Range, str] = {}
     least = 0
-    while not parts or lines.peek():
+    while not pieces or lines.peek():
         lines.next_line()
-        first = lines.number_in(least, NUMBER_LIMIT - 1, PARTS_DESCEND, TOO_LARGE)
+        first = lines.number_in(least, NUMBER_LIMIT - 1, PIECES_DESCEND, TOO_LARGE)
         count = lines.number_in(1, NUMBER_LIMIT - first, too_large=TOO_LARGE)
-        parts[first, count] = lines.matched(DIGEST)
+        pieces[first, count] = lines.matched(DIGEST)
         lines.end_line()
         least = first + count
-    return parts
+    return pieces

@@ -71,7 +71,7 @@ class ApgsearchCheck:
         }
         return {reason: codes for reason, codes in reasons.items() if codes}
 
-    def find_other_totals(self, first: int, workers: int) -> Iterator[str]:
+    def find_other_totals(self, first: int) -> Iterator[str]:
         """Takes the census of as many soups as the haul has, from soup `first` on. Yields a message
         for each code whose total by parts differs, with the reason if it is known. Raises
         `CantCheck` if `census` can't run soups with such high numbers."""
@@ -79,7 +79,7 @@ class ApgsearchCheck:
             raise CantCheck("census can't run so many soups")
         job = self.haul.job
         ranges = [(first, self.haul.soups)] if self.haul.soups else []
-        taken = retake(self.census, Haul(job, ranges=ranges), workers)
+        taken = retake(self.census, Haul(job, ranges=ranges))
         here = Objects(taken, self.census.terminal).by_parts().totals
         for code in sorted(self.haul.totals.keys() | here.keys()):
             there = self.haul.totals.get(code, 0)

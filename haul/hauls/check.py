@@ -17,21 +17,23 @@ from haul.hauls.join import Joining
 
 # The most sample soups in one call of `census`. Several calls run at a time.
 SAMPLES_IN_A_CALL = 500
+# With fewer sample rows, a haul with many wrong rows may still be nearly right.
+LEAST_ROWS = 5
 
 
-def retake(census: Census, haul: Haul, workers: int) -> Haul:
+def retake(census: Census, haul: Haul) -> Haul:
     """Takes the census of a haul again on this machine, with the same job and the same set of
     soups, and returns the new haul."""
     joining = Joining()
     for ranges in split_ranges(haul.ranges):
-        joining.add(take_set(census, haul.job, ranges, workers))
+        joining.add(take_set(census, haul.job, ranges))
     return joining.result()
 
 
-def take_set(census: Census, job: Job, ranges: list[Range], workers: int) -> Haul:
+def take_set(census: Census, job: Job, ranges: list[Range]) -> Haul:
     """Returns the haul of a set of soups that is small enough for one call."""
     with tempfile.TemporaryFile() as text:
-        census.take(job, ranges, workers, text)
+        census.take(job, ranges, text)
         text.seek(0)
         try:
             haul = read_one_haul(text)
@@ -65,6 +67,23 @@ def list_differences(haul: Haul, right: Haul) -> Iterator[str]:
             yield describe_difference(
                 line, format_sample_row(code, numbers), format_sample_row(code, right.samples[code])
             )
+
+
+def count_right_rows(haul: Haul, right: Haul) -> int:
+    return sum(right.samples.get(code) == row for code, row in haul.samples.items())
+
+
+def resembles_nothing(haul: Haul, right: Haul) -> bool:
+    """Checks whether fewer than half of several sample rows are right. Then the haul has another
+    seed, another rule or other soups than it says. Rows of frequent objects may still be right,
+    since nearly every soup leaves them."""
+    rows = len(haul.samples)
+    return rows >= LEAST_ROWS and count_right_rows(haul, right) < rows / 2
+
+
+def count_samples(haul: Haul) -> int:
+    """Returns the number of different sample soups."""
+    return len({number for row in haul.samples.values() for number in row})
 
 
 def describe_difference(line: int, is_so: str, should_be: str) -> str:

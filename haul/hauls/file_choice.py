@@ -16,7 +16,7 @@ FILES_FOR_ONE_WRONG = 100
 
 
 class FileChoice:
-    """A choice of `number` files, or of `number` parts of an index: those with the lowest SHA-256
+    """A choice of `number` files, or of `number` pieces of an index: those with the lowest SHA-256
     digests of the text `choice`, a space and the name."""
 
     def __init__(

@@ -1,4 +1,4 @@
-"""Makes the index of a census from the hauls of its parts."""
+"""Makes the index of a census from the hauls of its pieces."""
 
 from __future__ import annotations
 
@@ -15,7 +15,7 @@ class Indexing:
 
     def __init__(self) -> None:
         self.job: Job | None = None
-        self.parts: dict[Range, str] = {}
+        self.pieces: dict[Range, str] = {}
 
     def add(self, haul: Haul) -> None:
         """Adds a haul. Raises `CantIndex` if it has another job than the hauls before it, isn't the
@@ -31,12 +31,12 @@ class Indexing:
         if haul.soups != haul.size():
             raise CantIndex("haul with missing soups")
         self.job = haul.job
-        first, count = part = haul.ranges[0]
-        if any(first < sum(other) and other[0] < first + count for other in self.parts):
+        first, count = piece = haul.ranges[0]
+        if any(first < sum(other) and other[0] < first + count for other in self.pieces):
             raise CantIndex("haul that shares a soup with another one")
-        self.parts[part] = compute_digest(haul)
+        self.pieces[piece] = compute_digest(haul)
 
     def result(self) -> Index:
         """Returns the index of the added hauls. At least one must have been added."""
         assert self.job is not None
-        return Index(self.job, dict(sorted(self.parts.items())))
+        return Index(self.job, dict(sorted(self.pieces.items())))

@@ -6,6 +6,8 @@ a test checks that the object in the picture has the code in names.tsv.
 
 from __future__ import annotations
 
+import difflib
+import re
 from dataclasses import dataclass
 from functools import cache
 from importlib.resources import files
@@ -17,6 +19,10 @@ FILE = "names.tsv"
 HEADS = ["code", "name", "also"]
 # The separator between the names in the column `also`.
 BETWEEN = "; "
+# What doesn't matter in a name. The apostrophe may be a curly one.
+IGNORED = re.compile("[-_ '\u2018\u2019]")
+# How many similar names are suggested, and how similar they have to be, from 0 to 1.
+MOST_NEAR, LEAST_SIMILARITY = 3, 0.75
 
 
 @dataclass(frozen=True)
@@ -64,9 +70,22 @@ def find_other_names(code: str) -> tuple[str, ...]:
 
 def find_code_of_name(name: str) -> str | None:
     """Returns the code of the object with this name, or `None` if there is no such object. Other
-    names and abbreviations count, too. Case, spaces, hyphens and underscores don't matter."""
+    names and abbreviations count, too. Case, spaces, hyphens, underscores and apostrophes don't
+    matter."""
     return load_names().codes.get(simplify(name))
 
 
+def find_near_names(name: str) -> list[str]:
+    """Returns at most `MOST_NEAR` names that look like `name`, the most similar one first."""
+    names = load_names()
+    spelled = {
+        simplify(one): one
+        for code, shown in names.shown.items()
+        for one in (shown, *names.others[code])
+    }
+    near = difflib.get_close_matches(simplify(name), spelled, MOST_NEAR, LEAST_SIMILARITY)
+    return [spelled[one] for one in near]
+
+
 def simplify(name: str) -> str:
-    return name.casefold().replace("-", "").replace("_", "").replace(" ", "")
+    return IGNORED.sub("", name.casefold())

@@ -35,56 +35,69 @@ const valueOf = (object, at) => isCompared ? wayOf(object).rates[at] * PER : Num
 const ranking = () => [...objects.values()].filter(object => !object.isLeftOut[wayName()]).sort((a, b) => byFrequency(a, b) || byCode(a, b));
 // On a linear axis a bar, and on a logarithmic one, where a length means nothing, a dot at its end.
 const barOf = (object, axis, { letter, place: at }) => {
-  const value = valueOf(object, at), width = value ? `max(2px, ${percent(axis.at(value))})` : 0;
-  return `<span class="bar${value ? '' : ' absent'}" data-haul="${letter}" style="width:${width}"></span>`;
+  const value = valueOf(object, at);
+  const width = value ? `max(2px, ${percent(axis.at(value))})` : '0';
+  return element('span', { class: value ? 'bar' : 'bar absent', 'data-haul': letter, style: { width } });
 };
-const barsOf = (object, axis) => {
-  const label = `<span class="label">${escaped(nameOf(object))}</span>`;
-  const track = `<span class="track">${hauls.map(haul => barOf(object, axis, haul)).join('')}</span>`;
+const valueWords = object => {
+  if (!isCompared) return whole(wayOf(object).totals[0]);
   const said = hauls.map(({ letter, place: at }) => `${letter}: ${figure(valueOf(object, at))}`).join(', ');
-  const value = isCompared ? `<span class="value"><span class="hidden">${said}</span></span>` : `<span class="value">${whole(wayOf(object).totals[0])}</span>`;
-  return `<div role="listitem"><a href="${addressOf(object.code)}">${label}${track}${value}</a></div>`;
+  return element('span', { class: 'hidden' }, said);
 };
+const barsOf = (object, axis) => element('div', { role: 'listitem' }, linkTo(object.code, {}, [
+  element('span', { class: 'label' }, nameOf(object)),
+  element('span', { class: 'track' }, hauls.map(haul => barOf(object, axis, haul))),
+  element('span', { class: 'value' }, valueWords(object)),
+]));
 const AXES = [['log', 'logarithmic'], ['linear', 'linear']];
-const axisSwitch = () => {
-  const radios = AXES.map(([value, text]) => {
-    const checked = choice.axis === value ? ' checked' : '';
-    return `<label class="chip"><input type="radio" name="axis" value="${value}" autocomplete="off"${checked}> ${text}</label>`;
-  });
-  return `<fieldset class="axis"><legend class="hidden">Axis</legend>${radios.join('')}</fieldset>`;
+const axisRadio = ([value, text]) => {
+  const radio = { type: 'radio', name: 'axis', value, autocomplete: 'off', checked: choice.axis === value };
+  return element('label', { class: 'chip' }, element('input', radio), ` ${text}`);
 };
+const axisSwitch = () => element('fieldset', { class: 'axis' },
+  element('legend', { class: 'hidden' }, 'Axis'), AXES.map(axisRadio));
+const markOfAxis = (axis, mark) => element('span', { class: 'mark', style: { left: percent(axis.at(mark)) } }, element('span', {}, short(mark)));
 const frequencyChart = ranked => {
-  const shown = ranked.slice(0, MOST_BARS), values = shown.flatMap(object => hauls.map((_, at) => valueOf(object, at)));
+  const shown = ranked.slice(0, MOST_BARS);
+  const values = shown.flatMap(object => hauls.map((_, at) => valueOf(object, at)));
   // Numbers of objects are measured from one object on.
   const axis = choice.axis === 'log' ? logarithmicAxis(isCompared ? values : [1, ...values]) : linearAxis(values);
-  const marks = axis.marks.map(mark => `<span class="mark" style="left:${percent(axis.at(mark))}"><span>${short(mark)}</span></span>`).join('');
-  const head = `The ${shown.length} most frequent ${wayName()}`, things = choice.parts === '1' ? 'Parts' : 'Objects';
+  const things = choice.parts === '1' ? 'Parts' : 'Objects';
   const unit = isCompared ? `${things} per million soups` : `Number of ${wayName()}`;
-  return `<figure><figcaption>${head}${axisSwitch()}</figcaption>`
-    + `<div class="frequencies ${choice.axis}" role="list">${shown.map(object => barsOf(object, axis)).join('')}</div>`
-    + `<div class="marks" aria-hidden="true"><span></span><span class="track">${marks}</span><span class="value"></span></div>`
-    + `<p class="note">${unit}, ${choice.axis === 'log' ? 'logarithmic' : 'linear'} axis.</p></figure>`;
+  return element('figure', {},
+    element('figcaption', {}, `The ${shown.length} most frequent ${wayName()}`, axisSwitch()),
+    element('div', { class: `frequencies ${choice.axis}`, role: 'list' }, shown.map(object => barsOf(object, axis))),
+    element('div', { class: 'marks', 'aria-hidden': 'true' },
+      element('span'),
+      element('span', { class: 'track' }, axis.marks.map(mark => markOfAxis(axis, mark))),
+      element('span', { class: 'value' })),
+    element('p', { class: 'note' }, `${unit}, ${choice.axis === 'log' ? 'logarithmic' : 'linear'} axis.`));
 };
 
 // ---- Rank and frequency
 const plotX = share => PLOT.left + share * (PLOT.width - PLOT.left - PLOT.right);
 const plotY = share => PLOT.height - PLOT.bottom - share * (PLOT.height - PLOT.top - PLOT.bottom);
-const plotText = (x, y, text, more = 'text-anchor="middle"') => `<text x="${x.toFixed(1)}" y="${y.toFixed(1)}" ${more}>${text}</text>`;
+const plotPath = (name, d, more = {}) => element('path', { class: name, d, ...more });
+const plotText = (x, y, text, anchor = 'middle') => element('text', { x: x.toFixed(1), y: y.toFixed(1), 'text-anchor': anchor }, text);
 // Points that fall on one place are one.
 const dots = points => [...new Set(points.map(([x, y]) => `M${x.toFixed(1)} ${y.toFixed(1)}h0`))].join('');
+const lineOfRank = (mark, x, floor) => [
+  plotPath('rule', `M${x.toFixed(1)} ${PLOT.top}V${floor}`),
+  plotText(x, floor + 16, short(mark)),
+];
+const lineOfValue = (mark, y) => [
+  plotPath('rule', `M${PLOT.left} ${y.toFixed(1)}H${PLOT.width - PLOT.right}`),
+  plotText(PLOT.left - 6, y + 4, short(mark), 'end'),
+];
 const plotLines = (ranks, values) => {
-  const { left, right, top, bottom, width, height } = PLOT, floor = height - bottom;
-  const across = ranks.marks.map(mark => {
-    const x = plotX(ranks.at(mark));
-    return `<path class="rule" d="M${x.toFixed(1)} ${top}V${floor}"/>${plotText(x, floor + 16, short(mark))}`;
-  });
-  const down = values.marks.map(mark => {
-    const y = plotY(values.at(mark));
-    return `<path class="rule" d="M${left} ${y.toFixed(1)}H${width - right}"/>${plotText(left - 6, y + 4, short(mark), 'text-anchor="end"')}`;
-  });
-  const turned = `transform="translate(14 ${(top + floor) / 2}) rotate(-90)" text-anchor="middle"`;
-  const unit = isCompared ? 'per million soups' : `number of ${wayName()}`;
-  return across.join('') + down.join('') + plotText(plotX(.5), height - 6, 'rank') + `<text ${turned}>${unit}</text>`;
+  const floor = PLOT.height - PLOT.bottom;
+  const turned = { transform: `translate(14 ${(PLOT.top + floor) / 2}) rotate(-90)`, 'text-anchor': 'middle' };
+  return [
+    ranks.marks.map(mark => lineOfRank(mark, plotX(ranks.at(mark)), floor)),
+    values.marks.map(mark => lineOfValue(mark, plotY(values.at(mark)))),
+    plotText(plotX(.5), PLOT.height - 6, 'rank'),
+    element('text', turned, isCompared ? 'per million soups' : `number of ${wayName()}`),
+  ];
 };
 const rankedIn = at => [...objects.values()].filter(object => Number(wayOf(object).totals[at]) > 0 && !object.isLeftOut[wayName()])
   .map(object => ({ object, value: valueOf(object, at) })).sort((a, b) => b.value - a.value);
@@ -103,38 +116,55 @@ const rarestWords = (series, at) => {
 };
 // What the bracket says is at its right, or above it if there is no room.
 const LETTER = 7;
-const besideRarest = (x, y, text) => x + LETTER * text.length < PLOT.width - PLOT.right ? plotText(x + 6, y + 4, text, '')
-  : plotText(PLOT.width - PLOT.right - 2, y - 12, text, 'text-anchor="end"');
-const seriesSvg = (series, at, ranks, values) => {
+const besideRarest = (x, y, text) => x + LETTER * text.length < PLOT.width - PLOT.right
+  ? plotText(x + 6, y + 4, text, 'start')
+  : plotText(PLOT.width - PLOT.right - 2, y - 12, text, 'end');
+const rarestBracket = (series, at, ranks, values) => {
+  const { value, first, last, same } = rarestOf(series);
+  const [from, to] = [first, last].map(rank => plotX(ranks.at(rank)));
+  const y = plotY(values.at(value));
+  return [
+    plotPath('rarest', `M${from.toFixed(1)} ${y - 7}v-5H${Math.max(to, from + 2).toFixed(1)}v5`),
+    besideRarest(to, y - 8, `found ${timesWords(wayOf(same[0].object).totals[at])}`),
+  ];
+};
+const seriesOf = (series, at, ranks, values) => {
   const points = series.map(({ value }, rank) => [plotX(ranks.at(rank + 1)), plotY(values.at(value))]);
-  if (isCompared) return `<path class="dots" data-haul="${hauls[at].letter}" d="${dots(points)}"/>`;
+  if (isCompared) return plotPath('dots', dots(points), { 'data-haul': hauls[at].letter });
   const strict = points.filter((_, rank) => series[rank].object.isStrict);
-  const { value, first, last, same } = rarestOf(series), [from, to] = [first, last].map(rank => plotX(ranks.at(rank))), y = plotY(values.at(value));
-  return `<path class="dots" d="${dots(points)}"/><path class="dots strict" d="${dots(strict)}"/>`
-    + `<path class="rarest" d="M${from.toFixed(1)} ${y - 7}v-5H${Math.max(to, from + 2).toFixed(1)}v5"/>`
-    + besideRarest(to, y - 8, `found ${timesWords(wayOf(same[0].object).totals[at])}`);
+  return [plotPath('dots', dots(points)), plotPath('dots strict', dots(strict)), rarestBracket(series, at, ranks, values)];
 };
 const rankKey = () => {
-  if (isCompared) return hauls.map(haul => `<span>${letterOf(haul)} ${haul.rule}</span>`).join(' ');
-  return choice.parts === '1' ? '' : '<span><i class="dot strict"></i> strict</span> <span><i class="dot"></i> made of parts</span>';
+  if (isCompared) return spaced(hauls.map(haul => element('span', {}, letterOf(haul), ` ${haul.rule}`)));
+  if (choice.parts === '1') return '';
+  return spaced([
+    element('span', {}, element('i', { class: 'dot strict' }), ' strict'),
+    element('span', {}, element('i', { class: 'dot' }), ' made of parts'),
+  ]);
 };
 const rankChart = () => {
-  const all = hauls.map((_, at) => rankedIn(at)), there = all.map((series, at) => [series, at]).filter(([series]) => series.length);
+  const all = hauls.map((_, at) => rankedIn(at));
+  const there = all.map((series, at) => [series, at]).filter(([series]) => series.length);
   const ranks = logarithmicAxis([1, Math.max(...all.map(series => series.length), 2)]);
   const values = logarithmicAxis(all.flat().map(({ value }) => value));
   const words = there.map(([series, at]) => rarestWords(series, at)).join(' ');
-  return `<figcaption>Rank and frequency of ${wayName()}, logarithmic axes <span class="key">${rankKey()}</span></figcaption>`
-    + `<svg class="plot" viewBox="0 0 ${PLOT.width} ${PLOT.height}" role="img" aria-label="Frequency by rank. ${words}">`
-    + plotLines(ranks, values) + there.map(([series, at]) => seriesSvg(series, at, ranks, values)).join('')
-    + `</svg><p class="note">${words}</p>`;
+  const plot = {
+    class: 'plot', viewBox: `0 0 ${PLOT.width} ${PLOT.height}`, role: 'img', 'aria-label': `Frequency by rank. ${words}`,
+  };
+  return [
+    element('figcaption', {}, `Rank and frequency of ${wayName()}, logarithmic axes `, element('span', { class: 'key' }, rankKey())),
+    element('svg', plot, plotLines(ranks, values), there.map(([series, at]) => seriesOf(series, at, ranks, values))),
+    element('p', { class: 'note' }, words),
+  ];
 };
 
 // ---- When they are drawn
 const showCharts = ranked => {
-  chartBox.innerHTML = `${frequencyChart(ranked)}<figure></figure>`;
+  const plot = element('figure');
+  fill(chartBox, frequencyChart(ranked), plot);
   // A plot as wide as its place has letters as large as those around it.
-  PLOT.width = Math.min(MOST_WIDTH, chartBox.lastChild.clientWidth || MOST_WIDTH);
-  chartBox.lastChild.innerHTML = rankChart();
+  PLOT.width = Math.min(MOST_WIDTH, plot.clientWidth || MOST_WIDTH);
+  fill(plot, rankChart());
 };
 // Draws the charts if they are open, and something has changed.
 let chartsShown = '';

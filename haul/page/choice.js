@@ -19,7 +19,7 @@ const readAddress = () => {
   for (const [name, first] of Object.entries(FIRST_CHOICE)) choice[name] = given[name] ?? first;
   for (const [name, values] of [['sort', SORTS.map(([sort]) => sort)], ['view', ['gallery', 'table']], ['axis', ['log', 'linear']]])
     if (!values.includes(choice[name])) choice[name] = FIRST_CHOICE[name];
-  const isThere = objects.has(code), life = !code && lives.has(given.life) ? given.life : '';
+  const isThere = objects.has(code) && isLinkable(code), life = !code && lives.has(given.life) ? given.life : '';
   Object.assign(open, { code: isThere ? code : '', soup: given.soup ?? '', unknown: isThere ? '' : decoded(code), life });
 };
 const writeAddress = () => history.replaceState(null, '', open.life ? addressOfLife(open.life) : addressOf(open.code, open.soup));

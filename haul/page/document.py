@@ -7,7 +7,9 @@ JavaScript, there is a table in a `noscript` element.
 from __future__ import annotations
 
 import re
+from base64 import b64encode
 from collections.abc import Iterator
+from hashlib import sha256
 from html import escape
 from importlib.resources import files
 from string import Template
@@ -22,6 +24,7 @@ from haul.page.summary import write_foot, write_title, write_top
 
 # The files of the script. Each file uses definitions of the files before it.
 SCRIPTS = (
+    "elements",
     "cells",
     "objects",
     "choice",
@@ -34,6 +37,11 @@ SCRIPTS = (
     "dialog",
     "lives",
     "page",
+)
+# The browser runs no script but the one with this hash, and loads nothing.
+POLICY = Template(
+    "default-src 'none'; script-src '$hash'; style-src 'unsafe-inline'; img-src data:; "
+    "base-uri 'none'; form-action 'none'"
 )
 # The places of page.html that are filled piece by piece.
 PIECES = re.compile(r"\$(?:table|lives|data)_pieces")
@@ -50,16 +58,31 @@ def make_page(
     # either fails, nothing of the page is written.
     sides.ask(census)
     objects = describe_objects(sides, census.terminal)
+    script = write_script()
     before, between, middle, after = map(Template, PIECES.split(read_file("page.html")))
     yield before.substitute(
-        title=escape(write_title(sides)), style=read_file("page.css"), top=write_top(sides)
+        policy=POLICY.substitute(hash=hash_script(script)),
+        title=escape(write_title(sides)),
+        style=read_file("page.css"),
+        top=write_top(sides),
     )
     yield from write_lives(lives) if lives is not None else []
     yield between.substitute()
     yield from write_table(sides)
     yield middle.substitute(foot=write_foot(sides))
     yield from write_data(sides, objects, lives)
-    yield after.substitute(script="\n".join(read_file(f"{name}.js") for name in SCRIPTS))
+    yield after.substitute(script=script)
+
+
+def write_script() -> str:
+    """Returns the contents of the page's script element."""
+    scripts = "\n".join(read_file(f"{name}.js") for name in SCRIPTS)
+    return f"\n'use strict';\n{{\n{scripts}}}\n"
+
+
+def hash_script(script: str) -> str:
+    """Returns a script's hash as the page's policy gives it."""
+    return f"sha256-{b64encode(sha256(script.encode()).digest()).decode()}"
 
 
 def read_file(name: str) -> str:

@@ -11,19 +11,21 @@ const neighbourOfLife = (soup, step) => {
 };
 const lifeStep = (soup, step, text, sign) => {
   const other = neighbourOfLife(soup, step);
-  return other ? `<a class="step" href="${addressOfLife(other)}" aria-label="${text} soup" title="Soup ${other}">${sign}</a>` : '';
+  if (!other) return '';
+  return element('a', { class: 'step', href: addressOfLife(other), 'aria-label': `${text} soup`, title: `Soup ${other}` }, sign);
 };
-const lifeHead = ({ soup }) => `<header><div><h2 id="object-name" tabindex="-1">Soup ${soup}</h2></div>`
-  + `<nav>${lifeStep(String(soup), -1, 'Previous', '‹')}${lifeStep(String(soup), 1, 'Next', '›')}`
-  + '<button type="button" data-act="close" aria-label="Close">×</button></nav></header>';
-const lifeBody = ({ words }) => `<div class="body"><dl class="facts">${fact('what became of it', escaped(words))}</dl><div id="player"></div></div>`;
+const lifeHead = ({ soup }) => dialogHead(`Soup ${soup}`,
+  [lifeStep(String(soup), -1, 'Previous', '‹'), lifeStep(String(soup), 1, 'Next', '›')]);
+const lifeBody = ({ words }) => element('div', { class: 'body' },
+  element('dl', { class: 'facts' }, fact('what became of it', words)),
+  element('div', { id: 'player' }));
 
 let shownLife = '';
 const showLife = () => {
   const life = lives.get(open.life);
   if (dialog.open && shownLife === open.life) return;
   endPlayer();
-  dialog.innerHTML = lifeHead(life) + lifeBody(life);
+  fill(dialog, lifeHead(life), lifeBody(life));
   shownLife = open.life;
   shownCode = '';
   if (!dialog.open) dialog.showModal();

@@ -12,7 +12,7 @@ from haul.census.soup_runs import draw_soup, find_exact_generation
 from haul.fates.explain import Fates
 from haul.fates.fate import Fate, Kind
 from haul.formats.haul import Haul, Job
-from haul.search.late_file import ONLY_UNSETTLED, Late, LateLine
+from haul.formats.late_file import ONLY_UNSETTLED, Late, LateLine
 from haul.formats.report_lines import read_report_line
 from haul.life.drawing import draw_path
 from haul.life.soups import SOUP_SIDE, make_soup

@@ -2,6 +2,7 @@
 
 from __future__ import annotations
 
+import re
 from collections.abc import Iterator
 from html import escape
 from urllib.parse import quote
@@ -18,6 +19,10 @@ from haul.views.rates import bound_rarity
 
 KINDS = {"s": "still life", "p": "oscillator of period", "q": "spaceship of period"}
 CATAGOLUE = "https://catagolue.hatsya.com"
+# A haul of apgsearch may have any text in place of a code or a symmetry. Only a text that could be
+# one is part of an address.
+LINKED_CODE = re.compile(r"[0-9a-z_]+")
+LINKED_SYMMETRY = re.compile(r"[0-9A-Za-z_+-]+")
 # The most rows of the table. Browsers are slow with more.
 MOST_ROWS = 1000
 # The head of the column that shows how often the reference has a part.
@@ -77,7 +82,8 @@ def write_row(sides: Sides, code: str) -> str:
     else:
         counts = "".join(write_counts(side, code) for side in sides.all)
         counts += f'<td class="referred">{reference}</td>' if reference else ""
-    return f'<tr id="{escape(code)}">{row}{counts}</tr>\n'
+    place = f' id="{code}"' if is_linked(code) else ""
+    return f"<tr{place}>{row}{counts}</tr>\n"
 
 
 def write_occurrence(code: str) -> str:
@@ -93,9 +99,7 @@ def write_counts(side: Side, code: str, reference: str = "") -> str:
     if code not in haul.totals:
         return "<td>0</td><td></td><td></td>"
     total = haul.totals[code]
-    samples = " ".join(
-        f'<a href="{link_soup(side, number)}">{number}</a>' for number in haul.samples[code]
-    )
+    samples = " ".join(link_soup(side, number) for number in haul.samples[code])
     often = reference or describe_frequency(haul.soups, total)
     return f"<td>{total:,}</td><td>{often}</td><td>{samples}</td>"
 
@@ -111,16 +115,26 @@ def describe_frequency(soups: int, total: int) -> str:
     return f"{each:,.0f} per soup" if each >= 100 else f"{each:.3g} per soup"
 
 
+def is_linked(code: str) -> bool:
+    """Checks whether the page has links to the object with this code."""
+    return LINKED_CODE.fullmatch(code) is not None
+
+
 def link_soup(side: Side, number: int) -> str:
-    """Returns the address of the page of a soup on Catagolue."""
+    """Returns a soup's number as a link to the soup's page on Catagolue. If the symmetry can't be
+    part of an address, returns only the number."""
     job = side.haul.job
-    return f"{CATAGOLUE}/hashsoup/{quote(job.symmetry, safe='')}/{quote(job.seed, safe='')}{number}/{job.rule}"
+    if not LINKED_SYMMETRY.fullmatch(job.symmetry):
+        return str(number)
+    soup = f"{quote(job.symmetry, safe='')}/{quote(job.seed, safe='')}{number}"
+    return f'<a href="{CATAGOLUE}/hashsoup/{soup}/{job.rule}">{number}</a>'
 
 
 def link_code(code: str, rule: str) -> str:
-    if is_large(code):
-        return f"<code>{escape(code)}</code>"
-    return f'<a href="{CATAGOLUE}/object/{escape(code)}/{rule}"><code>{escape(code)}</code></a>'
+    text = f"<code>{escape(code)}</code>"
+    if is_large(code) or not is_linked(code):
+        return text
+    return f'<a href="{CATAGOLUE}/object/{code}/{rule}">{text}</a>'
 
 
 def draw_object(code: str) -> str:

@@ -6,7 +6,6 @@ const data = JSON.parse(document.getElementById('data').textContent);
 const hauls = data.hauls, isCompared = hauls.length > 1, PER = 1e6;
 hauls.forEach((haul, place) => Object.assign(haul, { place, life: ruleOf(haul.rule) }));
 
-const escaped = text => text.replace(/[&<>"']/g, sign => `&#${sign.charCodeAt(0)};`);
 const whole = number => (typeof number === 'string' ? BigInt(number) : number).toLocaleString('en');
 const noun = (number, one) => `${one}${String(number) === '1' ? '' : 's'}`;
 const KIND_WORDS = { s: 'still life', p: 'oscillator', q: 'spaceship', '': 'object' };
@@ -70,9 +69,13 @@ const ratioWords = (way, place) => {
 // ---- Addresses elsewhere
 const CATAGOLUE = 'https://catagolue.hatsya.com', LIFEWIKI = 'https://conwaylife.com/wiki';
 const isLarge = code => code.startsWith('ov_');
+// A haul of apgsearch may have any text in place of a code. Only what could be a code is part of an address, here or elsewhere.
+const isLinkable = code => /^[0-9a-z_]+$/.test(code);
 const catagolueObject = (code, haul) => `${CATAGOLUE}/object/${code}/${haul.option}`;
 const catagolueSoup = (number, haul) => `${CATAGOLUE}/hashsoup/C1/${encodeURIComponent(haul.seed)}${number}/${haul.option}`;
 const lifeWiki = object => `${LIFEWIKI}/Special:Search?search=${encodeURIComponent(nameOf(object))}`;
+// The page has no soups of a haul with another symmetry than C1.
+const hasSoup = (number, { place }) => number in data.soups[place];
 const soupOf = (number, haul) => {
   const [cells, ...end] = data.soups[haul.place][number];
   const [settled, least, most] = end;

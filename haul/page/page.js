@@ -1,14 +1,17 @@
 // Puts the page together: the controls, the list of the chosen objects, and what the address says.
-const byId = id => document.getElementById(id);
 const controls = byId('controls'), listBox = byId('list');
 let list = null, shownObjects = [];
 
 // ---- Controls
 const KIND_CHIPS = [['s', 'Still lifes'], ['p', 'Oscillators'], ['q', 'Spaceships']];
-const chip = (name, value, text, count, isOn) => `<button type="button" class="chip" data-name="${name}" data-value="${value}" `
-  + `aria-pressed="${isOn}">${text} <span class="count">${whole(count)}</span></button>`;
-const check = (name, text, isOn, isOff = false) => '<label class="chip check">'
-  + `<input type="checkbox" name="${name}" autocomplete="off"${isOn ? ' checked' : ''}${isOff ? ' disabled' : ''}> ${text}</label>`;
+const chip = (name, value, text, count, isOn) => {
+  const pressed = { 'data-name': name, 'data-value': value, 'aria-pressed': String(isOn) };
+  return element('button', { type: 'button', class: 'chip', ...pressed }, `${text} `, element('span', { class: 'count' }, whole(count)));
+};
+const check = (name, text, isOn, isOff = false) => {
+  const box = { type: 'checkbox', name, autocomplete: 'off', checked: isOn, disabled: isOff };
+  return element('label', { class: 'chip check' }, element('input', box), ` ${text}`);
+};
 
 // How many objects each chip would leave, whatever else is chosen among its like.
 const kindChips = () => {
@@ -16,18 +19,22 @@ const kindChips = () => {
   const ofKind = tallied(some, object => object.letter), oscillators = some.filter(object => object.letter === 'p');
   const ofPeriod = [...tallied(oscillators, object => object.period)].sort((a, b) => a[0] - b[0]);
   const periodChips = ofPeriod.map(([period, count]) => chip('period', period, `p${period}`, count, periods.includes(String(period))));
-  return KIND_CHIPS.map(([letter, text]) => chip('kind', letter, text, ofKind.get(letter) ?? 0, kinds.includes(letter))
-    + (letter === 'p' && kinds.includes('p') ? periodChips.join('') : '')).join('');
+  return KIND_CHIPS.map(([letter, text]) => [
+    chip('kind', letter, text, ofKind.get(letter) ?? 0, kinds.includes(letter)),
+    letter === 'p' && kinds.includes('p') && periodChips,
+  ]);
 };
 const haulChips = () => {
   if (!isCompared) return '';
   const some = passing('in').map(wayOf);
   return [['all', 'In all', isInAll], ...hauls.map(({ letter }) => [letter, `Only in ${letter}`, way => isOnlyIn(way, letter)])]
-    .map(([value, text, holds]) => chip('in', value, text, some.filter(holds).length, choice.in === value)).join('');
+    .map(([value, text, holds]) => chip('in', value, text, some.filter(holds).length, choice.in === value));
 };
 const chips = () => {
   const byParts = choice.parts === '1';
-  return kindChips() + haulChips() + check('strict', 'Strict only', choice.strict === '1', byParts) + check('parts', 'Count parts', byParts);
+  return [
+    kindChips(), haulChips(), check('strict', 'Strict only', choice.strict === '1', byParts), check('parts', 'Count parts', byParts),
+  ];
 };
 // How many choices behind the button of a telephone aren't the first ones.
 const FILTERS = ['kind', 'period', 'strict', 'parts', 'in', 'sort', 'view'];
@@ -35,7 +42,7 @@ const countFilters = () => FILTERS.filter(name => choice[name] !== FIRST_CHOICE[
 const showControls = () => {
   const focused = document.activeElement?.closest?.('#chips') ? document.activeElement : null;
   const wanted = focused?.name ? `input[name=${focused.name}]` : `[data-name="${focused?.dataset.name}"][data-value="${focused?.dataset.value}"]`;
-  byId('chips').innerHTML = chips();
+  fill(byId('chips'), chips());
   if (focused) byId('chips').querySelector(wanted)?.focus();
   if (byId('query').value !== choice.q) byId('query').value = choice.q;
   byId('sort').value = choice.sort;
@@ -43,17 +50,26 @@ const showControls = () => {
   byId('filter').lastChild.textContent = countFilters() || '';
 };
 const sumOf = some => some.reduce((sum, object) => sum + wayOf(object).total, 0n);
-const COMPARED = ' Bars: per million soups; * differs from A (p < 0.001).';
+// The legend of the bars. It explains the mark only if a card or a row has one.
+const barsLegend = () => {
+  const isMarked = shownObjects.some(object => hauls.some(({ place }) => differs(wayOf(object), place)));
+  return isMarked ? ' Bars: per million soups; * differs from A (p < 0.001).' : ' Bars: per million soups.';
+};
 const REFERRED = ` “One in” is from the reference, a census of ${whole(data.reference)} soups.`;
 // Cards of hauls that are compared have a line for it.
 document.documentElement.style.setProperty('--referred', isCompared && data.reference ? 1 : 0);
+const unknownWords = () => {
+  if (!open.unknown) return '';
+  return objects.has(open.unknown)
+    ? `The object ${open.unknown} can’t be opened, since its code has other characters than a to z, 0 to 9 and _. `
+    : `No object on this page has the code ${open.unknown}. `;
+};
 const showCount = () => {
   const byParts = choice.parts === '1', kinds = byParts ? data.kindsOfParts : data.kinds;
   const every = hauls.reduce((sum, haul) => sum + BigInt(byParts ? haul.parts : haul.objects), 0n);
   const leftOut = data.least > 1 ? ` Kinds with fewer than ${whole(data.least)} are left out.` : '';
   const count = `${whole(shownObjects.length)} of ${whole(kinds)} kinds, ${whole(sumOf(shownObjects))} of ${whole(every)} ${byParts ? 'parts' : 'objects'}.`;
-  const unknown = open.unknown ? `No object on this page has the code ${open.unknown}. ` : '';
-  byId('shown').textContent = unknown + count + leftOut + (isCompared ? COMPARED : '') + (isByReference() ? REFERRED : '');
+  byId('shown').textContent = unknownWords() + count + leftOut + (isCompared ? barsLegend() : '') + (isByReference() ? REFERRED : '');
 };
 
 // ---- The list
@@ -70,8 +86,8 @@ const noneWords = () => {
   const other = choice.parts === '1' ? '0' : '1', isHidden = countFound(choice.parts) > 0;
   const parts = isHidden ? choice.parts : other, found = countFound(parts);
   const words = found ? `The other choices hide ${whole(found)} ${noun(found, 'object')} that the search finds.` : 'No object is found.';
-  return `<p class="none">${words} <button type="button" data-parts="${found ? parts : choice.parts}" data-q="${found ? escaped(choice.q) : ''}">`
-    + `${found ? 'Show' : 'Show all'}</button></p>`;
+  const shows = { 'data-parts': found ? parts : choice.parts, 'data-q': found ? choice.q : '' };
+  return element('p', { class: 'none' }, `${words} `, element('button', { type: 'button', ...shows }, found ? 'Show' : 'Show all'));
 };
 const showList = () => {
   list?.end();
@@ -79,7 +95,7 @@ const showList = () => {
   const view = VIEWS[choice.view], container = view.make(shownObjects.length);
   listBox.replaceChildren(container);
   list = new LongList(container, shownObjects, view);
-  if (!shownObjects.length) container.insertAdjacentHTML('afterend', noneWords());
+  if (!shownObjects.length) container.after(noneWords());
   showCount();
 };
 const show = () => { showControls(); showList(); refreshCharts(); };
@@ -108,7 +124,7 @@ controls.addEventListener('change', ({ target }) => {
   else if (target.id === 'sort') choose({ sort: target.value });
 });
 byId('filter').addEventListener('click', ({ currentTarget: button }) => {
-  button.setAttribute('aria-expanded', button.getAttribute('aria-expanded') === 'false');
+  setAttribute(button, 'aria-expanded', String(button.getAttribute('aria-expanded') === 'false'));
 });
 controls.addEventListener('submit', event => event.preventDefault());
 byId('query').addEventListener('input', event => choose({ q: event.target.value }));
@@ -128,9 +144,10 @@ for (const [begin, end] of [['pointerover', 'pointerout'], ['focusin', 'focusout
 
 // ---- The page as a whole
 const start = () => {
-  byId('sort').innerHTML = SORTS.map(([name, text]) => `<option value="${name}">${text}</option>`).join('');
-  const views = Object.keys(VIEWS).map(view => `<label class="chip"><input type="radio" name="view" value="${view}" autocomplete="off"> ${view}</label>`);
-  byId('view').insertAdjacentHTML('beforeend', views.join(''));
+  fill(byId('sort'), SORTS.map(([value, text]) => element('option', { value }, text)));
+  const views = Object.keys(VIEWS).map(value => element('label', { class: 'chip' },
+    element('input', { type: 'radio', name: 'view', value, autocomplete: 'off' }), ` ${value}`));
+  byId('view').append(...views);
   document.documentElement.style.setProperty('--hauls', hauls.length);
   byId('objects').hidden = false;
   const skip = document.querySelector('.skip');

@@ -14,12 +14,20 @@ const cellWidth = ({ width, height }, side) => {
   return most >= 2 ? Math.floor(most) : most;
 };
 const pictureOf = (phases, side, title) => {
-  const box = boxOf(phases), scale = cellWidth(box, side), { width, height } = box;
+  const box = boxOf(phases);
+  const scale = cellWidth(box, side);
+  const [width, height] = [box.width + 2, box.height + 2];
   const paths = phases.map(cells => pathOfCells(cells, box));
-  const grid = scale >= LEAST_GRID ? `<path class="grid" d="${gridPath(width, height)}"/>` : '';
-  const moves = paths.length > 1 ? ` data-phases="${paths.join('|')}"` : '';
-  return `<svg class="drawing" width="${(width + 2) * scale}" height="${(height + 2) * scale}" viewBox="-1 -1 ${width + 2} ${height + 2}"`
-    + `${title ? ` role="img" aria-label="${escaped(title)}"` : ' aria-hidden="true"'}${moves}><path class="live" d="${paths[0]}"/>${grid}</svg>`;
+  const attributes = {
+    class: 'drawing',
+    width: width * scale,
+    height: height * scale,
+    viewBox: `-1 -1 ${width} ${height}`,
+    ...title ? { role: 'img', 'aria-label': title } : { 'aria-hidden': 'true' },
+    'data-phases': paths.length > 1 && paths.join('|'),
+  };
+  const grid = scale >= LEAST_GRID && element('path', { class: 'grid', d: gridPath(box.width, box.height) });
+  return element('svg', attributes, element('path', { class: 'live', d: paths[0] }), grid);
 };
 // Objects that move are drawn in the box of all their phases, so that these can be shown one after another.
 const recurrences = new Map();
@@ -31,7 +39,7 @@ const recurrenceIn = (object, haul) => {
 const firstWith = object => hauls.find((_, at) => object.made[at] !== null) ?? hauls[0];
 const pictureOfObject = (object, side, title = '') => {
   const cells = cellsOfCode(object.code);
-  if (!cells) return `<span class="undrawn">${isLarge(object.code) ? 'too large to draw' : "can't be drawn"}</span>`;
+  if (!cells) return element('span', { class: 'undrawn' }, isLarge(object.code) ? 'too large to draw' : "can't be drawn");
   const known = object.period > 1 ? recurrenceIn(object, firstWith(object)) : null;
   return pictureOf(known ? known.phases : [cells], side, title);
 };
@@ -40,8 +48,9 @@ const pictureOfObject = (object, side, title = '') => {
 const FRAME = 300, stillness = matchMedia('(prefers-reduced-motion: reduce)');
 const watched = new Map();
 const showPhase = (svg, phase) => {
-  const paths = svg.dataset.phases.split('|'), said = svg.closest('.large')?.querySelector('.phase');
-  svg.querySelector('.live').setAttribute('d', paths[phase % paths.length]);
+  const paths = svg.dataset.phases.split('|');
+  const said = svg.closest('.large')?.querySelector('.phase');
+  setAttribute(svg.querySelector('.live'), 'd', paths[phase % paths.length]);
   if (said) said.textContent = `phase ${phase % paths.length} (0 to ${paths.length - 1})`;
 };
 const watch = svg => { if (svg?.dataset.phases && !stillness.matches) watched.set(svg, 0); };

@@ -101,11 +101,17 @@ const noEnd = soup => {
   return 'The page doesn’t know when this soup settles. The command below prints it.';
 };
 
+const playerButton = (act, text, more = {}) => element('button', { type: 'button', 'data-act': act, ...more }, text);
+const speedChoice = () => element('label', { class: 'speed' },
+  element('span', { class: 'hidden' }, 'Generations per second'),
+  element('select', { autocomplete: 'off' },
+    SPEEDS.map(([value, text]) => element('option', { value, selected: value === FIRST_SPEED }, text))));
+
 class Player {
   constructor(box, soup, object) {
     Object.assign(this, { soup, object, evolution: new Evolution(soup.cells, soup.haul.life), ships: shipsOf(soup.haul) });
     Object.assign(this, { aim: 0, speed: FIRST_SPEED, isQuick: false, rings: [], frames: 0 });
-    box.innerHTML = this.html();
+    fill(box, this.contents());
     const [canvas] = box.getElementsByTagName('canvas');
     this.view = new View(canvas);
     this.said = box.querySelector('output');
@@ -118,16 +124,21 @@ class Player {
     this.sizes.observe(canvas);
   }
 
-  html() {
-    const button = (act, text, more = '') => `<button type="button" data-act="${act}"${more}>${text}</button>`;
-    const speeds = SPEEDS.map(([speed, text]) => `<option value="${speed}"${speed === FIRST_SPEED ? ' selected' : ''}>${text}</option>`).join('');
-    const label = `Soup ${this.soup.number} as it runs. The arrow keys move the view, + and - zoom.`, note = noEnd(this.soup);
-    return `<canvas tabindex="0" role="img" aria-label="${label}"></canvas><output aria-live="off"></output><div class="buttons">`
-      + `<span>${button('play', 'Play')}${button('step', 'Step')}${button('back', 'To the start')}${button('end', 'To the end')}</span>`
-      + `<span><label class="speed"><span class="hidden">Generations per second</span><select autocomplete="off">${speeds}</select></label>`
-      + `${button('out', '−', ' aria-label="Zoom out"')}${button('in', '+', ' aria-label="Zoom in"')}</span>`
-      + `<span>${button('ash', 'Follow the ash')}${button('fit', 'Fit all')}${button('ring', 'To the ring', ' hidden')}</span></div>`
-      + (note ? `<p class="note">${note}</p>` : '');
+  contents() {
+    const label = `Soup ${this.soup.number} as it runs. The arrow keys move the view, + and - zoom.`;
+    const note = noEnd(this.soup);
+    return [
+      element('canvas', { tabindex: 0, role: 'img', 'aria-label': label }),
+      element('output', { 'aria-live': 'off' }),
+      element('div', { class: 'buttons' },
+        element('span', {}, playerButton('play', 'Play'), playerButton('step', 'Step'), playerButton('back', 'To the start'),
+          playerButton('end', 'To the end')),
+        element('span', {}, speedChoice(), playerButton('out', '−', { 'aria-label': 'Zoom out' }),
+          playerButton('in', '+', { 'aria-label': 'Zoom in' })),
+        element('span', {}, playerButton('ash', 'Follow the ash'), playerButton('fit', 'Fit all'),
+          playerButton('ring', 'To the ring', { hidden: true }))),
+      note && element('p', { class: 'note' }, note),
+    ];
   }
 
   press(act) {
@@ -217,7 +228,7 @@ class Player {
       this.view.fit(this.rings.map(ringBox).reduce(joined, this.evolution.box(this.view.isOfAsh, this.ships)), now || this.isAtEnd());
     drawPattern(this.view, rows, this.rings);
     // What it says is read out only when it stands still.
-    this.said.setAttribute('aria-live', isPlaying ? 'off' : 'polite');
+    setAttribute(this.said, 'aria-live', isPlaying ? 'off' : 'polite');
     this.said.textContent = saidBy(this.soup, this.evolution) + (this.isAtEnd() ? endWords(this.object, this.rings) : '');
     this.showButtons(isPlaying);
   }
@@ -230,8 +241,8 @@ class Player {
     play.disabled = isAtEnd && !this.soup.settled;
     step.disabled = isAtEnd;
     end.disabled = isAtEnd || !this.soup.ends;
-    ash.setAttribute('aria-pressed', fits && isOfAsh);
-    fit.setAttribute('aria-pressed', fits && !isOfAsh);
+    setAttribute(ash, 'aria-pressed', String(fits && isOfAsh));
+    setAttribute(fit, 'aria-pressed', String(fits && !isOfAsh));
     ring.hidden = !this.rings.length;
   }
 

@@ -10,14 +10,12 @@ from dataclasses import dataclass
 from haul.census.background import BackgroundTake, StreamWaiter
 from haul.census.children import NoCensus
 from haul.census.client import Census
-from haul.census.command_lines import list_take_arguments
+from haul.census.command_lines import WORKERS_OF_A_CALL, list_take_arguments
 from haul.formats.field_reader import BadHaul
 from haul.formats.haul import NUMBER_LIMIT, Haul, Job
 from haul.formats.haul_reader import read_one_haul
 from haul.search.late_soups import BatchLines
 
-# The most workers of one call of `census take`, and of a search.
-WORKERS_OF_A_CALL, MOST_WORKERS = 16, 1024
 # If several batches run at once, the queue has at most this many batches per running batch.
 # Finished batches wait in the queue for the batches before them.
 BATCHES_FOR_EACH = 4
@@ -44,7 +42,9 @@ class Plan:
     # soups are kept.
     late: int | None = None
     # Whether late and unsettled soups are reported.
-    tells_late: bool = False
+    reports_late: bool = False
+    # The search ends after this many seconds without a soup, or never if it is 0.
+    soup_seconds: int = 60
 
 
 @dataclass
@@ -140,6 +140,18 @@ class Batches:
     def soups(self) -> int:
         """Returns the number of soups that the batches in the queue have run."""
         return sum(batch.call.soups() if batch.workers else batch.count for batch in self.queue)
+
+    def first_progress(self) -> tuple[int, int] | None:
+        """Returns how many soups the first batch has run, and how many it has. Returns `None` if no
+        batch is running."""
+        if not self.queue:
+            return None
+        batch = self.queue[0]
+        return (batch.call.soups() if batch.workers else batch.count), batch.count
+
+    def measure_memory(self) -> int:
+        """Returns the number of bytes of memory that the running batches use."""
+        return sum(batch.call.measure_memory() for batch in self.queue if batch.workers)
 
     def soups_left(self) -> int:
         return sum(batch.count for batch in self.queue) - self.soups()

@@ -9,13 +9,13 @@ from haul.census.background import BackgroundTake
 from haul.census.children import NoCensus
 from haul.census.command_lines import format_find_command
 from haul.formats.haul import Haul, Job
-from haul.search.late_file import MOST_LINES, ONLY_UNSETTLED, BadLate, Late, LateLine, read_late
+from haul.formats.ranges import intersect, is_in
+from haul.formats.late_file import MOST_LINES, ONLY_UNSETTLED, BadLate, Late, LateLine, read_late
 from haul.formats.report_lines import BadLine, read_report_line
 from haul.patterns.rules import LIFE
-from haul.search.companion import Companion
+from haul.search.side_file import SideFile
 from haul.search.finds import format_time
-from haul.search.keeper import CantKeep
-from haul.search.untold import is_in
+from haul.search.haul_file import CantUseFile
 
 # Stands for `--late never`: neither late nor unsettled soups are kept.
 NEVER = -1
@@ -24,46 +24,41 @@ USUAL_LATE = 12_000
 UNSETTLED, SETTLED = "unsettled", "settled"
 
 
-def open_late(
-    asked: argparse.Namespace, haul: Haul, next_soup: int, kept: Companion
-) -> Late | None:
+def open_late(asked: argparse.Namespace, haul: Haul, next_soup: int, kept: SideFile) -> Late | None:
     """Returns the late and unsettled soups with which a search continues. For `--late never`,
-    removes FILE.late and returns `None`. Raises `CantKeep` if `--late` gives a lower generation
+    removes FILE.late and returns `None`. Raises `CantUseFile` if `--late` gives a lower generation
     than FILE.late, and FILE.late covers soups of the haul."""
     if asked.late == NEVER:
         kept.remove()
         return None
-    found = kept.read(read_late, BadLate)
     usual = USUAL_LATE if haul.job.rule == LIFE else ONLY_UNSETTLED
+    found = kept.read(read_late, BadLate)
     if found is None:
-        return Late(usual if asked.late is None else asked.late, next_soup)
-    late, job = found
-    generation = late.generation if asked.late is None else asked.late
-    why = find_other_file(late, job, haul, next_soup)
+        return Late(usual if asked.late is None else asked.late, [], haul.job)
+    generation = found.generation if asked.late is None else asked.late
+    why = find_other_file(found, haul, next_soup)
     if why is not None:
         kept.reject(why)
-        return Late(generation, next_soup)
+        return Late(generation, [], haul.job)
     # If the file covers no soup of the haul, it may begin anew at a lower generation.
-    if generation < late.generation and late.since < next_soup:
-        raise CantKeep(
-            f"{kept.name}: has soups from generation {late.generation} on, and not from {generation}"
+    if generation < found.generation and intersect(found.covered, haul.ranges):
+        raise CantUseFile(
+            f"{kept.name}: has soups from generation {found.generation} on, and not from {generation}"
         )
-    going_on = Late(generation, min(late.since, next_soup), late.left_out)
-    going_on.add(line for line in late.lines if line.soup < next_soup and going_on.is_late(line))
-    if list(going_on.write()) != list(late.write()):
-        kept.write(going_on.write())
-    return going_on
+    late = found.choose(haul.ranges, generation)
+    late.job = haul.job
+    if late != found:
+        kept.write(late.write())
+    return late
 
 
-def find_other_file(late: Late, job: Job | None, haul: Haul, next_soup: int) -> str | None:
+def find_other_file(late: Late, haul: Haul, next_soup: int) -> str | None:
     """Returns why FILE.late can't belong to a haul, or `None` if there is no reason. FILE.late may
     have lines about soups after the haul, since a search that was killed may have written them."""
-    if job not in (None, haul.job):
-        return "other job"
     for line in late.lines:
         if line.soup < next_soup and not is_in(line.soup, haul.ranges):
             return f"soup {line.soup} isn't in the haul"
-    return None
+    return late.find_misfit(haul)
 
 
 def list_late_finds(job: Job, lines: BatchLines, latest: int) -> list[list[str]]:

@@ -13,29 +13,27 @@ finds in short steps, and waits for output of the programs and for signals.
 
 from __future__ import annotations
 
-import os
 import time
 from collections.abc import Callable
 from contextlib import suppress
-from dataclasses import dataclass
 from typing import TextIO
 
 from haul.census.background import StreamWaiter
-from haul.census.client import Census
-from haul.formats.haul import NUMBER_LIMIT, Haul
-from haul.search.late_file import Late
+from haul.census.client import FAILED, Census, Ended
+from haul.formats.haul import NUMBER_LIMIT
 from haul.hauls.join import Joining
 from haul.plurals import write_count
-from haul.search.batches import MOST_WORKERS, Batches, Plan, Taken
-from haul.search.companion import Companion
-from haul.search.find_calls import FindCalls
+from haul.search.batches import Batches, Plan, Taken
+from haul.search.finds_program import FindsProgram
 from haul.search.finds import Finder
-from haul.search.keeper import Beside, Displaced, Keeper
+from haul.search.haul_file import Beside, Displaced
 from haul.search.late_soups import list_late_finds
+from haul.search.reporter import Reporter
+from haul.search.resume import SearchFiles
+from haul.search.stall import Stall
 from haul.search.status_line import Status, StatusLine, format_duration
 from haul.search.stopping import Stopping
-from haul.search.telling import Telling
-from haul.search.untold import Untold
+from haul.search.unreported import Unreported
 
 # At most a fiftieth of the running time is spent on writing the file. But if finished batches wait
 # to be written, the file is written at least every ten minutes.
@@ -57,33 +55,19 @@ class Dropped(Exception):
     """Raised if a signal ends the search at once, so that the running batches are lost."""
 
 
-@dataclass
-class Kept:
-    """The files of a search, and their contents when it began."""
-
-    keeper: Keeper
-    haul: Haul
-    # FILE.late, and its soups (`None` if the search keeps no late soups).
-    late_file: Companion
-    late: Late | None
-    # FILE.finds, and what the previous search hadn't reported.
-    finds_file: Companion
-    untold: Untold
-
-
 class Search:
     """A search in progress."""
 
     def __init__(
-        self, plan: Plan, kept: Kept, census: Census, stopping: Stopping, output: TextIO
+        self, plan: Plan, files: SearchFiles, census: Census, stopping: Stopping, output: TextIO
     ) -> None:
         """Prepares a search that continues with the haul in a file and writes its finds to
         `output`."""
         self.plan = plan
-        self.kept, self.keeper, self.late = kept, kept.keeper, kept.late
+        self.files, self.haul_file, self.late = files, files.haul_file, files.late
         self.stopping = stopping
         self.terminal = census.terminal
-        haul = kept.haul
+        haul = files.haul
         self.job = haul.job
         self.joining = Joining()
         self.joining.add(haul)
@@ -97,11 +81,11 @@ class Search:
         self.waiter = StreamWaiter()
         self.waiter.add(stopping.reading, stopping.hear)
         self.batches = Batches(plan, haul.job, haul.soups, census, self.waiter)
-        self.finder = Finder(haul.job, haul, plan.rarer, kept.untold.since)
-        self.calls = FindCalls(self.waiter, plan.finds, self.terminal.complain)
-        self.telling = Telling(output, self.terminal, self.calls, kept.untold.finds)
-        self.late_is_changed = True
+        self.finder = Finder(haul.job, haul, plan.rarer, files.unreported.since)
+        self.calls = FindsProgram(self.waiter, plan.finds, self.terminal.complain)
+        self.reporter = Reporter(output, self.terminal, self.calls, files.unreported.finds)
         self.line = StatusLine(self.terminal)
+        self.stall = Stall(plan.soup_seconds)
         self.said_that_it_finishes = self.said_what_is_left = False
         self.began = self.kept_at = time.monotonic()
         # How long all writing together took, and how long the latest writing took, in seconds.
@@ -121,13 +105,13 @@ class Search:
                 self.report_rest()
             finally:
                 self.terminal.show_progress("")
-                self.keep_untold()
+                self.write_unreported()
 
     # ---- Batches
 
     def take_batches(self) -> None:
         self.fill()
-        if not self.batches.queue and not self.keeper.is_there():
+        if not self.batches.queue and not self.haul_file.is_there():
             self.write()
         while self.batches.queue:
             self.wait_until(self.is_first_ended)
@@ -160,9 +144,8 @@ class Search:
         self.unkept.append((haul.ranges[0][0], new))
         if self.late is not None and taken.lines is not None:
             latest = self.late.latest
-            if self.late.add(taken.lines.lines, taken.lines.left_out):
-                self.late_is_changed = True
-            if self.plan.tells_late:
+            self.late.add(haul.ranges[0], taken.lines.lines, taken.lines.left_out)
+            if self.plan.reports_late:
                 self.unkept_late += list_late_finds(self.job, taken.lines, latest)
         self.joining.add(haul)
         self.objects += haul.objects()
@@ -206,36 +189,43 @@ class Search:
     def write(self) -> None:
         beside: list[Beside] = []
         if self.late is not None:
-            beside.append(Beside(self.kept.late_file, self.late.write, self.late_is_changed))
-        untold = self.list_untold(self.unkept, self.unkept_late)
-        is_there = self.kept.finds_file.known is not None
-        beside.append(Beside(self.kept.finds_file, untold.write, is_there or not untold.is_empty()))
-        self.keeper.write(self.joining.result(), beside)
-        self.late_is_changed = False
+            # Its first line says which soups it covers, so each batch changes it.
+            beside.append(Beside(self.files.late_file, self.late.write, True))
+        unreported = self.list_unreported(self.unkept, self.unkept_late)
+        is_there = self.files.finds_file.known is not None
+        beside.append(
+            Beside(self.files.finds_file, unreported.write, is_there or not unreported.is_empty())
+        )
+        self.haul_file.write(self.joining.result(), beside)
 
-    def list_untold(self, batches: list[NewOfBatch], late: list[list[str]]) -> Untold:
+    def list_unreported(self, batches: list[NewOfBatch], late: list[list[str]]) -> Unreported:
         """Returns what the search hasn't reported yet, including these late soups and the possible
         finds of these batches."""
         since = [new.first for new in self.finder.queue]
         told = batches[1:] if self.finder.is_silent else batches
         since += [first for first, codes in told if codes]
-        return Untold(self.job, min(since, default=NUMBER_LIMIT), self.telling.list_untold() + late)
+        return Unreported(
+            self.job,
+            self.joining.ranges,
+            min(since, default=NUMBER_LIMIT),
+            self.reporter.list_unreported() + late,
+        )
 
-    def keep_untold(self) -> None:
+    def write_unreported(self) -> None:
         """Writes FILE.finds, so that the next search reports what this one hasn't. Removes
         FILE.finds if everything has been reported."""
-        untold = self.list_untold([], [])
-        if untold.is_empty():
-            if self.kept.finds_file.known is not None:
-                self.kept.finds_file.remove()
-        elif self.keeper.is_there():
-            self.kept.finds_file.write(untold.write())
+        unreported = self.list_unreported([], [])
+        if unreported.is_empty():
+            if self.files.finds_file.known is not None:
+                self.files.finds_file.remove()
+        elif self.haul_file.is_there():
+            self.files.finds_file.write(unreported.write())
 
     def look_at_kept(self) -> None:
         """Queues the late soups of the written batches to be reported, and their objects to be
         examined for finds."""
         for fields in self.unkept_late:
-            self.telling.add(fields)
+            self.reporter.add(fields)
         for first, codes in self.unkept:
             self.finder.add(codes, first)
         self.unkept.clear()
@@ -249,31 +239,44 @@ class Search:
                 raise Dropped
             if self.stopping.finishes and not self.said_that_it_finishes:
                 self.say_that_it_finishes()
+            self.watch_for_stalls()
             if self.line.is_due():
                 self.line.show(self.status())
             if self.must_keep():
                 self.keep()
             self.calls.step()
-            if self.has_told():
+            if self.has_reported():
                 self.waiter.wait(min(SECONDS_AT_A_TIME, self.line.seconds_left()))
             else:
                 self.find_for(SECONDS_OF_FINDING)
                 self.waiter.wait(0)
 
-    def has_told(self) -> bool:
+    def watch_for_stalls(self) -> None:
+        """Raises `Ended` if batches are running and no soup has ended for too long."""
+        was_long = self.stall.is_long()
+        self.stall.look(self.joining.soups + self.batches.soups())
+        if not self.batches.queue:
+            return
+        if self.stall.is_over():
+            batch = self.batches.queue[0]
+            raise Ended(FAILED, self.stall.last_words(self.job, batch.first + batch.call.soups()))
+        if self.stall.is_long() and not was_long:
+            self.line.show(self.status())
+
+    def has_reported(self) -> bool:
         """Checks whether all finds have been found and printed, or printing has failed. Calls of
         the `--finds` program may remain."""
-        return self.telling.is_done() and (self.finder.is_done() or self.telling.has_failed)
+        return self.reporter.is_done() and (self.finder.is_done() or self.reporter.has_failed)
 
     def find_for(self, seconds: float) -> None:
         """Looks for finds and reports them, for about `seconds` seconds."""
         end = time.monotonic() + seconds
-        while not self.has_told() and time.monotonic() < end:
-            if not self.telling.is_done():
-                self.telling.tell_next()
+        while not self.has_reported() and time.monotonic() < end:
+            if not self.reporter.is_done():
+                self.reporter.report_next()
             else:
                 for find in self.finder.step():
-                    self.telling.add(find.fields(self.job))
+                    self.reporter.add(find.fields(self.job))
 
     def report_rest(self) -> None:
         """Reports the remaining finds and waits for the calls of the `--finds` program. After a
@@ -284,14 +287,14 @@ class Search:
         def is_reported() -> bool:
             if time.monotonic() - began >= SECONDS_WITHOUT_A_WORD:
                 self.say_what_is_left()
-            return self.has_told() and (self.calls.is_done() or self.telling.has_failed)
+            return self.has_reported() and (self.calls.is_done() or self.reporter.has_failed)
 
         try:
             with suppress(Dropped):
                 self.wait_until(is_reported)
             self.find_for(LAST_SECONDS)
         finally:
-            if self.what_is_left() and not self.telling.has_no_reader:
+            if self.what_is_left() and not self.reporter.has_no_reader:
                 self.terminal.complain(f"not all finds are told: {self.what_is_left()}")
             self.calls.end()
 
@@ -301,8 +304,15 @@ class Search:
         if not batches:
             self.say_what_is_left()
             return
+        waited = ""
+        if self.stall.seconds >= 1:
+            waited = f", which has waited {format_duration(self.stall.seconds)} for a soup"
         rate = self.status().rate()
-        when = f", in about {format_duration(self.batches.soups_left() / rate)}" if rate > 0 else ""
+        when = (
+            f", in about {format_duration(self.batches.soups_left() / rate)}"
+            if rate > 0
+            else waited
+        )
         these, them = (
             ("this batch", "the batch") if batches == 1 else (f"these {batches} batches", "them")
         )
@@ -322,7 +332,7 @@ class Search:
             if not self.finder.is_done()
             else []
         )
-        return ", ".join(left + self.telling.what_is_left())
+        return ", ".join(left + self.reporter.what_is_left())
 
     def status(self) -> Status:
         running = self.batches.soups()
@@ -333,13 +343,12 @@ class Search:
             self.run_soups + running,
             self.objects,
             len(self.joining.totals),
-            self.telling.count,
+            self.reporter.count,
             time.monotonic() - self.began,
             left,
+            self.stall.text(self.batches.measure_memory()) if self.is_stalled() else None,
+            self.batches.first_progress() if self.joining.soups == 0 else None,
         )
 
-
-def count_processors() -> int:
-    """Returns the default number of workers: one for each processor that this process may use, but
-    at most `MOST_WORKERS`."""
-    return min(MOST_WORKERS, len(os.sched_getaffinity(0)))
+    def is_stalled(self) -> bool:
+        return bool(self.batches.queue) and self.stall.is_long()

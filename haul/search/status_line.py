@@ -28,12 +28,21 @@ class Status:
     seconds: float
     # The number of soups that remain to be run, or `None` if the search has no end.
     left: int | None
+    # What to say if no soup has ended for some time, or `None`.
+    stall: str | None = None
+    # How many soups the first batch has run, and how many it has. `None` if a batch has ended, or if
+    # none is running.
+    first_batch: tuple[int, int] | None = None
 
     def rate(self) -> float:
         """Returns the number of soups per second that this call of `haul search` has run."""
         return self.run / self.seconds if self.seconds > 0 else 0.0
 
     def text(self) -> str:
+        if self.stall is not None:
+            return f"{self.stall}, {write_count(self.soups, 'soup')} so far"
+        if self.first_batch is not None:
+            return self.first_text()
         words = [
             write_count(self.soups, "soup"),
             f"{self.rate():,.0f} per second",
@@ -44,9 +53,27 @@ class Status:
         ]
         return ", ".join([*words, *self.time_left()])
 
+    def first_text(self) -> str:
+        """Returns a text about the first batch. Its objects are known when it has ended."""
+        assert self.first_batch is not None
+        done, count = self.first_batch
+        words = [
+            f"first batch: {done:,} of {write_count(count, 'soup')}",
+            f"{self.rate():,.0f} per second",
+            f"running for {format_duration(self.seconds)}",
+        ]
+        return ", ".join([*words, *self.time_left()])
+
     def short_text(self) -> str:
         """Returns the same facts as `text`, with numbers rounded to three digits, for a narrow
         terminal."""
+        if self.stall is not None:
+            return self.stall
+        if self.first_batch is not None:
+            done, count = map(format_short, self.first_batch)
+            rate = format_short(round(self.rate()))
+            words = [f"first batch: {done} of {count} soups", f"{rate}/s"]
+            return " ".join([*words, format_duration(self.seconds), *self.time_left()])
         numbers = (
             (self.soups, "soup"),
             (self.objects, "object"),

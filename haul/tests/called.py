@@ -5,6 +5,7 @@ from __future__ import annotations
 import io
 import os
 import pty
+import re
 import signal
 import subprocess
 import sys
@@ -29,6 +30,10 @@ HAUL = str(TOP / "bin" / "haul")
 # The path that `haul` would have if it were installed beside the built program. If `haul` is called
 # by this path, no launcher checks whether the program must be built.
 INSTALLED_HAUL = str(Path(CENSUS).with_name("haul"))
+# The line in which `haul check` says what it has run. On a terminal, it follows an erased line.
+SUMMARY = re.compile(
+    "(?:^|(?<=\x1b\\[K))haul: .* run under b[0-9]*s[0-9]* in [0-9.]+ s\r?\n", re.MULTILINE
+)
 # A terminal that discards its output.
 QUIET = Terminal(io.StringIO())
 
@@ -67,7 +72,12 @@ def run(*words: str, text: bytes = b"", cwd: str | None = None) -> tuple[int, st
     )
     with patch.dict(os.environ, COLUMNS="80"):
         status = call(words, io.BytesIO(text), output, errors, cwd)
-    return status, read_back(output), read_back(errors)
+    return status, read_back(output), drop_summaries(read_back(errors))
+
+
+def drop_summaries(errors: str) -> str:
+    """Removes the lines in which `haul check` says what it has run, and for how many seconds."""
+    return SUMMARY.sub("", errors)
 
 
 def read_back(stream: io.TextIOWrapper) -> str:

@@ -93,5 +93,19 @@ class Table(HTMLParser):
             self.rows[-1].cells[-1] += data.rstrip("\n")
 
 
+class Tags(HTMLParser):
+    """The elements of a page in order, each with the names of its attributes."""
+
+    def __init__(self, text: str) -> None:
+        super().__init__()
+        self.tags: list[tuple[str, ...]] = []
+        self.links: list[str] = []
+        self.feed(text)
+
+    def handle_starttag(self, tag: str, attributes: list[tuple[str, str | None]]) -> None:
+        self.tags.append((tag, *(name for name, _ in attributes)))
+        self.links += [value or "" for name, value in attributes if name == "href"]
+
+
 def table_of(text: str) -> Table:
     return Table(text)

@@ -20,11 +20,12 @@ from haul.census.client import Census
 from haul.formats.haul import Haul
 from haul.formats.haul_reader import read_one_haul
 from haul.search.batches import Plan
-from haul.search.companion import Companion
-from haul.search.keeper import Keeper
-from haul.search.search import Kept, Search
+from haul.search.side_file import SideFile
+from haul.search.haul_file import HaulFile
+from haul.search.resume import SearchFiles
+from haul.search.search import Search
 from haul.search.stopping import Stopping
-from haul.search.untold import Untold
+from haul.search.unreported import Unreported
 from haul.tests.called import CENSUS, HAUL, as_haul, census
 
 # A soup of the empty seed that leaves a clock, and the code of the clock. The first 100,000 soups
@@ -40,16 +41,16 @@ def of_take(haul: Haul) -> bytes:
 
 
 def make_search(
-    plan: Plan, haul: Haul, keeper: Keeper, client: Census, stopping: Stopping, output: TextIO
+    plan: Plan, haul: Haul, haul_file: HaulFile, client: Census, stopping: Stopping, output: TextIO
 ) -> Search:
     """Returns a search that continues with a haul, keeps no late soups, and has no finds of an
     earlier search to report."""
     late_file, finds_file = (
-        Companion(keeper.path, keeper.name, suffix, client.terminal.complain)
+        SideFile(haul_file.path, haul_file.name, suffix, client.terminal.complain)
         for suffix in ("late", "finds")
     )
-    kept = Kept(keeper, haul, late_file, None, finds_file, Untold(haul.job))
-    return Search(plan, kept, client, stopping, output)
+    files = SearchFiles(haul_file, haul, late_file, None, finds_file, Unreported(haul.job))
+    return Search(plan, files, client, stopping, output)
 
 
 class Searches(unittest.TestCase):

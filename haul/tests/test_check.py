@@ -15,11 +15,64 @@ from pathlib import Path
 
 from haul.cli.parser import parse_arguments
 from haul.hauls.file_choice import FileChoice, compute_chance_to_miss, count_wrong_files
-from haul.tests.called import HAUL, census, run
+from haul.tests.called import CENSUS, HAUL, census, drop_summaries, run
 from haul.tests.searching import QUICK
 
 
 MISSING = "haul with missing soups, which can't be taken again; --samples runs its sample soups"
+
+
+class WhatIsSaid(unittest.TestCase):
+    """Standard error says what was run. Long lists of differences are cut."""
+
+    def check(self, text: str, *words: str) -> tuple[int, list[str], str]:
+        """Returns the status, the lines of the output, and what is on standard error."""
+        ended = subprocess.run(
+            [sys.executable, HAUL, "check", "--census", CENSUS, *words],
+            input=text.encode(),
+            capture_output=True,
+            check=False,
+        )
+        return ended.returncode, ended.stdout.decode().splitlines(), ended.stderr.decode()
+
+    def test_what_was_run(self) -> None:
+        text = census("take", "--count=40", "--also=100+2", "--rule=b36s23").decode()
+        status, output, errors = self.check(text)
+        self.assertEqual((status, output), (0, ["right"]))
+        self.assertRegex(
+            errors, r"^haul: 42 soups in 2 ranges run under b36s23 in [0-9]+\.[0-9] s\n$"
+        )
+        samples = {number for line in text.splitlines()[-5:] for number in line.split()[1:]}
+        self.assertLess(len(samples), 42)
+        status, output, errors = self.check(text, "--samples")
+        self.assertEqual((status, output), (0, ["right"]))
+        self.assertRegex(errors, r"^haul: [0-9]+ sample soups run under b36s23 in [0-9.]+ s\n$")
+
+    def test_another_seed(self) -> None:
+        """The first line says that nothing resembles the seed, and the list ends after twenty."""
+        text = census("take", "--count=400").decode().replace("seed=", "seed=x")
+        status, output, _ = self.check(text)
+        self.assertEqual((status, len(output)), (7, 21))
+        self.assertRegex(
+            output[0],
+            "^nothing here resembles a census of these soups of the seed 'x': "
+            "[0-9] of 1[0-9]{2} rows of samples are right$",
+        )
+        self.assertRegex(output[20], r"^\.\. and 2[0-9]{2} more differences$")
+        # With `--samples`, each wrong sample is a difference.
+        self.assertRegex(
+            self.check(text, "--samples")[1][20], r"^\.\. and [0-9]+ more differences$"
+        )
+
+    def test_a_small_difference(self) -> None:
+        text = census("take", "--count=400").decode().replace("xp2_7 ", "xp2_7 9", 1)
+        total = sum(
+            int(line.split()[1]) for line in text.split("TABLE\n")[1].split("\n\n")[0].splitlines()
+        )
+        text = re.sub("OBJECTS [0-9]+", f"OBJECTS {total}", text)
+        status, output, _ = self.check(text)
+        self.assertEqual((status, len(output)), (7, 2))
+        self.assertNotIn("resembles", output[0])
 
 
 class Several(unittest.TestCase):
@@ -89,9 +142,10 @@ class Several(unittest.TestCase):
                 check=False,
             )
             self.assertEqual(
-                (ended.returncode, ended.stdout.splitlines()[len(words) // 2 :], ended.stderr),
-                (0, [b"1.haul: right", name + b": right"], b""),
+                (ended.returncode, ended.stdout.splitlines()[len(words) // 2 :]),
+                (0, [b"1.haul: right", name + b": right"]),
             )
+            self.assertEqual(drop_summaries(ended.stderr.decode()), "")
 
     def test_samples(self) -> None:
         self.assertEqual(

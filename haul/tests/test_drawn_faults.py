@@ -20,7 +20,7 @@ from haul.tests.failing import failing_calls
 from haul.tests.searching import CLOCK, Searches
 
 # The 700 soups from 23000 on leave these three finds.
-WORDS = ["--seed=", "--first=23000", "--rarer=10000", "--part=350"]
+WORDS = ["--seed=", "--first=23000", "--rarer=10000", "--batch=350"]
 FINDS = {"xs12_330f96", CLOCK, "xs20_3lkkl3z32w23"}
 # The errors with which calls fail. `None` means that the process is killed instead.
 ERRORS = (errno.EIO, errno.ENOSPC, errno.EMFILE, errno.ENOMEM, None, None, None)
@@ -148,7 +148,7 @@ class Calls(DrawnFaults):
             number, error, is_single = draw.randint(1, 40), draw.choice(ERRORS), draw.random() < 0.5
             with self.subTest(number=number, error=error, is_single=is_single):
                 with failing_calls(number, error, is_single, self.failed, begins):
-                    running = self.start("--seed=a", "--part=10", "--late=0", is_forked=True)
+                    running = self.start("--seed=a", "--batch=10", "--late=0", is_forked=True)
                     self.wait_for(20)
                     begins.touch()
                     self.file.write_bytes(other)
@@ -174,7 +174,7 @@ class Calls(DrawnFaults):
         for _ in range(3):
             self.clear()
             limit = draw.randint(len(other), 8000)
-            running = self.start("--seed=a", "--part=40", most_bytes=limit)
+            running = self.start("--seed=a", "--batch=40", most_bytes=limit)
             self.wait_for(40)
             self.file.write_bytes(other)
             _, errors = running.communicate(timeout=60)
@@ -271,7 +271,7 @@ class Threads(DrawnFaults):
     )
 
     def start_late(self, seconds: float) -> subprocess.Popen[bytes]:
-        words = ["search", "--census", CENSUS, "--seed=a", "--part=20", str(self.file)]
+        words = ["search", "--census", CENSUS, "--seed=a", "--batch=20", str(self.file)]
         return subprocess.Popen(
             [sys.executable, "-c", self.SCRIPT, str(seconds), *words],
             cwd=self.folder,

@@ -28,9 +28,9 @@ from haul.life.parts import Separator
 from haul.rarity.reference import SOUPS, find_occurrence, load_reference
 from haul.census.background import FIND, StreamWaiter
 from haul.census.starters import read_launcher
-from haul.search.find_calls import FindCalls
+from haul.search.finds_program import FindsProgram
 from haul.search.finds import Find, Finder, list_common_parts, Unread
-from haul.search.keeper import Beside, Keeper
+from haul.search.haul_file import Beside, HaulFile
 from haul.search.batches import Batch, Plan, Taken
 from haul.search.search import Dropped
 from haul.search.status_line import Status, StatusLine, format_duration, format_short
@@ -310,9 +310,9 @@ class Fields(Searches):
                 )
 
     def test_a_search_tells_them(self) -> None:
-        words = ["--seed=", "--first", str(CLOCK_SOUP - 20), "--part", "10", *RARE]
+        words = ["--seed=", "--first", str(CLOCK_SOUP - 20), "--batch", "10", *RARE]
         self.assertEqual(self.search(*words, "--until", "20"), (0, "", ""))
-        status, output, errors = self.search("--until", "40", "--part", "10", *RARE)
+        status, output, errors = self.search("--until", "40", "--batch", "10", *RARE)
         time_, *fields = output.removesuffix("\n").split("\t")
         self.assertEqual(
             (status, errors, fields),
@@ -377,7 +377,7 @@ class Calls(Searches):
         program = self.stub(
             '[[ ! -e runs ]] || echo two >> said; touch runs; sleep 0.05; rm runs; echo "$2" >> said'
         )
-        self.search("--seed=a", "--rule=b36s23", "--until", "10", "--part", "10")
+        self.search("--seed=a", "--rule=b36s23", "--until", "10", "--batch", "10")
         status, output, _ = self.search("--until", "60", "--finds", program)
         self.assertEqual(status, 0)
         codes = [line.split("\t")[1] for line in output.splitlines()]
@@ -411,11 +411,11 @@ class Calls(Searches):
         """If a call can't be started, the message has the system's reason, if there is one. Then
         the next call is made."""
         said: list[str] = []
-        calls = FindCalls(StreamWaiter(), "program", said.append)
+        calls = FindsProgram(StreamWaiter(), "program", said.append)
         calls.add(["a"])
         calls.add(["b"])
         with patch(
-            "haul.search.find_calls.BackgroundProgram",
+            "haul.search.finds_program.BackgroundProgram",
             side_effect=[OSError(24, "Too many open files"), OSError()],
         ):
             calls.step()
@@ -444,7 +444,7 @@ class Calls(Searches):
     def test_it_takes_long(self) -> None:
         """A call that takes too long is ended, and the next call is made."""
         said: list[str] = []
-        calls = FindCalls(
+        calls = FindsProgram(
             StreamWaiter(),
             self.stub(
                 f"cd {self.folder}; echo $1 >> said; [[ $1 == b ]] || {{ sleep 1000 & sleep 1000; }}"
@@ -453,7 +453,7 @@ class Calls(Searches):
         )
         for word in "ab":
             calls.add([word])
-        with patch("haul.search.find_calls.MOST_SECONDS", 4.0):
+        with patch("haul.search.finds_program.MOST_SECONDS", 4.0):
             began = time.monotonic()
             while not calls.is_done():
                 calls.step()
@@ -499,10 +499,10 @@ class Calls(Searches):
     def test_how_long_it_may_take(self) -> None:
         """A call may take a minute, according to a clock that the test sets."""
         said: list[str] = []
-        calls = FindCalls(StreamWaiter(), self.stub("sleep 1000"), said.append)
+        calls = FindsProgram(StreamWaiter(), self.stub("sleep 1000"), said.append)
         calls.add([])
         with patch(
-            "haul.search.find_calls.time",
+            "haul.search.finds_program.time",
             Mock(monotonic=Mock(side_effect=[1000.0, 1059.9, 1060.0])),
         ):
             calls.step()
@@ -565,11 +565,11 @@ class StatusLines(Searches):
     def test_a_search_that_goes_on(self) -> None:
         """The rate counts only the soups that this search has run."""
         with patch("time.monotonic", return_value=1000.0) as now:
-            keeper = Keeper(str(self.file))
+            haul_file = HaulFile(str(self.file))
             search = make_search(
                 Plan(100, 200, 30, 1, None, RARER),
                 haul_of(LIFE, BLOCK, BIPOLE),
-                keeper,
+                haul_file,
                 make_client(),
                 Stopping(),
                 sys.stdout,
@@ -590,31 +590,31 @@ class StatusLines(Searches):
             self.assertEqual(search.status(), Status(140, 40, 10, 3, 0, 10.0, 60))
             search.batches.queue.clear()
             self.assertEqual(search.status(), Status(130, 30, 10, 3, 0, 10.0, 70))
-        os.close(keeper.lock)
+        os.close(haul_file.lock)
 
     def test_a_search_with_more_than_is_asked_for(self) -> None:
-        keeper = Keeper(str(self.file))
+        haul_file = HaulFile(str(self.file))
         search = make_search(
             Plan(100, 50, 30, 1, None, RARER),
             haul_of(LIFE, BLOCK),
-            keeper,
+            haul_file,
             make_client(),
             Stopping(),
             sys.stdout,
         )
         self.assertEqual(search.status().left, 0)
-        os.close(keeper.lock)
+        os.close(haul_file.lock)
 
     def test_when_the_batch_ends(self) -> None:
         """The time to the end of the batch is estimated from the rate of the search, unless the
         rate is 0."""
         said = io.StringIO()
         with patch("time.monotonic", return_value=1000.0) as now:
-            keeper = Keeper(str(self.file))
+            haul_file = HaulFile(str(self.file))
             search = make_search(
                 Plan(0, None, 30, 1, None, RARER),
                 haul_of(LIFE),
-                keeper,
+                haul_file,
                 Census(CENSUS, Terminal(said)),
                 Stopping(),
                 sys.stdout,
@@ -630,7 +630,7 @@ class StatusLines(Searches):
                     said.getvalue(),
                     f"haul: stops after this batch{when}; Ctrl-C again drops the batch\n",
                 )
-        os.close(keeper.lock)
+        os.close(haul_file.lock)
 
     def test_durations(self) -> None:
         for seconds, text in (
@@ -737,7 +737,7 @@ class StatusLines(Searches):
                 "--seed=a",
                 "--limit=500",
                 "--until=150",
-                "--part=10",
+                "--batch=10",
                 "--workers=4",
                 "--census",
                 program,
@@ -770,11 +770,11 @@ class Pace(Searches):
 
     def test_a_fiftieth_of_the_time(self) -> None:
         with patch("time.monotonic", return_value=1000.0) as now:
-            keeper = Keeper(str(self.file))
+            haul_file = HaulFile(str(self.file))
             search = make_search(
                 Plan(0, None, 10, 1, None, RARER),
                 haul_of(LIFE),
-                keeper,
+                haul_file,
                 make_client(),
                 Stopping(),
                 sys.stdout,
@@ -792,17 +792,17 @@ class Pace(Searches):
                 self.assertEqual((search.must_keep(), search.may_keep()), (must, must))
             search.unkept = []
             self.assertFalse(search.must_keep())
-        os.close(keeper.lock)
+        os.close(haul_file.lock)
 
     def test_how_long_writing_took(self) -> None:
         """The times of all writings are added up. While the file is written, no signal ends the
         program."""
         with patch("time.monotonic", return_value=1000.0) as now:
-            keeper, stopping = Keeper(str(self.file)), Stopping()
+            haul_file, stopping = HaulFile(str(self.file)), Stopping()
             search = make_search(
                 Plan(0, None, 10, 1, None, RARER),
                 haul_of(LIFE),
-                keeper,
+                haul_file,
                 make_client(),
                 stopping,
                 sys.stdout,
@@ -812,7 +812,7 @@ class Pace(Searches):
                 self.assertTrue(stopping.is_writing)
                 now.return_value += 2
 
-            with patch.object(keeper, "write", slow_write):
+            with patch.object(haul_file, "write", slow_write):
                 for writing in (2.0, 4.0):
                     search.unkept = [(0, [])]
                     search.keep()
@@ -823,22 +823,22 @@ class Pace(Searches):
             for at, may in ((1299.0, False), (1300.0, True)):
                 now.return_value = at
                 self.assertEqual(search.may_keep(), may)
-            with patch.object(keeper, "write", side_effect=OSError), self.assertRaises(OSError):
+            with patch.object(haul_file, "write", side_effect=OSError), self.assertRaises(OSError):
                 search.unkept = [(0, [])]
                 search.keep()
             self.assertFalse(stopping.is_writing)
-        os.close(keeper.lock)
+        os.close(haul_file.lock)
 
     def test_how_long_it_waits(self) -> None:
         """The search waits for streams for up to half a second, or until the status is due if that
         is sooner. If there are objects to examine, the search examines them for a fiftieth of a
         second, and doesn't wait. After SIGTERM, it examines them for a second."""
-        keeper, stopping = Keeper(str(self.file)), Stopping()
+        haul_file, stopping = HaulFile(str(self.file)), Stopping()
         said, told = io.StringIO(), io.StringIO()
         client = Census(CENSUS, Terminal(said))
         with patch("time.monotonic", return_value=1000.0) as now:
             search = make_search(
-                Plan(0, None, 10, 1, None, RARER), haul_of(LIFE), keeper, client, stopping, told
+                Plan(0, None, 10, 1, None, RARER), haul_of(LIFE), haul_file, client, stopping, told
             )
             with patch.object(search, "find_for") as find_for, patch.object(
                 search.waiter, "wait"
@@ -861,19 +861,19 @@ class Pace(Searches):
             search.find_for(0.001)
             self.assertIn(BIPOLE, told.getvalue())
             self.assertEqual(search.status().finds, 1)
-        os.close(keeper.lock)
+        os.close(haul_file.lock)
 
     def test_when_it_says_what_is_left(self) -> None:
         """If reporting the last finds takes five seconds, a single line says what remains to be
         done."""
-        keeper = Keeper(str(self.file))
+        haul_file = HaulFile(str(self.file))
         with patch("time.monotonic", return_value=1000.0) as now, redirect_stderr(
             io.StringIO()
         ) as said:
             search = make_search(
                 Plan(0, None, 10, 1, None, RARER),
                 haul_of(LIFE),
-                keeper,
+                haul_file,
                 make_client(),
                 Stopping(),
                 sys.stdout,
@@ -894,16 +894,16 @@ class Pace(Searches):
             said.getvalue(),
             "haul: finds are still told: 2 objects to look at; Ctrl-C twice stops that\n",
         )
-        os.close(keeper.lock)
+        os.close(haul_file.lock)
 
     def test_a_signal_while_batches_wait(self) -> None:
         """After SIGTERM, the batches that wait to be written are written, and the running batch is
         dropped."""
-        keeper, stopping = Keeper(str(self.file)), Stopping()
+        haul_file, stopping = HaulFile(str(self.file)), Stopping()
         search = make_search(
             Plan(0, None, 10, 1, None, RARER),
             haul_of(LIFE),
-            keeper,
+            haul_file,
             make_client(),
             stopping,
             sys.stdout,
@@ -922,33 +922,33 @@ class Pace(Searches):
         self.assertEqual(self.soups(), 30)
         self.assert_right()
         self.assert_nothing_runs()
-        os.close(keeper.lock)
+        os.close(haul_file.lock)
 
     def test_batches_that_wait_in_memory(self) -> None:
         """Batches that wait in memory are written together, at the latest when the search ends."""
-        keeper = Keeper(str(self.file))
+        haul_file = HaulFile(str(self.file))
         search = make_search(
             Plan(0, 60, 10, 2, None, RARER),
             haul_of(LIFE),
-            keeper,
+            haul_file,
             make_client(),
             Stopping(),
             sys.stdout,
         )
         written: list[int] = []
-        write = keeper.write
+        write = haul_file.write
 
         def slow_write(haul: Haul, beside: list[Beside]) -> None:
             written.append(haul.soups)
             write(haul, beside)
             time.sleep(0.3)
 
-        with patch.object(keeper, "write", slow_write):
+        with patch.object(haul_file, "write", slow_write):
             search.run()
         self.assertEqual((written[0], written[-1]), (10, 60))
         self.assertLessEqual(len(written), 3)
         self.assert_right()
-        os.close(keeper.lock)
+        os.close(haul_file.lock)
 
 
 if __name__ == "__main__":

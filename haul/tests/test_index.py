@@ -1,4 +1,4 @@
-"""`haul index`, and `haul check` of an index. An index lists the parts of a census. Each part is a
+"""`haul index`, and `haul check` of an index. An index lists the pieces of a census. Each piece is a
 haul with a single range of soups."""
 
 from __future__ import annotations
@@ -79,7 +79,7 @@ class Indexes(unittest.TestCase):
             with self.subTest(name=name):
                 self.assertEqual(self.refused("index", "0.haul", name), f"{name}: {why}")
 
-    def test_all_parts_are_taken(self) -> None:
+    def test_all_pieces_are_taken(self) -> None:
         self.assertEqual(self.check("index"), (0, "0+5: right\n5+5: right\n20+5: right\n", ""))
 
     def test_another_digest(self) -> None:
@@ -97,20 +97,20 @@ class Indexes(unittest.TestCase):
     def test_another_haul_is_refused(self) -> None:
         (self.folder / "other").write_bytes(census("take", "--first", "5", "--count", "4"))
         self.assertEqual(
-            self.refused("check", "index", "0.haul", "other"), "other: no part of the index"
+            self.refused("check", "index", "0.haul", "other"), "other: no piece of the index"
         )
 
     def test_a_choice(self) -> None:
         status, output, errors = self.check("index", "--random", "2", "--choice", "x")
-        first, *parts = output.splitlines()
-        self.assertEqual((status, errors, len(parts)), (0, "", 2))
+        first, *pieces = output.splitlines()
+        self.assertEqual((status, errors, len(pieces)), (0, "", 2))
         self.assertEqual(
             first,
-            "choice x: 2 of 3 parts; if 1 was wrong, a choice like this would miss it with probability 0.3333",
+            "choice x: 2 of 3 pieces; if 1 was wrong, a choice like this would miss it with probability 0.3333",
         )
         names = ["0+5", "5+5", "20+5"]
         lowest = sorted(names, key=lambda name: sha256(f"x {name}".encode()).digest())[:2]
-        self.assertEqual(parts, [f"{name}: right" for name in names if name in lowest])
+        self.assertEqual(pieces, [f"{name}: right" for name in names if name in lowest])
         self.assertEqual(self.check("index", "--random", "2", "--choice", "x")[1], output)
 
     def test_a_choice_is_written_at_once(self) -> None:
@@ -126,9 +126,9 @@ class Indexes(unittest.TestCase):
             yield (0, 5), True
 
         words = ["check", "--census", CENSUS, str(self.folder / "index"), "--random", "1"]
-        with patch("haul.cli.check_commands.retake_parts", retake):
+        with patch("haul.cli.check_commands.retake_pieces", retake):
             main(words, io.BytesIO(), Output(), io.StringIO())
-        self.assertRegex(done[0], "^choice [^:]*: 1 of 3 parts[^\n]*\n$")
+        self.assertRegex(done[0], "^choice [^:]*: 1 of 3 pieces[^\n]*\n$")
         self.assertEqual(done[1], "runs")
 
     def test_options_that_do_not_go_together(self) -> None:
@@ -142,7 +142,7 @@ class Indexes(unittest.TestCase):
 
     def test_damaged_indexes(self) -> None:
         digest = sha256(self.texts[20]).hexdigest()
-        descend = "the parts are not in ascending order, or share a soup"
+        descend = "the pieces are not in ascending order, or share a soup"
         for right, wrong, place in (
             ("@INDEX 1", "@INDEX 2", "line 1 column 8"),
             ("@RULE b3s23", "@RULE b3s32", "line 3 column 7"),
@@ -167,11 +167,11 @@ class Indexes(unittest.TestCase):
         self.assertEqual(self.refused("check", "index"), "index: bad index at line 7 column 1")
 
     def test_the_reference(self) -> None:
-        """The index of the reference has 100 parts, each with a million soups."""
+        """The index of the reference has 100 pieces, each with a million soups."""
         lines = (TOP / "reference" / "index").read_text().splitlines()[6:]
         self.assertEqual(
             [line.split()[:2] for line in lines],
-            [[str(part * 10**6), "1000000"] for part in range(100)],
+            [[str(piece * 10**6), "1000000"] for piece in range(100)],
         )
 
 

@@ -3,6 +3,7 @@ run several batches at once."""
 
 from __future__ import annotations
 
+import hashlib
 import os
 import random
 import re
@@ -11,7 +12,7 @@ import time
 from collections.abc import Callable
 from unittest.mock import patch
 
-from haul.search import late_file
+from haul.formats import late_file
 from haul.search.batches import share_workers
 from haul.tests.called import CENSUS, census, run
 from haul.tests.searching import QUICK, Searches
@@ -45,8 +46,14 @@ class LateSearches(Searches):
 
     def assert_kept(self, late: int, count: int, since: int = 0) -> None:
         header, lines = self.kept()
-        self.assertEqual(header, f"# late {late} since {since} left-out 0")
-        self.assertEqual(lines, self.lines_of_work(count - since, late, first=since))
+        wanted = self.lines_of_work(count - since, late, first=since)
+        self.assertEqual(lines, wanted)
+        unsettled = sum(line.endswith(b" unsettled") for line in wanted)
+        self.assertEqual(
+            header.split(" sha256 ")[0],
+            f"# late 2 from {late} soups {since}+{count - since} left-out 0 unsettled {unsettled} "
+            f"lines {len(wanted)}",
+        )
 
 
 class Kept(LateSearches):
@@ -54,7 +61,7 @@ class Kept(LateSearches):
         """FILE.late has the lines of exactly the late and unsettled soups, for batches of any size
         and for any number of workers."""
         for until, size, workers in ((70, 100, 1), (100, 7, 2), (101, 1, 3), (160, 25, 17)):
-            words = ["--part", str(size), "--workers", str(workers), "--late=404", "--seed=a"]
+            words = ["--batch", str(size), "--workers", str(workers), "--late=404", "--seed=a"]
             self.assertEqual(self.search(*words, *SHORT, "--until", str(until))[0], 0)
             self.assert_kept(404, until)
             self.assert_right()
@@ -95,16 +102,22 @@ class Kept(LateSearches):
 
     def test_it_is_there_without_a_line(self) -> None:
         self.search("--seed=a", "--until=5")
-        self.assertEqual(self.late.read_text(), "# late 12000 since 0 left-out 0\n")
+        nothing = hashlib.sha256().hexdigest()
+        self.assertEqual(
+            self.late.read_text(),
+            "# late 2 from 12000 soups 0+5 left-out 0 unsettled 0 lines 0 "
+            f"sha256 {nothing} rule=b3s23 profile=64,512,101,30300 seed=a\n",
+        )
 
     def test_the_lowest_numbers_are_kept(self) -> None:
         with patch.object(late_file, "MOST_LINES", 5), patch(
             "haul.search.late_soups.MOST_LINES", 5
         ), patch("haul.census.background.MOST_REPORTS", 5):
             for until in (40, 80):
-                self.search("--seed=a", *SHORT, "--late=0", "--part=40", f"--until={until}")
+                self.search("--seed=a", *SHORT, "--late=0", "--batch=40", f"--until={until}")
                 header, lines = self.kept()
-                self.assertEqual(header, f"# late 0 since 0 left-out {until - 5}")
+                self.assertIn(f"# late 2 from 0 soups 0+{until} left-out {until - 5} ", header)
+                self.assertIn(" lines 5 ", header)
                 self.assertEqual(lines, self.lines_of_work(5, 0))
             self.assert_right()
 
@@ -131,7 +144,7 @@ class Kept(LateSearches):
         changed."""
         self.search("--seed=a", *QUICK, "--late=0", "--until=10")
         before = self.file.read_bytes(), self.late.read_bytes()
-        status, _, errors = self.search("--until=4000", "--part=3990", most_bytes=20_000)
+        status, _, errors = self.search("--until=4000", "--batch=3990", most_bytes=20_000)
         self.assertEqual((status, errors), (5, "haul: mine.haul.late.new: File too large\n"))
         self.assertEqual((self.file.read_bytes(), self.late.read_bytes()), before)
         self.assert_left("mine.haul", "mine.haul.late", "mine.haul.lock")
@@ -143,7 +156,7 @@ class Kept(LateSearches):
         self.search("--seed=a", *SHORT, "--late=505", "--until=20")
         kept = self.late.read_bytes()
         (self.folder / "mine.haul.mine.late").write_text("mine")
-        with self.start("--part=10") as running:
+        with self.start("--batch=10") as running:
             self.wait_for(40)
             self.file.write_bytes(other)
             _, errors = running.communicate(timeout=60)
@@ -151,7 +164,8 @@ class Kept(LateSearches):
         self.assertIn(b"the haul of this search is in mine.haul.mine.2\n", errors)
         self.assertEqual(self.file.read_bytes(), other)
         self.assertEqual((self.folder / "mine.haul.mine.late").read_text(), "mine")
-        self.assertTrue(self.late.read_bytes().startswith(kept))
+        lines = kept.partition(b"\n")[2]
+        self.assertTrue(self.late.read_bytes().partition(b"\n")[2].startswith(lines))
         self.file = self.folder / "mine.haul.mine.2"
         self.late = self.folder / "mine.haul.mine.2.late"
         self.assert_right()
@@ -163,7 +177,7 @@ class Kept(LateSearches):
         draw = random.Random("late")
         for trial in range(12):
             soups = self.soups()
-            words = ["--seed=a", *SHORT, "--late=404", "--part", str(draw.choice([5, 20, 60]))]
+            words = ["--seed=a", *SHORT, "--late=404", "--batch", str(draw.choice([5, 20, 60]))]
             with self.start(*words, "--until=100000") as program:
                 self.wait_for(soups + 1)
                 time.sleep(draw.uniform(0, 0.15))
@@ -181,7 +195,7 @@ class Told(LateSearches):
 
     def test_fields(self) -> None:
         words = ["--seed=a", *SHORT, "--late=606", "--until=60", "--rarer=1"]
-        status, output, errors = self.search(*words, "--part=30")
+        status, output, errors = self.search(*words, "--batch=30")
         self.assertEqual((status, errors), (0, ""))
         lines = self.lines_of_work(60, 606)
         soups = [int(line.split(b"soup=")[1].split()[0]) for line in lines]
@@ -216,7 +230,8 @@ class Told(LateSearches):
         words = ["--seed=a", "--rule=b2s", "--limit=0"]
         self.assertEqual(self.search(*words, "--until=20"), (0, "", ""))
         header, lines = self.kept()
-        self.assertEqual((header, len(lines)), ("# late 100001 since 0 left-out 0", 20))
+        self.assertIn("# late 2 from 100001 soups 0+20 left-out 0 unsettled 20 lines 20 ", header)
+        self.assertEqual(len(lines), 20)
         status, output, _ = self.search("--late=100001", "--until=40")
         self.assertEqual((status, output.count("\tunsettled\t-\t")), (0, 20))
 
@@ -237,10 +252,14 @@ class OtherFiles(LateSearches):
             (header + "x\n", "line 2: bad line at 0"),
             (header + self.line(3)[:-1], "line 2: no line feed"),
             (header + self.line(3, other), "other job"),
+            (header + "# fate 3 x\n", "line 2: not the fate of the soup above"),
             (header + self.line(3) + self.line(4, other), "line 3: other job"),
             (header + self.line(4) + self.line(3), "line 3: not in order"),
             (header + self.line(4) + self.line(4), "line 3: not in order"),
-            (header.replace("since 0", "since 5") + self.line(4), "line 2: not in order"),
+            (
+                header.replace("since 0", "since 5") + self.line(4),
+                "line 2: not a soup that is covered",
+            ),
             (header + self.line(4, how="at=404 good=no"), "line 2: not late"),
             (header + self.line(2), "soup 2 isn't in the haul"),
         ):
@@ -251,7 +270,7 @@ class OtherFiles(LateSearches):
             self.assertEqual((status, errors), (0, told))
             self.assertEqual((self.folder / "mine.haul.late.bad").read_text(), text)
             (self.folder / "mine.haul.late.bad").unlink()
-            self.assertEqual(self.kept()[0], "# late 606 since 10 left-out 0")
+            self.assertIn("# late 2 from 606 soups 10+3 left-out 0 ", self.kept()[0])
             self.assert_right()
 
     def test_no_file_is_replaced(self) -> None:
@@ -263,7 +282,7 @@ class OtherFiles(LateSearches):
         self.assertEqual((self.folder / "mine.haul.late.bad").read_text(), "x")
 
     def test_changed_while_a_search_runs(self) -> None:
-        with self.start("--seed=a", *SHORT, "--late=404", "--part=20") as running:
+        with self.start("--seed=a", *SHORT, "--late=404", "--batch=20") as running:
             self.wait_for(20)
             self.late.write_text("mine")
             self.wait_for(self.soups() + 20)
@@ -336,7 +355,7 @@ class ManyWorkers(Searches):
 
     def test_forty(self) -> None:
         program = self.stub('echo "$@" >> calls; real "$@"')
-        words = ["--seed=a", "--until=100", "--part=9", "--late=never", *QUICK]
+        words = ["--seed=a", "--until=100", "--batch=9", "--late=never", *QUICK]
         self.assertEqual(self.search(*words, "--workers=40", program=program), (0, "", ""))
         self.assert_right()
         workers = [int(call.split("--workers=")[1].split()[0]) for call in self.calls()]
@@ -350,14 +369,14 @@ class ManyWorkers(Searches):
             "case $* in *--first=0*) until [ $(ls -d done* | wc -l) -ge 4 ]; do sleep 0.05; done;; esac; "
             f'"{CENSUS}" "$@"; touch done$RANDOM'
         )
-        words = ["--seed=a", "--until=200", "--part=10", "--workers=40", "--late=never", *QUICK]
+        words = ["--seed=a", "--until=200", "--batch=10", "--workers=40", "--late=never", *QUICK]
         self.assertEqual(self.search(*words, program=program)[0], 0)
         self.assert_right()
 
     def test_one_that_fails(self) -> None:
         """The batches before the failed one are in the file."""
         program = self.stub('case $* in *--first=20*) echo why >&2; exit 5;; *) real "$@";; esac')
-        words = ["--seed=a", "--until=200", "--part=10", "--workers=40", "--late=never", *QUICK]
+        words = ["--seed=a", "--until=200", "--batch=10", "--workers=40", "--late=never", *QUICK]
         self.assertEqual(self.search(*words, program=program), (5, "", "haul: why\n"))
         self.assertEqual(self.soups(), 20)
         self.assert_right()
@@ -366,7 +385,7 @@ class ManyWorkers(Searches):
     def stopped(self, change: Callable[[int], None]) -> tuple[int, str]:
         """Stops a search while three batches run. Returns its status and its error output."""
         program = self.stub('sleep 1; real "$@"')
-        words = ["--seed=a", "--part=10", "--workers=40", "--late=never", *QUICK]
+        words = ["--seed=a", "--batch=10", "--workers=40", "--late=never", *QUICK]
         with self.start(*words, program=program) as running:
             for _ in range(1000):
                 if len(self.running_here()) >= 4:
@@ -389,7 +408,7 @@ class ManyWorkers(Searches):
     def test_for_real(self) -> None:
         for workers in ("17", "33"):
             self.file.unlink(missing_ok=True)
-            words = ["--seed=a", "--until=300", "--part=50", "--workers", workers, "--late=never"]
+            words = ["--seed=a", "--until=300", "--batch=50", "--workers", workers, "--late=never"]
             self.assertEqual(self.search(*words)[0], 0)
             self.assert_right()
 

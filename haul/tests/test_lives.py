@@ -11,6 +11,7 @@ from pathlib import Path
 from unittest.mock import patch
 
 from haul.fates.fate import Fate, Kind
+from haul.formats.late_file import Late
 from haul.page.lives import choose_step, count_bars
 from haul.tests.called import CENSUS, census, run
 
@@ -90,9 +91,12 @@ class Pages(unittest.TestCase):
         lines = list_late(1000)
         settled = next(line for line in lines if "at=" in line)
         soup = int(settled.split("soup=")[1].split()[0])
+        # One unsettled soup is left out, since the page would refuse another number of them.
+        unsettled = next(line for line in lines if line.endswith(" unsettled"))
         wrong = [
             f"report 2 {NAME} worker=1 soup={soup} unsettled" if line == settled else line
             for line in lines
+            if line != unsettled
         ]
         status, output, errors = self.page(*wrong)
         self.assertEqual(status, 0)
@@ -115,6 +119,10 @@ class Pages(unittest.TestCase):
 
     def test_the_first_twenty(self) -> None:
         lines = [f"report 2 {NAME} worker=1 soup={soup} unsettled" for soup in range(600, 630)]
+        # The haul has fewer unsettled soups.
+        fits = patch.object(Late, "find_lost_unsettled", return_value=None)
+        fits.start()
+        self.addCleanup(fits.stop)
         with patch("haul.fates.explain.Fates.find", return_value=Fate(Kind.GROWS, "+1 cell")):
             output = self.page(*lines, header="# late 100001 since 600 left-out 7")[1]
         self.assertIn("Linear growth: 20 unsettled soups", output)

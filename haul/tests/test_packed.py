@@ -14,7 +14,7 @@ import unittest
 import zipfile
 from pathlib import Path
 
-from haul.tests.called import CENSUS, TOP, census, run
+from haul.tests.called import CENSUS, TOP, census, drop_summaries, run
 from haul.tests.searching import Searches
 from release.zipped import is_packed, packed, paths_in
 
@@ -125,7 +125,7 @@ class Packed(Searches):
             cwd=self.folder,
             env={"PATH": os.environ["PATH"], **more},
         )
-        return ended.returncode, ended.stdout.decode(), ended.stderr.decode()
+        return ended.returncode, ended.stdout.decode(), drop_summaries(ended.stderr.decode())
 
     def test_each_command(self) -> None:
         """For most commands and for some faults, the packed file prints what `haul` prints in the
@@ -243,7 +243,7 @@ class Packed(Searches):
                 "--seed=",
                 "--rarer=10000",
                 "--first=23280",
-                "--part=5",
+                "--batch=5",
                 "--workers=1",
                 "--finds",
                 program,
@@ -279,7 +279,7 @@ class Packed(Searches):
                 "--seed=",
                 "--rarer=10000",
                 "--first=23285",
-                "--part=10",
+                "--batch=10",
                 "--finds",
                 sleeps,
                 "mine.haul",

@@ -4,13 +4,14 @@ settle."""
 from __future__ import annotations
 
 import base64
+import hashlib
 import io
 import re
 import subprocess
 import tempfile
 import unittest
 from dataclasses import replace
-from html import unescape
+from html import escape, unescape
 from pathlib import Path
 from unittest.mock import patch
 
@@ -30,6 +31,7 @@ from haul.tests.called import CENSUS, QUIET, TOP, census, run
 from haul.tests.drawn import text_of
 from haul.tests.pages import (
     RATES,
+    Tags,
     before_table,
     compared,
     data_of,
@@ -647,6 +649,65 @@ class Data(unittest.TestCase):
             ),
             [],
         )
+
+
+class Foreign(unittest.TestCase):
+    """Tests that a haul of apgsearch, whose words may be any printable text, harms nothing. What
+    the page's script does with these words is tested in a browser."""
+
+    TEXTS = (
+        "<script>alert(1)</script>",
+        "</script><script>alert(1)</script>",
+        "</noscript><img/src=x/onerror=alert(1)>",
+        "\"onmouseover='alert(1)'//",
+        '\'onmouseover="alert(1)"//',
+        "&lt;img/src=x/onerror=alert(1)&gt;",
+        "javascript:alert(1)",
+        "--><!--",
+        "$title${style}",
+    )
+
+    def haul(self, text: str, code: str, symmetry: str) -> Haul:
+        haul = made({code: 2, "xs4_33": 1}, [(0, 9)])
+        return replace(haul, apgsearch=text, job=Job(text, "b3s23", STANDARD, symmetry))
+
+    def test_words_are_texts(self) -> None:
+        """Hostile words don't add an element or an attribute, in the table for browsers without
+        scripts or elsewhere."""
+        plain = self.haul("A", "A", "A!")
+        hauls = [self.haul(text, text, text) for text in self.TEXTS]
+        for haul, text in zip(hauls, self.TEXTS, strict=True):
+            made_of = page(haul, 0)
+            self.assertEqual(Tags(made_of).tags, Tags(page(plain, 0)).tags, text)
+            self.assertIn(f"<code>{escape(text)}</code>", made_of)
+            self.assertEqual(list(objects_of(made_of)), [text, "xs4_33"])
+        self.assertEqual(Tags(compared(*hauls[:8])).tags[:5], Tags(compared(*[plain] * 8)).tags[:5])
+
+    def test_links(self) -> None:
+        """A code is linked if it could be one. A soup is linked if its symmetry could be one."""
+        catagolue = "https://catagolue.hatsya.com"
+        block = [f"{catagolue}/object/xs4_33/b3s23"]
+        soups = [f"{catagolue}/hashsoup/C1/a0/b3s23"]
+        for code in ("zz_LINEAR", 'xs4_33"', "xs4_33/..", "ov_p99", "yl144_1_16_afb5"):
+            rows = table_of(page(self.haul("a", code, "C1"), 0)).rows
+            link = [f"{catagolue}/object/{code}/b3s23"] if code.startswith("yl") else []
+            self.assertEqual([row.links for row in rows], [link + soups, block + soups])
+        for symmetry, words in (("D4_+1", "D4_%2B1"), ("..", ""), ("C1/", ""), ("<C1>", "")):
+            rows = table_of(page(self.haul("a", "xp2_7", symmetry), 0)).rows
+            soups = [f"{catagolue}/hashsoup/{words}/a0/b3s23"] if words else []
+            self.assertEqual(rows[1].links, block + soups)
+
+    def test_policy(self) -> None:
+        """The policy of the page allows its own script, by the hash of its text, and no other."""
+        text = page(self.haul("a", "xp2_7", "C1"), 0)
+        (script,) = re.findall("<script>(.*?)</script>", text, re.DOTALL)
+        digest = base64.b64encode(hashlib.sha256(script.encode()).digest()).decode()
+        policy = (
+            f"default-src 'none'; script-src 'sha256-{digest}'; style-src 'unsafe-inline'; "
+            "img-src data:; base-uri 'none'; form-action 'none'"
+        )
+        head = text.partition("<title>")[0]
+        self.assertIn(f'<meta http-equiv="Content-Security-Policy" content="{policy}">', head)
 
 
 class Comparing(unittest.TestCase):

@@ -38,8 +38,8 @@ class Kept(Census):
         super().__init__(CENSUS, QUIET)
         self.known: dict[tuple[str, ...], bytes] = {}
 
-    def take(self, job: Job, ranges: list[Range], workers: int, out: IO[bytes]) -> None:
-        asked = tuple(list_take_arguments(job, ranges, workers, False))
+    def take(self, job: Job, ranges: list[Range], out: IO[bytes]) -> None:
+        asked = tuple(list_take_arguments(job, ranges, 1, False))
         if asked not in self.known:
             self.known[asked] = census(*asked)
         out.write(self.known[asked])
@@ -51,9 +51,7 @@ def said_of(kept: Kept, text: bytes) -> list[str] | None:
         haul = read_one_haul(io.BytesIO(text))
     except BadHaul:
         return None
-    return (
-        list(list_differences(haul, retake(kept, haul, 1))) if haul.soups == haul.size() else None
-    )
+    return list(list_differences(haul, retake(kept, haul))) if haul.soups == haul.size() else None
 
 
 def says_right(kept: Kept, text: bytes) -> bool:
@@ -64,7 +62,7 @@ def is_printed(kept: Kept, text: bytes) -> bool:
     """Checks whether `take` prints this text for the job and the set of soups in the text."""
     haul = read_one_haul(io.BytesIO(text))
     again = io.BytesIO()
-    kept.take(haul.job, haul.ranges, 1, again)
+    kept.take(haul.job, haul.ranges, again)
     return again.getvalue() == text
 
 

@@ -190,8 +190,59 @@ xs4_33 (block): one in 1.10 soups (95 %: 1.10 to 1.10); 673827113 objects in 911
         )
         self.assertNotIn("none", output)
 
+    def test_codes_that_are_something_else(self) -> None:
+        """Each code that no object of a census has is answered by what it is."""
+        grows = (
+            "a code of apgsearch for a pattern that grows or stays active; a census here counts its "
+            "soup as unsettled, and `haul why` says what became of the soup"
+        )
+        for code, answer in (
+            ("xq4_163", "not canonical: the same object is xq4_153"),
+            ("xs5_33", "not an apgcode: four cells, not five"),
+            ("xs13_33", "not an apgcode: four cells, not 13"),
+            ("xp3_7", "not an apgcode: period 2, not 3"),
+            ("xs7_8n6", "its cells aren't such an object"),
+            ("xs3_7", "its cells aren't such an object"),
+            ("xs4_zz", "not an apgcode"),
+            ("ov_s", "not an apgcode"),
+            ("zz_LINEAR", grows),
+            ("yl144_1_16_afb5f3db909e60548f086e22ee3353ac", grows),
+            (
+                "xp30_w33z8kqrqk8zzzx33",
+                "no object that `census` counts, so the reference can't have it",
+            ),
+        ):
+            status, output, errors = run("rarity", code)
+            # The name of an object stands between its code and the colon.
+            self.assertEqual((status, output.split(": ", 1)[1], errors), (0, f"{answer}\n", ""))
+
+    def test_an_unknown_name(self) -> None:
+        """The other objects are answered, and names that look like the unknown one are named."""
+        for unknown, meant in (
+            ("gldier", "; did you mean glider?"),
+            ("loafre", "; did you mean loafer or loaf?"),
+            ("nothing like it", ""),
+        ):
+            status, output, errors = run("rarity", "loafer", unknown, "block")
+            self.assertEqual(status, 2)
+            self.assertEqual(
+                [line.split()[0] for line in output.splitlines()], ["xq7_3nw17862z6952", "xs4_33"]
+            )
+            self.assertEqual(
+                errors,
+                f"haul: {unknown} is neither a code such as xs4_33 nor a known name{meant}\n",
+            )
+
+    def test_spellings(self) -> None:
+        """Apostrophes don't matter, straight or curly."""
+        wanted = run("rarity", "Achim's p8")
+        self.assertEqual(wanted[0], 0)
+        for name in ("Achims p8", "achim\u2019s P8", "ACHIM'S-P8"):
+            self.assertEqual(run("rarity", name), wanted)
+        self.assertEqual(run("rarity", "figure-8"), run("rarity", "figure eight"))
+
     def test_what_is_neither(self) -> None:
-        self.assertEqual(run("rarity", "blocksmith")[0], 2)
+        self.assertEqual(run("rarity", "blocksmith")[:2], (2, ""))
         self.assertEqual(run("rarity")[0], 2)
 
 

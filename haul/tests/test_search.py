@@ -25,8 +25,8 @@ from haul.census.background import (
     StreamWaiter,
 )
 from haul.census.starters import LAUNCH_CENSUS
-from haul.search.keeper import CantKeep, Keeper
-from haul.search.search import count_processors
+from haul.search.haul_file import CantUseFile, HaulFile
+from haul.census.client import count_processors
 from haul.search.stopping import Stopping
 from haul.tests.called import CENSUS, TOP, census, run
 from haul.tests.searching import QUICK, Searches
@@ -60,7 +60,7 @@ class Soups(Searches):
             "--limit=500",
         ]
         self.assertEqual(
-            self.search(*words, "--until", "30", "--part", "11", "--workers", "2")[0], 0
+            self.search(*words, "--until", "30", "--batch", "11", "--workers", "2")[0], 0
         )
         self.assertEqual(self.file.read_bytes(), census("take", *words, "--count", "30"))
 
@@ -69,7 +69,7 @@ class Soups(Searches):
         requested."""
         for until, size in ((10, 100), (50, 7), (51, 1), (200, 40)):
             self.assertEqual(
-                self.search("--seed=a", "--until", str(until), "--part", str(size))[0], 0
+                self.search("--seed=a", "--until", str(until), "--batch", str(size))[0], 0
             )
             self.assertEqual(
                 self.file.read_bytes(), census("take", "--seed=a", "--count", str(until))
@@ -112,7 +112,7 @@ class Soups(Searches):
     def test_the_last_soup(self) -> None:
         for _ in range(2):
             self.assertEqual(
-                self.search("--seed=a", "--first", str(NUMBER_LIMIT - 25), "--part", "10", *QUICK)[
+                self.search("--seed=a", "--first", str(NUMBER_LIMIT - 25), "--batch", "10", *QUICK)[
                     0
                 ],
                 0,
@@ -132,7 +132,7 @@ class Soups(Searches):
         """By default, there are as many workers as processors."""
         program = self.stub('echo "$@" >> calls; real "$@"')
         with patch("os.sched_getaffinity", return_value=range(5)):
-            self.search("--seed=a", "--until", "7", "--part", "4", *QUICK, program=program)
+            self.search("--seed=a", "--until", "7", "--batch", "4", *QUICK, program=program)
         with patch("os.sched_getaffinity", return_value=range(100)) as asked:
             self.assertEqual(count_processors(), 100)
         asked.assert_called_once_with(0)
@@ -147,7 +147,7 @@ class Soups(Searches):
         )
 
     def test_the_usual_batch(self) -> None:
-        """Without --part, a batch has 100,000 soups. The stub fails at once, so no soup is run."""
+        """Without --batch, a batch has 100,000 soups. The stub fails at once, so no soup is run."""
         program = self.stub('echo "$@" > calls; exit 5')
         self.assertEqual(self.search("--seed=a", program=program)[0], 5)
         self.assertIn(" --first=0 --count=100000 ", (self.folder / "calls").read_text())
@@ -230,8 +230,8 @@ class Refusals(Searches):
         for words, line in (
             (["-"], "FILE is the name of a file"),
             ([""], "an empty path"),
-            (["--part=0", "x"], "0 is not in 1 to 16777216"),
-            (["--part=16777217", "x"], "16777217 is not in 1 to 16777216"),
+            (["--batch=0", "x"], "0 is not in 1 to 16777216"),
+            (["--batch=16777217", "x"], "16777217 is not in 1 to 16777216"),
             (["--workers=1025", "x"], "1025 is not in 1 to 1024"),
             (["--workers=0", "x"], "0 is not in 1 to 1024"),
             (["--late=100002", "x"], "100002 is not in 0 to 100001"),
@@ -255,7 +255,7 @@ class Refusals(Searches):
 
     def test_a_second_search(self) -> None:
         (self.folder / "link").symlink_to("mine.haul")
-        with self.start("--seed=a", "--part", "20") as first:
+        with self.start("--seed=a", "--batch", "20") as first:
             self.wait_for(20)
             for name in ("mine.haul", "link"):
                 with self.start(file=name) as second:
@@ -285,19 +285,17 @@ class Refusals(Searches):
         self.assertFalse(self.file.exists())
 
     def test_a_program_that_cant_be_started(self) -> None:
-        """A text file that doesn't name an interpreter counts as no program. A loop of links is
-        reported with the system's message."""
+        """A text file that doesn't name an interpreter counts as no program, and so does a loop of
+        links."""
         text, loop = self.folder / "text", self.folder / "loop"
         text.write_text("x\n")
         text.chmod(0o755)
         loop.symlink_to("loop")
-        self.assertEqual(
-            self.search("--seed=a", program=str(text)), (2, "", f"haul: no census at {text}\n")
-        )
-        self.assertEqual(
-            self.search("--seed=a", program=str(loop)),
-            (5, "", f"haul: {loop}: Too many levels of symbolic links\n"),
-        )
+        for program in (text, loop):
+            self.assertEqual(
+                self.search("--seed=a", program=str(program)),
+                (2, "", f"haul: no census at {program}\n"),
+            )
         self.assertFalse(self.file.exists())
 
 
@@ -321,7 +319,7 @@ class Faults(Searches):
             self.file.unlink(missing_ok=True)
             program = self.stub(f'case "$*" in *--first=40*) {how} ;; *) real "$@" ;; esac')
             self.assertEqual(
-                self.search("--seed=a", "--part", "20", program=program),
+                self.search("--seed=a", "--batch", "20", program=program),
                 (status, "", f"haul: {line}\n"),
             )
             self.assertEqual(self.soups(), 40)
@@ -338,7 +336,7 @@ class Faults(Searches):
             self.file.unlink(missing_ok=True)
             program = self.stub(f'case "$*" in *--first=20*) {answer} ;; *) real "$@" ;; esac')
             self.assertEqual(
-                self.search("--seed=a", "--part", "20", program=program),
+                self.search("--seed=a", "--batch", "20", program=program),
                 (2, "", f"haul: no census at {program}\n"),
             )
             self.assertEqual(self.soups(), 20)
@@ -347,7 +345,7 @@ class Faults(Searches):
     def test_what_the_program_leaves_running(self) -> None:
         program = self.stub(f'sleep 1000 & "{CENSUS}" "$@"')
         self.assertEqual(
-            self.search("--seed=a", "--until", "40", "--part", "20", program=program)[0], 0
+            self.search("--seed=a", "--until", "40", "--batch", "20", program=program)[0], 0
         )
         self.assert_right()
         self.assert_nothing_runs()
@@ -359,7 +357,7 @@ class Faults(Searches):
         before = self.file.read_bytes()
         limit = len(before) + 1000
         self.assertEqual(
-            self.search("--until", "400", "--part", "395", most_bytes=limit),
+            self.search("--until", "400", "--batch", "395", most_bytes=limit),
             (5, "", "haul: mine.haul.new: File too large\n"),
         )
         self.assertEqual(self.file.read_bytes(), before)
@@ -379,7 +377,7 @@ class Faults(Searches):
     def test_nobody_reads(self) -> None:
         """If nobody reads the finds, the search ends, and the batch whose find couldn't be printed
         is in the file."""
-        with self.start("--seed=", "--first=23473", "--part=20", "--rarer=10000") as program:
+        with self.start("--seed=", "--first=23473", "--batch=20", "--rarer=10000") as program:
             assert program.stdout
             program.stdout.close()
             program.wait(60)
@@ -396,7 +394,7 @@ class Faults(Searches):
         for _ in range(8):
             soups = self.soups()
             with self.start(
-                "--seed=a", "--until", "100000", "--part", str(draw.choice([5, 20, 50]))
+                "--seed=a", "--until", "100000", "--batch", str(draw.choice([5, 20, 50]))
             ) as program:
                 self.wait_for(soups + 1)
                 time.sleep(draw.uniform(0, 0.1))
@@ -419,7 +417,7 @@ class Signals(Searches):
 
     def slow(self) -> subprocess.Popen[bytes]:
         """Starts a search whose third batch takes a long time, and waits until this batch runs."""
-        program = self.start("--seed=a", "--part", "20", program=self.stub(self.SLOW))
+        program = self.start("--seed=a", "--batch", "20", program=self.stub(self.SLOW))
         self.wait_for(20)
         while not (self.folder / "slow").exists():
             time.sleep(0.02)
@@ -427,7 +425,7 @@ class Signals(Searches):
 
     def test_the_first_interrupt(self) -> None:
         """After the first Ctrl-C, the running batch is finished."""
-        with self.start("--seed=a", "--part", "300") as program:
+        with self.start("--seed=a", "--batch", "300") as program:
             self.wait_for(300)
             os.killpg(program.pid, signal.SIGINT)
             output, errors = program.communicate(timeout=60)
@@ -575,11 +573,11 @@ class Keeping(Searches):
 
     def test_one_lock_for_two_names(self) -> None:
         (self.folder / "link").symlink_to(self.file)
-        keeper = Keeper(str(self.file))
-        with self.assertRaisesRegex(CantKeep, "^.*/link: another search keeps this file$"):
-            Keeper(str(self.folder / "link"))
-        os.close(keeper.lock)
-        os.close(Keeper(str(self.folder / "link")).lock)
+        haul_file = HaulFile(str(self.file))
+        with self.assertRaisesRegex(CantUseFile, "^.*/link: another search keeps this file$"):
+            HaulFile(str(self.folder / "link"))
+        os.close(haul_file.lock)
+        os.close(HaulFile(str(self.folder / "link")).lock)
 
     def test_a_link_to_a_link(self) -> None:
         """If FILE is a link to a link, the search locks the file to which the links lead. The lock
@@ -587,10 +585,10 @@ class Keeping(Searches):
         (self.folder / "far").mkdir()
         (self.folder / "far" / "link").symlink_to("../near")
         (self.folder / "near").symlink_to("mine.haul")
-        keeper = Keeper(str(self.file))
-        with self.assertRaisesRegex(CantKeep, "^.*/far/link: another search keeps this file$"):
-            Keeper(str(self.folder / "far" / "link"))
-        os.close(keeper.lock)
+        haul_file = HaulFile(str(self.file))
+        with self.assertRaisesRegex(CantUseFile, "^.*/far/link: another search keeps this file$"):
+            HaulFile(str(self.folder / "far" / "link"))
+        os.close(haul_file.lock)
         self.assertEqual(self.search("--until", "3", file="far/link", *QUICK)[0], 0)
         self.assertEqual(self.soups(), 3)
         self.assert_left("far", "mine.haul", "mine.haul.late", "mine.haul.lock", "near")
@@ -600,8 +598,8 @@ class Keeping(Searches):
         """The new text is on disk before it gets the name of the file. Afterwards the folder is
         written to disk, too."""
         self.file.write_bytes(census("take", "--count", "3"))
-        keeper = Keeper(str(self.file))
-        haul = keeper.read()
+        haul_file = HaulFile(str(self.file))
+        haul = haul_file.read()
         assert haul is not None
         steps: list[str] = []
         replace, fsync = os.replace, os.fsync
@@ -618,27 +616,27 @@ class Keeping(Searches):
             replace(old, new)
 
         with patch("os.fsync", noted_fsync), patch("os.replace", noted_replace):
-            keeper.write(haul)
+            haul_file.write(haul)
         self.assertEqual(steps, ["mine.haul.new", "replace", self.folder.name])
         self.assertEqual(self.file.read_bytes(), census("take", "--count", "3"))
-        os.close(keeper.lock)
+        os.close(haul_file.lock)
 
     def test_rights_of_a_new_file(self) -> None:
         """Everyone may read and write a new file, unless the mask says otherwise."""
         mask = os.umask(0)
         try:
-            keeper = Keeper(str(self.file))
-            keeper.write(haul_of_three())
+            haul_file = HaulFile(str(self.file))
+            haul_file.write(haul_of_three())
         finally:
             os.umask(mask)
         for name in ("mine.haul", "mine.haul.lock"):
             self.assertEqual((self.folder / name).stat().st_mode & 0o777, 0o666, name)
-        os.close(keeper.lock)
+        os.close(haul_file.lock)
 
     def test_a_folder_that_cant_be_synced(self) -> None:
         """Some file systems can't sync a folder and answer `EINVAL`, which isn't a fault. Any other
         error is a fault."""
-        keeper = Keeper(str(self.file))
+        haul_file = HaulFile(str(self.file))
         fsync = os.fsync
         for number, is_fault in ((errno.EINVAL, False), (errno.EIO, True)):
 
@@ -650,11 +648,11 @@ class Keeping(Searches):
             with patch("os.fsync", refused):
                 if is_fault:
                     with self.assertRaises(OSError):
-                        keeper.write(haul_of_three())
+                        haul_file.write(haul_of_three())
                 else:
-                    keeper.write(haul_of_three())
+                    haul_file.write(haul_of_three())
             self.assertEqual(self.file.read_bytes(), census("take", "--count", "3"))
-        os.close(keeper.lock)
+        os.close(haul_file.lock)
 
 
 def haul_of_three() -> Haul:

@@ -33,7 +33,7 @@ class Programs(Searches):
         """If `haul` is killed while a wrapper script waits for the census program, the script and
         the program end, too."""
         program = self.stub(f'"{CENSUS}" "$@"; true', "wrapper")
-        running = self.start("--part", "16000000", "--workers=1", program=program)
+        running = self.start("--batch", "16000000", "--workers=1", program=program)
         for _ in range(1000):
             if len(self.running_here()) >= 4:
                 break
@@ -66,7 +66,7 @@ class Programs(Searches):
             program = self.stub(
                 f'[ "$1" = --version ] && real "$@"; yes 0123456789 {redirection}', "flood"
             )
-            status, _, errors = self.search("--until", "30", "--part", "10", program=program)
+            status, _, errors = self.search("--until", "30", "--batch", "10", program=program)
             self.assertEqual(
                 (status, errors), (5, f"haul: census wrote too much to its standard {stream}\n")
             )
@@ -102,7 +102,7 @@ class Files(Searches):
         ]
         for change, name in changes:
             self.file.write_bytes(census("take", "--seed=a", "--count=20"))
-            running = self.start("--part", "10")
+            running = self.start("--batch", "10")
             self.wait_for(40)
             change()
             _, errors = running.communicate(timeout=60)

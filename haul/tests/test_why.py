@@ -411,7 +411,7 @@ class Files(unittest.TestCase):
 
     def test_unsettled_soups_of_a_file(self) -> None:
         settled = f"report 2 {self.JOB} worker=1 soup=9 at=101 good=yes"
-        name = self.file("# late 101 since 0 left-out 0", *self.lines(2, 1), settled)
+        name = self.file(*self.lines(2, 1), settled)
         status, output, errors = why(name)
         self.assertEqual((status, errors), (0, ""))
         self.assertEqual([line.split()[0] for line in output.splitlines()], ["1", "2"])

@@ -10,6 +10,7 @@ from haul.life.parts import Separator
 from haul.names.labels import NOT_SEPARATED, describe_parts
 from haul.names.objects import find_name
 from haul.plurals import pluralize
+from haul.rarity.code_faults import find_code_fault
 from haul.rarity.counted import find_occurrence_of_counted
 from haul.rarity.occurrence import Occurrence, format_one_in
 from haul.rarity.reference import NONE, SOUPS, load_reference
@@ -22,7 +23,11 @@ NOT_COUNTED = "no object that `census` counts, so the reference can't have it"
 
 def describe_rarity(separator: Separator, code: str) -> Iterator[str]:
     """Yields the lines about an object. A pseudo-object has a line of its own, and a line for each
-    code among its parts."""
+    code among its parts. If something is wrong with the code, the only line says what."""
+    fault = find_code_fault(code)
+    if fault is not None:
+        yield f"{name_object(code)}: {fault}"
+        return
     separation = separator.separate(code)
     if len(separation.parts) == 1:
         unsure = "" if separation.is_separated else f", {NOT_SEPARATED}"

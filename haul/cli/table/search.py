@@ -6,12 +6,11 @@ from haul.census.command_lines import NUMBERS_IN_A_CALL
 from haul.cli import commands
 from haul.cli.arguments import Argument, Command, option
 from haul.cli.faults import find_fault_of_search
-from haul.cli.shared_options import CENSUS, list_profile_options
+from haul.cli.shared_options import CENSUS, WORKERS, list_profile_options
 from haul.cli.values import (
     read_as_census,
     read_count,
     read_late,
-    read_many_workers,
     read_path,
     read_rule_value,
     read_seed,
@@ -40,19 +39,21 @@ SEARCH = Command(
     (
         option("--until", "N", "end when the haul has N soups (default: no limit)", read_count),
         option(
-            "--part",
+            "--batch",
             "N",
             "run N soups per batch, 1 to 16777216 (default: 100000). The next search runs a batch "
             "again that was dropped",
             read_within(1, NUMBERS_IN_A_CALL),
             100_000,
         ),
+        WORKERS,
         option(
-            "--workers",
-            "W",
-            "run soups with W workers, 1 to 1024 (default: one per processor). With more than 16, "
-            "several batches run at once",
-            read_many_workers,
+            "--soup-seconds",
+            "S",
+            "end after S seconds without a soup, or never if S is 0 (default: 60). Under some rules, "
+            "soups grow without end",
+            read_count,
+            60,
         ),
         option(
             "--late",

@@ -6,7 +6,7 @@ from haul.cli import commands
 from haul.cli.arguments import Argument, Command, Exclusive, flag, option
 from haul.cli.faults import find_fault_of_soups
 from haul.cli.pattern_commands import find_fault_of_soup, run_cells, run_rle, run_soup
-from haul.cli.shared_options import CENSUS, FORMS, PLANE
+from haul.cli.shared_options import CENSUS, FORMS, PLANE, WORKERS
 from haul.cli.values import read_code, read_count, read_path, read_rule_value
 from haul.patterns.rules import LIFE
 
@@ -42,7 +42,7 @@ SOUPS = Command(
     "prints, aren't checked;\n`census gather` does that. A bad line, and a line of another job than "
     "the first, is\nreported and skipped. Each soup counts once.\n\n"
     "examples:\n  census work --count 200 --worker 1 | haul soups\n"
-    "  haul soups --longest 10 --exact parts/*.lines\n  haul soups --code xp2_7e parts/*.lines",
+    "  haul soups --longest 10 --exact pieces/*.lines\n  haul soups --code xp2_7e pieces/*.lines",
     (
         Exclusive(
             (
@@ -66,6 +66,7 @@ SOUPS = Command(
         ),
         flag("--exact", "with --longest: find the exact generations, as `--stride 1` does"),
         FORMS,
+        WORKERS,
         CENSUS,
         Argument("files", "the lines (default: standard input)", "file", repeats="*"),
     ),

@@ -4,9 +4,9 @@ from __future__ import annotations
 
 from haul.cli import commands
 from haul.cli.arguments import Argument, Command, Exclusive, flag, option
-from haul.cli.faults import find_fault_of_counting, find_fault_of_page
-from haul.cli.shared_options import CENSUS, FORMS
-from haul.cli.values import read_code, read_count, read_kinds, read_path, read_periods
+from haul.cli.faults import find_fault_of_page
+from haul.cli.shared_options import CENSUS, FORMS, WORKERS
+from haul.cli.values import read_count, read_kinds, read_object, read_path, read_periods
 from haul.page.sides import MOST_SIDES
 from haul.views.compare import MOST_HAULS
 
@@ -97,14 +97,13 @@ TABLE = Command(
                     "be separated stay, and are marked",
                 ),
                 flag("--parts", "count each object by its parts (default)"),
+                flag("--whole", "count objects as the haul does, pseudo-objects among them"),
             )
         ),
-        flag("--whole", "count objects as the haul does, pseudo-objects among them"),
         FORMS,
         Argument("file", "the haul (default: standard input)", repeats="?"),
     ),
     commands.run_table,
-    find_fault_of_counting,
 )
 
 
@@ -118,7 +117,7 @@ RARITY = Command(
     "examples:\n  haul rarity loafer 'octagon 2' block\n  haul rarity xs8_rr",
     (
         Argument(
-            "objects", "a code, or a name such as `loafer`", "NAME|CODE", read_code, repeats="+"
+            "objects", "a code, or a name such as `loafer`", "NAME|CODE", read_object, repeats="+"
         ),
     ),
     commands.run_rarity,
@@ -154,6 +153,7 @@ PAGE = Command(
             "keeps; with one haul only",
             read_path,
         ),
+        WORKERS,
         CENSUS,
         Argument(
             "files",
