@@ -32,8 +32,8 @@ _haul() {
         page) options='--least --play --lives --workers --census --help' ;;
         soup) options='--rle --separate --help' ;;
         soups) options='--longest --unsettled --code --why --exact --csv --json --workers --census --help' ;;
-        why) options='--seed --rule --period --horizon --stride --limit --pattern --most --soup-seconds --csv --json --workers --census --help' ;;
-        cells) options='--help' ;;
+        why) options='--seed --rule --period --horizon --stride --limit --pattern --plane --most --soup-seconds --csv --json --workers --census --help' ;;
+        cells) options='--plane --help' ;;
         rle) options='--rule --help' ;;
     esac
     if [[ $word == -* ]]; then

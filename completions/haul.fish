@@ -69,6 +69,7 @@ complete -c haul -n '__fish_seen_subcommand_from why' -l horizon -x -d 'The prof
 complete -c haul -n '__fish_seen_subcommand_from why' -l stride -x -d 'The profile’s stride'
 complete -c haul -n '__fish_seen_subcommand_from why' -l limit -x -d 'The profile’s limit'
 complete -c haul -n '__fish_seen_subcommand_from why' -l pattern -x -d 'Explain a pattern, in plaintext, RLE or coordinates'
+complete -c haul -n '__fish_seen_subcommand_from why cells' -l plane -d 'Read RLE with a rule on a bounded grid as a pattern on the plane'
 complete -c haul -n '__fish_seen_subcommand_from why' -l most -x -d 'Explain the first N unsettled soups of FILE'
 complete -c haul -n '__fish_seen_subcommand_from why' -l soup-seconds -x -d 'Give up on a soup or a pattern after N seconds'
 complete -c haul -n '__fish_seen_subcommand_from rle' -l rule -x -d 'The rule of the header'

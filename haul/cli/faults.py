@@ -59,6 +59,7 @@ def find_fault_of_why(asked: argparse.Namespace) -> str | None:
         "a soup, a FILE or --pattern is needed": not asked.soups and asked.pattern is None,
         "--pattern doesn't go with soups or a FILE": bool(asked.soups)
         and asked.pattern is not None,
+        "--plane needs --pattern": asked.plane and asked.pattern is None,
         "--pattern doesn't go with --seed": asked.pattern is not None and asked.seed is not None,
         "a FILE doesn't go with soups or another FILE": bool(files) and len(asked.soups) > 1,
         "a FILE has a seed, a rule and a profile": bool(files) and has_job,

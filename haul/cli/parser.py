@@ -39,36 +39,61 @@ exit status: 0 done, 2 usage, 3 a text is refused, 4 out of memory, 5 a read or 
 """
 
 
-# Options that had other names in earlier states of the program.
-RENAMED = {"--part": "the number of soups in a batch is --batch"}
+# What to use instead of options that a command doesn't have, but that one may expect.
+INSTEAD = {
+    ("search", "--part"): "the number of soups in a batch is --batch",
+    ("search", "--count"): "--until N ends a search when the haul has N soups",
+}
 
 
 def parse_arguments(words: list[str]) -> argparse.Namespace:
-    """Reads the arguments of a call. Raises `SystemExit` after writing the help, the version, or
-    why the arguments are invalid."""
-    asked = make_parser().parse_args(words)
+    """Reads the arguments of a call. Options and other arguments may be in any order, unless there
+    is a `--`. Raises `SystemExit` after writing the help, the version, or why the arguments are
+    invalid."""
+    parser, commands = make_parsers()
+    words = write_as_options(words)
+    if words and words[0] in commands:
+        command = commands[words[0]]
+        # `parse_intermixed_args` doesn't know `--`.
+        if "--" in words:
+            asked = command.parse_args(words[1:])
+        else:
+            asked = command.parse_intermixed_args(words[1:])
+    else:
+        asked = parser.parse_args(words)
     fault = asked.command.find_fault(asked)
     if fault is not None:
         asked.refuse(fault)
     return asked
 
 
+def write_as_options(words: list[str]) -> list[str]:
+    """Returns the arguments with options instead of the words `help` and `version`."""
+    if words[:1] == ["help"] and len(words) <= 2:
+        return [*words[1:], "--help"]
+    return ["--version"] if words == ["version"] else words
+
+
 class Parser(argparse.ArgumentParser):
     """A parser that escapes control characters of the arguments in its error messages."""
 
     def error(self, message: str) -> NoReturn:
-        super().error(escape_controls(message + describe_renamed(message)))
+        instead = describe_instead(self.prog.removeprefix("haul "), message)
+        super().error(escape_controls(message + instead))
 
 
-def describe_renamed(message: str) -> str:
-    """Returns what to use instead of an option that `message` doesn't know, if it had this name
-    once. Returns an empty text otherwise."""
+def describe_instead(command: str, message: str) -> str:
+    """Returns what to use instead of an option that `message` doesn't know. Returns an empty text
+    if nothing is known about it."""
     unknown = message.partition("unrecognized arguments: ")[2].split()
-    new = next((RENAMED[word] for one in unknown if (word := one.split("=")[0]) in RENAMED), None)
-    return f"; {new}" if new else ""
+    hints = (INSTEAD.get((command, word.split("=")[0])) for word in unknown)
+    found = next((hint for hint in hints if hint), None)
+    return f"; {found}" if found else ""
 
 
-def make_parser() -> Parser:
+def make_parsers() -> tuple[Parser, dict[str, Parser]]:
+    """Returns the parser of all calls, and the parser of each command."""
+
     parser = Parser(
         prog="haul",
         description=DESCRIPTION,
@@ -77,17 +102,16 @@ def make_parser() -> Parser:
     )
     parser.add_argument("--version", action="version", version=f"haul {VERSION}")
     parsers = parser.add_subparsers(dest="name", required=True, metavar="COMMAND")
+    commands: dict[str, Parser] = {}
     for command in COMMANDS:
-        add_arguments(
-            command,
-            parsers.add_parser(
-                command.name,
-                help=command.about,
-                description=f"{command.about[0].upper()}{command.about[1:]}. {command.more}",
-                formatter_class=argparse.RawDescriptionHelpFormatter,
-            ),
+        commands[command.name] = parsers.add_parser(
+            command.name,
+            help=command.about,
+            description=f"{command.about[0].upper()}{command.about[1:]}. {command.more}",
+            formatter_class=argparse.RawDescriptionHelpFormatter,
         )
-    return parser
+        add_arguments(command, commands[command.name])
+    return parser, commands
 
 
 def add_arguments(command: Command, parser: argparse.ArgumentParser) -> None:

@@ -17,7 +17,7 @@ from haul.patterns.coordinates import (
     read_coordinates,
 )
 from haul.patterns.plaintext import BadPlaintext, is_plaintext, read_plaintext
-from haul.patterns.rle import BadRle, format_rle, read_rle
+from haul.patterns.rle import WITHOUT_HISTORY, BadRle, Rle, format_rle, read_rle
 from haul.patterns.rules import LIFE, parse_rule
 
 
@@ -68,18 +68,19 @@ def find_fault_of_soup(asked: argparse.Namespace) -> str | None:
 
 def run_cells(asked: argparse.Namespace, streams: Streams) -> int:
     text = streams.read_pattern(asked.file)
-    rule: str | None = None
     try:
         if is_plaintext(text):
-            rows = read_plaintext(text)
+            read = Rle(read_plaintext(text), None)
         else:
-            rows, rule = read_rle(text)
+            read = read_rle(text, asked.plane)
     except (BadPlaintext, BadRle) as bad:
         other = describe_other_form(text, "rle", "plaintext")
         raise Refused(f"{format_place(asked.file)}{bad}{other}") from None
-    if rule is not None and parse_rule(rule) != LIFE:
-        streams.terminal.complain(f"rule {rule} is --rule {parse_rule(rule)}")
-    streams.write_lines(rows)
+    if read.rule is not None and parse_rule(read.rule) != LIFE:
+        streams.terminal.complain(f"rule {read.rule} is --rule {parse_rule(read.rule)}")
+    if read.has_history:
+        streams.terminal.complain(f"{format_place(asked.file)}{WITHOUT_HISTORY}")
+    streams.write_lines(read.rows)
     return DONE
 
 

@@ -13,6 +13,7 @@ CENSUS = option(
     "the census program (default: the one beside this program, or on the PATH)",
     read_path,
 )
+PLANE = flag("--plane", "read RLE with a rule on a bounded grid as a pattern on the plane")
 WORKERS = option(
     "--workers",
     "W",

@@ -7,13 +7,16 @@ import re
 from collections.abc import Callable
 
 from haul.formats.haul import NUMBER_LIMIT
-from haul.patterns.rules import parse_rule
+from haul.patterns.codes import read_object_address
+from haul.patterns.rules import LIFE, parse_rule
 from haul.formats.late_file import ONLY_UNSETTLED
 from haul.formats.syntax import CODE, RULE, SEED
 from haul.names.objects import find_code_of_name, find_near_names
 from haul.search.late_soups import NEVER
 
 
+# Digits, possibly with an underscore between two of them, and a power of ten.
+COUNT = re.compile(r"([0-9]+(?:_[0-9]+)*)(?:e([0-9]{1,2}))?")
 # Codes of apgsearch with other characters than those of `census`.
 OF_APGSEARCH = re.compile("zz_[A-Z0-9_]{1,40}|PATHOLOGICAL")
 
@@ -41,9 +44,10 @@ def read_within(least: int, most: int) -> Callable[[str], int]:
     """Returns a function that reads a number from `least` to `most`."""
 
     def read(text: str) -> int:
-        if not least <= read_count(text) <= most:
+        number = read_count(text)
+        if not least <= number <= most:
             raise argparse.ArgumentTypeError(f"{text} is not in {least} to {most}")
-        return int(text)
+        return number
 
     return read
 
@@ -69,9 +73,11 @@ def read_seed(text: str) -> str:
 
 
 def read_count(text: str) -> int:
-    if not (text.isascii() and text.isdigit()):
+    """Reads a number such as `1000`, `1_000` or `1e3`."""
+    found = COUNT.fullmatch(text)
+    if found is None:
         raise argparse.ArgumentTypeError(f"{text} is no number")
-    return int(text)
+    return int(found[1] + "0" * int(found[2] or 0))
 
 
 def read_periods(text: str) -> tuple[int, int | None]:
@@ -94,10 +100,14 @@ def read_kinds(text: str) -> str:
 
 
 def read_object(text: str) -> str:
-    """Reads the code or the name of an object, without looking it up."""
+    """Reads the code or the name of an object, without looking it up, or the code in the address of
+    its page on Catagolue."""
     if not text:
         raise argparse.ArgumentTypeError("an empty name")
-    return text
+    code, rule = read_object_address(text) or (text, None)
+    if rule not in (None, LIFE):
+        raise argparse.ArgumentTypeError(f"the rule is {rule}, and the reference has {LIFE}")
+    return code
 
 
 def read_code(text: str) -> str:

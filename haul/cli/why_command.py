@@ -10,7 +10,7 @@ from haul.census.client import Census
 from haul.cli.arguments import Argument, Command, option
 from haul.cli.faults import find_fault_of_why
 from haul.cli.late_files import warn_of_lost_lines
-from haul.cli.shared_options import CENSUS, FORMS, WORKERS, list_profile_options
+from haul.cli.shared_options import CENSUS, FORMS, PLANE, WORKERS, list_profile_options
 from haul.cli.statuses import DONE
 from haul.cli.streams import Refused, Streams, format_place
 from haul.cli.values import (
@@ -29,7 +29,7 @@ from haul.patterns.plaintext import SIDE, BadPlaintext, Rows, is_plaintext, read
 from haul.formats.profile import STANDARD, Profile
 from haul.formats.recognition import describe_other_form
 from haul.formats.report_files import Reports
-from haul.patterns.rle import BadRle, read_rle
+from haul.patterns.rle import WITHOUT_HISTORY, BadRle, read_rle
 from haul.patterns.rules import LIFE, parse_rule
 from haul.views.why import FateTable
 
@@ -82,14 +82,14 @@ def explain_file(asked: argparse.Namespace, streams: Streams, census: Census) ->
 
 
 def explain_pattern(asked: argparse.Namespace, streams: Streams, census: Census) -> FateTable:
-    rows, rule = read_any_pattern(asked.pattern, streams)
+    rows, rule = read_any_pattern(asked.pattern, streams, asked.plane)
     job = Job("", asked.rule or rule or LIFE, read_profile(asked))
     pattern = "".join(f"{row}\n" for row in rows).encode("ascii")
     fate = Fates(census, job, asked.soup_seconds).find(pattern)
     return FateTable(job, [(asked.pattern, fate)], is_of_pattern=True)
 
 
-def read_any_pattern(name: str, streams: Streams) -> tuple[Rows, str | None]:
+def read_any_pattern(name: str, streams: Streams, is_plane: bool) -> tuple[Rows, str | None]:
     """Reads a pattern in plaintext, RLE or coordinates. Returns its rows and its rule. The rule is
     `None` if the text has no rule."""
     text = b""
@@ -99,8 +99,10 @@ def read_any_pattern(name: str, streams: Streams) -> tuple[Rows, str | None]:
                 return draw_columns(lines), None
             if is_plaintext(text):
                 return read_plaintext(text), None
-            rows, rule = read_rle(text)
-            return rows, None if rule is None else parse_rule(rule)
+            read = read_rle(text, is_plane)
+            if read.has_history:
+                streams.terminal.complain(f"{format_place(name)}{WITHOUT_HISTORY}")
+            return read.rows, None if read.rule is None else parse_rule(read.rule)
     except (BadPlaintext, BadRle, BadCoordinates) as bad:
         other = describe_other_form(text, "rle", "plaintext", "coordinates")
         raise Refused(f"{format_place(name)}{bad}{other}") from None
@@ -144,6 +146,7 @@ WHY = Command(
             "explain a pattern, in plaintext, RLE or coordinates (`-`: standard input)",
             read_path,
         ),
+        PLANE,
         option(
             "--most",
             "N",

@@ -10,6 +10,9 @@ from haul.fates.guns import find_guns
 # The longest cycle that is looked for. Each of the first `GENERATIONS + 1` populations is compared
 # with the population one cycle later.
 MOST_CYCLE, GENERATIONS = 2880, 8640
+# The parts in which a population is compared that doesn't grow linearly. Parts side by side aren't
+# compared, since most populations also shrink for some generations.
+PARTS = 8
 # Engines by the number of cells that they gain per generation.
 ENGINES = {
     Fraction(16, 144): "block-laying switch engine",
@@ -51,6 +54,8 @@ def name_engine(growth: Growth, cells: set[int]) -> str | None:
 
 
 def is_growing(populations: list[int]) -> bool:
-    """Checks whether each population in the second half is larger than all in the first half."""
-    half = len(populations) // 2
-    return min(populations[half:]) > max(populations[:half])
+    """Checks whether a population grows, linearly or not: if it is divided into `PARTS` parts, each
+    population of a part is larger than all of the part before the last."""
+    size = len(populations) // PARTS
+    parts = [populations[place * size : (place + 1) * size] for place in range(PARTS)]
+    return all(max(before) < min(later) for before, later in zip(parts, parts[2:]))

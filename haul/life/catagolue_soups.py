@@ -12,12 +12,13 @@ from dataclasses import dataclass
 from urllib.parse import unquote
 
 from haul.formats.haul import SYMMETRY
+from haul.patterns.codes import read_object_address
 from haul.patterns.plaintext import Rows, trim_rows
 from haul.patterns.rules import LIFE, parse_rule
 from haul.life.soups import make_soup
 
 # The address of a sample's page, up to the sample.
-ADDRESS = re.compile(r"https?://[^/]*catagolue[^/]*/hashsoup/")
+ADDRESS = re.compile(r"(?:https?://)?[^/]*catagolue[^/]*/hashsoup/")
 SAMPLE = re.compile(r"(?:([!-.0-~]*)/)?([!-.0-~]*[0-9])")
 
 
@@ -47,6 +48,11 @@ class Sample:
 def read_sample(name: str) -> Sample:
     """Reads the name of a sample, or the address of its page. Raises `BadSample` if the sample
     can't be shown."""
+    known = read_object_address(name)
+    if known is not None:
+        raise BadSample(
+            f"{name}: an object, and not a soup; `haul rarity {known[0]}` says how rare it is"
+        )
     address = ADDRESS.match(name)
     words = unquote(name[address.end() :]).rstrip("/") if address else name
     sample, rule = split_rule(words)

@@ -16,8 +16,8 @@ Cells = frozenset[Cell]
 
 def read_rle_cells(rle: str) -> Cells:
     """Returns the live cells of a pattern in RLE, whose corner is at (0, 0)."""
-    rows, _ = read_rle(rle.encode("ascii"))
-    return frozenset((x, y) for y, row in enumerate(rows) for x, c in enumerate(row) if c == "O")
+    rows = enumerate(read_rle(rle.encode("ascii")).rows)
+    return frozenset((x, y) for y, row in rows for x, c in enumerate(row) if c == "O")
 
 
 def move(cells: Iterable[Cell], shift: Cell) -> Cells:

@@ -10,6 +10,9 @@ from typing import NamedTuple
 PREFIX = re.compile(r"(?:x|ov_)([spq])([0-9]+)")
 DRAWN_CODE = re.compile(r"x[spq][0-9]+_([0-9a-z]+)")
 
+# The address of an object's page on Catagolue. A rule may follow the code.
+ADDRESS = re.compile(r"(?:https?://)?[^/]*catagolue[^/]*/object/([A-Za-z0-9_]+)(?:/([^/]*)/?)?")
+
 
 class Kind(NamedTuple):
     """What the prefix of a code says."""
@@ -38,3 +41,10 @@ def read_drawing(code: str) -> str | None:
 def is_large(code: str) -> bool:
     """Checks whether an object is too large to be drawn by its code."""
     return code.startswith("ov_")
+
+
+def read_object_address(text: str) -> tuple[str, str | None] | None:
+    """Returns the code and the rule in the address of an object's page on Catagolue. The rule is
+    `None` if it is missing. Returns `None` if the text isn't such an address."""
+    found = ADDRESS.fullmatch(text)
+    return (found[1], found[2] or None) if found else None

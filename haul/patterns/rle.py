@@ -7,6 +7,7 @@ column and row.
 from __future__ import annotations
 
 import re
+from typing import NamedTuple
 
 from haul.patterns.plaintext import SIDE, Rows
 from haul.patterns.rules import format_rule, parse_rule
@@ -25,6 +26,10 @@ BLANKS = re.compile(rb"[ \t\r\n]*")
 COUNT = re.compile(rb"[0-9]*")
 # The tags of cells in a pattern with more than two states.
 STATE = re.compile(rb"[.A-X]|[p-y][A-X]")
+# In LifeHistory and the like, these states are alive and dead in the pattern without its history.
+HISTORY = "history"
+LIVE_STATES, DEAD_STATES = b"ACE", b".BDF"
+WITHOUT_HISTORY = "states A, C and E are read as live cells, and B, D and F as dead cells"
 
 
 class BadRle(Exception):
@@ -39,8 +44,11 @@ class BadRle(Exception):
 class RleReader:
     """Reads a text of RLE, and keeps the place up to which it has been read."""
 
-    def __init__(self, text: bytes) -> None:
+    def __init__(self, text: bytes, is_plane: bool) -> None:
         self.text = text
+        # Whether a pattern on a bounded grid is read as one on the plane.
+        self.is_plane = is_plane
+        self.has_history = False
         self.place = 0
         # The position of the next cell.
         self.column = 0
@@ -66,8 +74,8 @@ class RleReader:
         return end if end >= 0 else len(self.text)
 
     def header(self) -> str | None:
-        """Reads the header if there is one. Returns its rule as written, or `None` if there is no
-        header or the header has no rule."""
+        """Reads the header if there is one. Returns its rule, or `None` if there is no header or
+        the header has no rule."""
         self.skip()
         if self.text[self.place : self.place + 1] != b"x":
             return None
@@ -75,20 +83,25 @@ class RleReader:
         found = HEADER.fullmatch(self.text[self.place : end].removesuffix(b"\r"))
         if found is None:
             raise self.bad(self.place, "not a header")
-        rule = found[1]
-        if rule is not None:
-            self.look_at_rule(rule.decode("latin-1"), self.place + found.start(1))
-        self.place = end
-        return None if rule is None else rule.decode("latin-1")
+        place, self.place = self.place, end
+        if found[1] is None:
+            return None
+        return self.read_rule(found[1].decode("latin-1"), place + found.start(1))
 
-    def look_at_rule(self, rule: str, place: int) -> None:
-        if ":" in rule:
-            raise self.bad(place + rule.index(":"), "a bounded grid")
+    def read_rule(self, text: str, place: int) -> str:
+        """Returns the rule without its grid. A rule with a history is returned without it."""
+        rule, colon, _ = text.partition(":")
+        if colon and not self.is_plane:
+            raise self.bad(place + len(rule), "a bounded grid, which --plane reads as the plane")
+        if rule.lower().endswith(HISTORY):
+            self.has_history = True
+            rule = rule[: -len(HISTORY)]
         option = parse_rule(rule)
         if option is None:
             raise self.bad(place, "a rule that is neither B/S, S/B nor a known name")
         if option.startswith("b0"):
             raise self.bad(place, "birth on zero neighbours")
+        return rule
 
     def run(self) -> bool:
         """Reads a tag with its count. Returns `False` if it is the final `!`."""
@@ -100,7 +113,7 @@ class RleReader:
         self.place = found.end()
         if found[0]:
             self.skip()
-        tag = self.text[self.place : self.place + 1]
+        tag = self.plain_tag(self.text[self.place : self.place + 1])
         if tag == b"!" and not found[0]:
             return False
         if tag not in (b"b", b"o", b"$"):
@@ -119,6 +132,12 @@ class RleReader:
         self.put(tag, count, place)
         return True
 
+    def plain_tag(self, tag: bytes) -> bytes:
+        """Returns the tag of a cell without its history."""
+        if not self.has_history or not tag:
+            return tag
+        return b"o" if tag in LIVE_STATES else b"b" if tag in DEAD_STATES else tag
+
     def put(self, tag: bytes, count: int, place: int) -> None:
         if tag == b"$":
             self.row, self.column = self.row + count, 0
@@ -132,15 +151,25 @@ class RleReader:
             row.extend(b"." * (first - len(row)) + b"O" * count)
 
 
-def read_rle(text: bytes) -> tuple[Rows, str | None]:
-    """Returns the rows of the pattern, and the rule in the header or `None`. Raises `BadRle` at the
-    first fault."""
-    reading = RleReader(text)
+class Rle(NamedTuple):
+    """A pattern that was read: its rows, the rule in the header or `None`, and whether its cells
+    had a history."""
+
+    rows: Rows
+    rule: str | None
+    has_history: bool = False
+
+
+def read_rle(text: bytes, is_plane: bool = False) -> Rle:
+    """Reads a pattern. If `is_plane` is set, a pattern on a bounded grid is read as one on the
+    plane. Raises `BadRle` at the first fault."""
+    reading = RleReader(text, is_plane)
     rule = reading.header()
     while reading.run():
         pass
     width = max(map(len, reading.rows), default=0)
-    return [row.decode("ascii").ljust(width, ".") for row in reading.rows], rule
+    rows = [row.decode("ascii").ljust(width, ".") for row in reading.rows]
+    return Rle(rows, rule, reading.has_history)
 
 
 def format_rle(rows: Rows, option: str) -> list[str]:

@@ -170,6 +170,36 @@ class NamedRules(unittest.TestCase):
         self.assertIsNone(find_named_rule("LifeHistory"))
 
 
+class OtherForms(unittest.TestCase):
+    """Tests patterns of Golly that have more than two states, or that are on a bounded grid."""
+
+    HISTORY = "states A, C and E are read as live cells, and B, D and F as dead cells\n"
+
+    def test_history(self) -> None:
+        """The states of LifeHistory are 1 (alive), 2 (history), 3 (marked alive), 4 (marked dead), 5
+        (alive at first) and 6 (a boundary), which are written as A to F."""
+        rows = "A.B$2CD$EF.2A!"
+        for rule in ("LifeHistory", "B3/S23History", "lifehistory"):
+            told = (0, "O....\nOO...\nO..OO\n", f"haul: {self.HISTORY}")
+            self.assertEqual(cells(f"x = 5, y = 3, rule = {rule}\n{rows}"), told)
+        text = "x = 3, y = 1, rule = B36/S23History\n3A!"
+        note = "haul: rule B36/S23 is --rule b36s23\n"
+        self.assertEqual(cells(text), (0, "OOO\n", f"{note}haul: {self.HISTORY}"))
+        status, output, errors = run("why", "--pattern=-", "--census", CENSUS, text=text.encode())
+        self.assertEqual((status, output, errors), (0, "- settled 0\n", f"haul: {self.HISTORY}"))
+
+    def test_bounded_grids(self) -> None:
+        for grid in (":T100,100", ":P10,20", ":K30*,20", ":T0,40"):
+            text = f"x = 3, y = 1, rule = B3/S23{grid}\n3o!".encode()
+            self.assertEqual(run("cells", "--plane", text=text), (0, "OOO\n", ""))
+            words = ("why", "--pattern=-", "--plane", "--census", CENSUS)
+            self.assertEqual(run(*words, text=text), (0, "- settled 0\n", ""))
+        self.assertIn("--plane needs --pattern", run("why", "--plane", "1")[2])
+
+
+NO_RULE = "a rule that is neither B/S, S/B nor a known name"
+
+
 class Refused(unittest.TestCase):
     FAULTS = [
         (HEAD + "bo$2bqA$3o!", 2, 6, "a third state"),
@@ -186,7 +216,15 @@ class Refused(unittest.TestCase):
         (HEAD + "1000$o!", 2, 6, "a cell past the 1000th column or row"),
         (HEAD + "100000000000o!", 2, 1, "a cell past the 1000th column or row"),
         (HEAD + "100000000000$100000000000o!", 2, 14, "a cell past the 1000th column or row"),
-        ("x = 3, y = 3, rule = B3/S23:T100,100\no!", 1, 28, "a bounded grid"),
+        (
+            "x = 3, y = 3, rule = B3/S23:T100,100\no!",
+            1,
+            28,
+            "a bounded grid, which --plane reads as the plane",
+        ),
+        ("x = 3, y = 3, rule = LifeHistory\nG!", 2, 1, "a third state"),
+        ("x = 3, y = 3, rule = LifeHistory\npA!", 2, 1, "a third state"),
+        ("x = 3, y = 3, rule = WorldHistory\nA!", 1, 22, NO_RULE),
         ("x = 3, y = 3, rule = B03/S23\no!", 1, 22, "birth on zero neighbours"),
         ("x = 3, y = 3, rule = 23/03\no!", 1, 22, "birth on zero neighbours"),
         (
@@ -311,7 +349,7 @@ class Writing(unittest.TestCase):
             rule = draw.choice(["b3s23", "b36s23", "bs", "b2s"])
             lines = format_rle(rows, rule)
             self.assertTrue(all(len(line) <= 70 for line in lines))
-            again, said = read_rle("\n".join(lines).encode())
+            again, said, _ = read_rle("\n".join(lines).encode())
             self.assertEqual((again, parse_rule(said or "")), (rows, rule))
         wide = ["O" * 1000] * 999 + ["." * 999 + "O"]
         self.assertEqual(read_rle("\n".join(format_rle(wide, "b3s23")).encode())[0], wide)
@@ -370,11 +408,11 @@ class Golly(unittest.TestCase):
             if len(text) > 50000:
                 continue
             try:
-                rows, rule = read_rle(text)
+                rows, rule, _ = read_rle(text)
             except BadRle:
                 continue
             with self.subTest(file=file.name):
-                known, said = read_rle(self.by_golly(text.decode("latin-1"), 0).encode())
+                known, said, _ = read_rle(self.by_golly(text.decode("latin-1"), 0).encode())
                 self.assertEqual(
                     (boxed(known), parse_rule(said or "")),
                     (boxed(rows), parse_rule(rule or "b3/s23")),

@@ -50,6 +50,8 @@ class Soups(unittest.TestCase):
             (page, None),
             (f"{page}/b3s23", None),
             (f"{page}/b3s23/", None),
+            (page.removeprefix("https://"), None),
+            (page.replace("https", "http"), None),
             (f"{page}/b36s23", "b36s23"),
             ("C1/k_a1/b36s23", "b36s23"),
         ):
@@ -77,7 +79,7 @@ class Soups(unittest.TestCase):
             (second, "B3/S23", "a", "1"),
         ):
             self.assertIn(f", rule = {rule}\n", text)
-            rows, _ = read_rle(text.encode())
+            rows = read_rle(text.encode()).rows
             soup = census("soup", f"--seed={seed}", number).decode().splitlines()
             self.assertEqual([row.rstrip(".") for row in rows], [row.rstrip(".") for row in soup])
 
@@ -116,6 +118,13 @@ class Soups(unittest.TestCase):
     def test_what_is_no_sample(self) -> None:
         for name in ("k_abcdefghijkl", "", "C1/", "a b1", "C1/a/1", "\u00e91", "\u0663", "a1\n"):
             self.assertEqual(said_of(name), f"{name}: not a sample, such as C1/k_abcdef12345")
+
+    def test_an_object(self) -> None:
+        """The address of an object's page isn't that of a sample's page."""
+        page = "catagolue.hatsya.com/object/xs4_33"
+        for name in (page, f"https://{page}/b3s23", f"http://{page}/b36s23/"):
+            told = f"{name}: an object, and not a soup; `haul rarity xs4_33` says how rare it is"
+            self.assertEqual(said_of(name), told)
 
     def test_none(self) -> None:
         self.assertEqual(run("soup")[0], 2)

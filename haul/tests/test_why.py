@@ -53,7 +53,7 @@ TO_A_BLOCK = "bo$2bo$3o48$50b2o$50b2o!"
 
 
 def cells_of(rle: str) -> set[int]:
-    rows, _ = read_rle(rle.encode())
+    rows = read_rle(rle.encode()).rows
     return {pack((x, y)) for y, row in enumerate(rows) for x, c in enumerate(row) if c == "O"}
 
 
@@ -278,9 +278,19 @@ class Hints(unittest.TestCase):
 
     def test_none_for_a_pattern_that_grows(self) -> None:
         self.assertEqual(tell_activity(Size(9, 5, 4), 0, True).why, "9 cells, 5 by 4")
-        self.assertTrue(is_growing([5, 7, 6, 8, 9, 10]))
-        for populations in ([5, 9, 6, 8, 9, 10], [5, 5, 5, 5], [9, 8, 7, 6], [1, 2, 8, 2]):
-            self.assertFalse(is_growing(populations))
+
+    def test_growth(self) -> None:
+        """A population that falls now and then may grow, but one that stops doesn't."""
+        grows = [generation**2 // 1000 + generation % 7 for generation in range(800, 2400)]
+        stops = [*grows[:900], *[grows[900]] * 700]
+        for populations, expected in (
+            (grows, True),
+            (stops, False),
+            (grows[::-1], False),
+            ([5] * 16, False),
+            ([generation % 100 for generation in range(800)], False),
+        ):
+            self.assertEqual(is_growing(populations), expected)
 
 
 class Told(unittest.TestCase):

@@ -6,7 +6,7 @@ from haul.cli import commands
 from haul.cli.arguments import Argument, Command, Exclusive, flag, option
 from haul.cli.faults import find_fault_of_soups
 from haul.cli.pattern_commands import find_fault_of_soup, run_cells, run_rle, run_soup
-from haul.cli.shared_options import CENSUS, FORMS, WORKERS
+from haul.cli.shared_options import CENSUS, FORMS, PLANE, WORKERS
 from haul.cli.values import read_code, read_count, read_path, read_rule_value
 from haul.patterns.rules import LIFE
 
@@ -80,7 +80,7 @@ CELLS = Command(
     "If the\nrule in the header isn't Life, the option that `census` needs is written to standard "
     "error.\nPlaintext passes through without its comments.\n\n"
     "example:\n  haul cells gun.rle | census run 30",
-    (Argument("file", "the pattern (default: standard input)", repeats="?"),),
+    (PLANE, Argument("file", "the pattern (default: standard input)", repeats="?")),
     run_cells,
 )
 
