@@ -4,8 +4,9 @@
  * says.
  *
  * @typedef {Node | string | number | bigint | boolean | null | undefined} Content `false` and an empty text are nothing
- * @typedef {Content | Contents[]} Contents
- * @typedef {Record<string, string | number | boolean | undefined>} Attributes
+ * @typedef {Content | any[]} Contents also in nested lists
+ * @typedef {string | number | boolean | undefined} Value
+ * @typedef {Record<string, Value | Record<string, string>>} Attributes `style` has its properties in CSS
  */
 
 const SVG = 'http://www.w3.org/2000/svg';
@@ -31,7 +32,7 @@ export const byId = id => document.getElementById(id);
 
 /**
  * Sets an attribute. With `true` it has no value, and with `false` or `undefined` it is removed.
- * @type {(target: Element, name: string, value: Attributes[string]) => void}
+ * @type {(target: Element, name: string, value: Value) => void}
  */
 export const setAttribute = (target, name, value) => {
   if (!ATTRIBUTES.has(name)) throw new Error(`no element of this page has the attribute ${name}`);
@@ -48,17 +49,14 @@ const isContent = content => content !== undefined && content !== null && conten
  * @type {(target: Element, ...contents: Contents[]) => void}
  */
 export const fill = (target, ...contents) => {
-  target.replaceChildren(.../** @type {any[]} */ (contents.flat(Infinity)).filter(isContent));
+  target.replaceChildren(...contents.flat(Infinity).filter(isContent));
 };
 
-/**
- * Makes an element. `style` has its properties in CSS.
- * @type {(name: string, attributes?: Attributes & { style?: any }, ...contents: Contents[]) => any}
- */
+/** @type {(name: string, attributes?: Attributes, ...contents: Contents[]) => any} */
 export const element = (name, { style = {}, ...attributes } = {}, ...contents) => {
   if (!HTML_NAMES.has(name) && !SVG_NAMES.has(name)) throw new Error(`this page has no element ${name}`);
   const made = SVG_NAMES.has(name) ? document.createElementNS(SVG, name) : document.createElement(name);
-  for (const [attribute, value] of Object.entries(attributes)) setAttribute(made, attribute, value);
+  for (const [attribute, value] of Object.entries(attributes)) setAttribute(made, attribute, /** @type {Value} */ (value));
   for (const [property, value] of Object.entries(style)) made.style.setProperty(property, value);
   fill(made, contents);
   return made;

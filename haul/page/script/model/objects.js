@@ -43,6 +43,7 @@ import { NOT_SEPARATED, STRICT, kindWords } from './words.js';
  * @type {(values: (0 | [Total, ...number[]])[] | undefined, ends?: Way['ends'], stars?: number[]) => Way}
  */
 const countWay = (values, ends, stars) => {
+  /** @type {[Total, ...number[]][]} */
   const counts = hauls.map((_, place) => values?.[place] || [0]);
   const totals = counts.map(([total]) => total);
   const samples = counts.map(([, ...numbers]) => numbers);
