@@ -63,7 +63,7 @@ def make_page(
 
 def write_script() -> str:
     """Returns the contents of the page's script element."""
-    script = bundle_modules(lambda path: read_file("script", *path.split("/")), MAIN)
+    script = bundle_modules(lambda path: read_file(f"script/{path}"), MAIN)
     return f"\n'use strict';\n{{\n{script}}}\n"
 
 
@@ -72,9 +72,6 @@ def hash_script(script: str) -> str:
     return f"sha256-{b64encode(sha256(script.encode()).digest()).decode()}"
 
 
-def read_file(*names: str) -> str:
-    """Returns the text of a file below the folder of this module."""
-    file = files("haul.page")
-    for name in names:
-        file = file / name
-    return file.read_text("utf-8")
+def read_file(name: str) -> str:
+    """Returns the text of a file in the folder of this module, or below it."""
+    return files("haul.page").joinpath(name).read_text("utf-8")
