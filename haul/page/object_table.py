@@ -88,7 +88,7 @@ def write_row(sides: Sides, code: str) -> str:
 
 def write_occurrence(code: str) -> str:
     """Returns how often the reference has a part, with the interval if there is one."""
-    often, *more = list_part_words(code)
+    often, *more = [escape(words) for words in list_part_words(code)]
     return f"{often}<small>{more[0]}</small>" if more else often
 
 
