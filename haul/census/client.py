@@ -22,10 +22,6 @@ from haul.terminal import Terminal
 PASSED_ON = (2, 3, 4, 5)
 FAILED = 5
 
-# How many bytes of a printed pattern are read at a time, and the byte of a live cell in it.
-BYTES_AT_A_TIME = 2**20
-LIVE = b"O"
-
 # The part of a report line that follows `soup=`: the soup's number, and what was found.
 REPORT = re.compile(rb"([0-9]{1,13}) ([a-z0-9_=* ]+)")
 
@@ -72,20 +68,6 @@ class Census:
         ) as program:
             printed, errors = program.communicate()
         return check_ending(program.returncode, printed, errors)
-
-    def live_cells(self, words: list[str], pattern: bytes) -> int:
-        """Counts the live cells of the pattern that the program prints. The pattern isn't kept,
-        since it may be too large for memory."""
-        cells = 0
-        with open_text(pattern) as read, start_child(
-            [self.path, *words], subprocess.PIPE, subprocess.PIPE, read
-        ) as program:
-            assert program.stdout and program.stderr
-            while piece := program.stdout.read(BYTES_AT_A_TIME):
-                cells += piece.count(LIVE)
-            errors = program.stderr.read()
-        check_ending(program.returncode, b"", errors)
-        return cells
 
     def ask_in_parts(
         self, ask: Callable[[list[Asked]], Said], asked: list[Asked], size: int, done_what: str

@@ -46,11 +46,6 @@ def list_name_arguments(job: Job) -> list[str]:
     return ["name", *list_pattern_options(job)]
 
 
-def list_run_arguments(job: Job, generations: int) -> list[str]:
-    """Returns the arguments for advancing a pattern by `generations` generations."""
-    return ["run", f"--rule={job.rule}", str(generations)]
-
-
 def list_coordinates_arguments(rule: str, generations: int) -> list[str]:
     """Returns the arguments for the live cells of a pattern after `generations` generations."""
     return ["run", f"--rule={rule}", "--coordinates", str(generations)]

@@ -52,6 +52,11 @@ FORMS = (
         "a macrocell file, which Golly can open and save as RLE",
     ),
     Form(
+        "life",
+        re.compile(rb"#Life 1\.0[56]"),
+        "a pattern in Life 1.05 or 1.06, which Golly can open and save as RLE",
+    ),
+    Form(
         "rle",
         re.compile(rb"#[CNOcRrP] |#CXRLE |\s*x\s*=\s*[0-9]|[0-9bo$]*[0-9bo][$!][0-9bo$!]*\r?\n?\Z"),
         "a pattern in RLE, which `haul cells` and `haul why --pattern` read",

@@ -30,6 +30,7 @@ KINDS = {
     Kind.GROWS: "Linear growth",
     Kind.COLLIDES: "Objects collide soon",
     Kind.ACTIVE: "Still active",
+    Kind.UNDECIDED: "Not decided",
     Kind.SETTLED: "Settled after all",
 }
 

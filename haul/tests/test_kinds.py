@@ -149,6 +149,8 @@ class Forms(unittest.TestCase):
     def test_other_texts(self) -> None:
         for text, key in (
             (b"@VERSION 2\r\n", "crlf"),
+            (b"#Life 1.05\n", "life"),
+            (b"#Life 1.06\n", "life"),
             (b"<!DOCTYPE html>\n", "html"),
             (b"bo$2bo$3o!", "rle"),
             (b"#N Glider\nx = 3", "rle"),

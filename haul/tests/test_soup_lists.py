@@ -6,15 +6,12 @@ import csv
 import io
 import json
 import os
-import resource
-import subprocess
-import sys
 import tempfile
 import unittest
 from collections.abc import Iterator
 from contextlib import contextmanager
 from pathlib import Path
-from unittest.mock import Mock, call
+from unittest.mock import Mock, call, patch
 
 from haul.formats.profile import Profile
 from haul.formats.haul import Job
@@ -23,7 +20,7 @@ from haul.formats.report_lines import Report
 from haul.life.cells import Cells
 from haul.life.generations import Rule, advance, read_rule
 from haul.life.soups import make_soup
-from haul.tests.called import CENSUS, HAUL, census, run
+from haul.tests.called import CENSUS, census, run
 from haul.views.settling import Settling
 from haul.views.soup_lists import Longest
 
@@ -464,7 +461,11 @@ class UnsettledSoups(unittest.TestCase):
         """The program is called for the population at the last checkpoint and a thousand
         generations earlier. The growth may be negative."""
         line = "report 2 rule=b36s23 profile=1,1,7,1010 seed=a worker=1 soup=0 unsettled"
-        script = 'case "$*" in "run --rule=b36s23 8") echo OOO.O ;; "run --rule=b36s23 1008") echo "O..O" ;; *) exit 5 ;; esac; cat > "$0.read"'
+        script = (
+            'case "$*" in "run --rule=b36s23 --sizes=8 8") echo 8 4 0 0 4 0 ;; '
+            '"run --rule=b36s23 --sizes=1008 1008") echo 1008 2 0 0 3 0 ;; *) exit 5 ;; esac; '
+            'cat > "$0.read"'
+        )
         with program(script) as path:
             self.assertEqual(
                 run("soups", "--unsettled", "--census", path, text=text_of([line]))[1].splitlines()[
@@ -474,32 +475,38 @@ class UnsettledSoups(unittest.TestCase):
             )
             self.assertEqual(Path(f"{path}.read").read_text().splitlines(), make_soup("a0"))
 
-    def test_a_large_pattern(self) -> None:
-        """The program that stands in for `census` prints 300 MB, and `haul` doesn't keep them in
-        memory."""
+    def test_nothing_lives(self) -> None:
         line = "report 2 rule=b3s23 profile=1,1,1,0 seed=a worker=1 soup=0 unsettled"
-        with tempfile.NamedTemporaryFile() as cells, program(f"cat{f' {cells.name}' * 30}") as path:
-            cells.write(b"O" * 10**7)
-            cells.flush()
-            ended = subprocess.run(
-                [sys.executable, HAUL, "soups", "--unsettled", "--census", path],
-                input=text_of([line]),
-                capture_output=True,
-                check=False,
-                preexec_fn=lambda: resource.setrlimit(resource.RLIMIT_AS, (2**28, 2**28)),
-            )
-        self.assertEqual(
-            ended.stdout.decode().splitlines()[-1],
-            "   0           0   300000000       0",
-            ended.stderr,
-        )
+        with program("echo 0 0") as path:
+            output = run("soups", "--unsettled", "--census", path, text=text_of([line]))[1]
+        self.assertEqual(output.splitlines()[3].split(), ["0", "0", "0", "0"])
+
+    def test_what_takes_too_much(self) -> None:
+        """If the program runs out of memory or time, the population and the growth aren't known."""
+        line = "report 2 rule=b3s23 profile=1,1,1,7 seed=a worker=1 soup=0 unsettled"
+        for script in ("echo 'census: out of memory' >&2; exit 4", "exec sleep 60"):
+            with program(script) as path, patch("haul.census.soup_runs.SOUP_SECONDS", 1):
+                words = ("soups", "--unsettled", "--census", path)
+                status, output, errors = run(*words, text=text_of([line]))
+                self.assertEqual((status, errors), (0, ""))
+                self.assertEqual(output.splitlines()[3].split(), ["0", "7", "-", "-"])
+                known = json.loads(run(*words, "--json", text=text_of([line]))[1])["growth"]
+            told = {"soup": 0, "generation": 7, "population": None, "growth": None}
+            self.assertEqual(known, [told])
 
     def test_census_fails(self) -> None:
-        with program("echo O; echo 'census: out of memory' >&2; exit 4") as path:
+        with program("echo 'census: write failed' >&2; exit 5") as path:
             self.assertEqual(
                 run("soups", "--unsettled", "--census", path, text=text_of(LINES)),
-                (4, "", "haul: out of memory\n"),
+                (5, "", "haul: write failed\n"),
             )
+        for printed in ("O", "7 1 0 0 1 0", "0 x"):
+            with program(f"echo {printed}") as path:
+                line = "report 2 rule=b3s23 profile=1,1,1,0 seed=a worker=1 soup=0 unsettled"
+                told = (2, "", f"haul: no census at {path}\n")
+                self.assertEqual(
+                    run("soups", "--unsettled", "--census", path, text=text_of([line])), told
+                )
 
     def test_no_program(self) -> None:
         self.assertEqual(
