@@ -6,9 +6,9 @@ from __future__ import annotations
 from collections.abc import Iterator
 from itertools import groupby
 
-from haul.patterns.plaintext import SIDE
 from haul.life.cells import Cell, Cells, fits_in, move_to_corner
 from haul.life.generations import Recurrence
+from haul.patterns.plaintext import SIDE
 
 # The most columns and rows of a pattern that a code draws.
 SIDE_OF_TEXT = 40
