@@ -65,6 +65,9 @@ class Reporter:
         printed."""
         return [*self.calls.list_open(), *self.waiting]
 
+    def count_unreported(self) -> int:
+        return self.calls.left() + len(self.waiting)
+
     def what_is_left(self) -> list[str]:
         finds = [write_count(len(self.waiting), "find") + " to print"] if self.waiting else []
         calls = write_count(self.calls.left(), "call") + f" of {self.calls.program}"

@@ -15,7 +15,7 @@ from __future__ import annotations
 
 import time
 from collections.abc import Callable
-from contextlib import suppress
+from contextlib import ExitStack, suppress
 from typing import TextIO
 
 from haul.census.background import StreamWaiter
@@ -45,6 +45,8 @@ SECONDS_AT_A_TIME, SECONDS_OF_FINDING = 0.5, 0.02
 LAST_SECONDS = 1.0
 # If finds are still being reported this long after the last batch, a line says so.
 SECONDS_WITHOUT_A_WORD = 5.0
+# The time between two removals of finds from FILE.finds.
+SECONDS_BETWEEN_FORGETTING = 1.0
 
 
 # The first soup of a batch, and the batch's new codes, each with its lowest soup.
@@ -87,25 +89,24 @@ class Search:
         self.line = StatusLine(self.terminal)
         self.stall = Stall(plan.soup_seconds)
         self.said_that_it_finishes = self.said_what_is_left = False
-        self.began = self.kept_at = time.monotonic()
+        self.began = self.kept_at = self.forgot_at = time.monotonic()
+        # How many batches weren't examined, and how many finds weren't reported, when reported finds
+        # were last removed from FILE.finds.
+        self.left_in_file = 0, 0
         # How long all writing together took, and how long the latest writing took, in seconds.
         self.writing = self.latest_writing = 0.0
 
     def run(self) -> None:
         """Takes soups until the haul has as many soups as planned, or until the search is stopped.
         Raises `Dropped` if a signal ends the search at once."""
-        try:
-            try:
-                self.take_batches()
-            finally:
-                self.batches.drop()
-                self.keep()
-        finally:
-            try:
-                self.report_rest()
-            finally:
-                self.terminal.show_progress("")
-                self.write_unreported()
+        with ExitStack() as whatever_happens:
+            # The last of these is done first, and each is done even if another one fails.
+            whatever_happens.callback(self.write_unreported)
+            whatever_happens.callback(self.terminal.show_progress, "")
+            whatever_happens.callback(self.report_rest)
+            whatever_happens.callback(self.keep)
+            whatever_happens.callback(self.batches.drop)
+            self.take_batches()
 
     # ---- Batches
 
@@ -211,6 +212,19 @@ class Search:
             self.reporter.list_unreported() + late,
         )
 
+    def forget_reported(self) -> None:
+        """Removes what has been reported from FILE.finds, so that little is reported twice if this
+        program is killed. Does this at most once per second, and again later if it fails."""
+        is_due = time.monotonic() - self.forgot_at >= SECONDS_BETWEEN_FORGETTING
+        if not is_due or self.files.finds_file.known is None:
+            return
+        left = len(self.finder.queue), self.reporter.count_unreported()
+        self.forgot_at = time.monotonic()
+        if left != self.left_in_file:
+            self.left_in_file = left
+            with suppress(OSError):
+                self.write_unreported()
+
     def write_unreported(self) -> None:
         """Writes FILE.finds, so that the next search reports what this one hasn't. Removes
         FILE.finds if everything has been reported."""
@@ -245,6 +259,7 @@ class Search:
             if self.must_keep():
                 self.keep()
             self.calls.step()
+            self.forget_reported()
             if self.has_reported():
                 self.waiter.wait(min(SECONDS_AT_A_TIME, self.line.seconds_left()))
             else:

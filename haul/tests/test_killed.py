@@ -69,6 +69,24 @@ class OpenCalls(Searches):
                     self.assertFalse((self.folder / "mine.haul.finds").exists())
         self.assert_nothing_runs()
 
+    def test_a_kill_after_a_second(self) -> None:
+        """What was reported more than a second before a kill isn't reported again."""
+        program = self.stub('[[ $* == *first=23700* ]] && sleep 77; real "$@"')
+        quick = self.stub("echo $2 >> said", "quick")
+        words = [*WORDS[:3], "--late=never", "--batch=700", "--finds", quick]
+        with self.start(*words, "--until=1400", program=program) as search:
+            while len(self.read("said")) < len(FINDS):
+                time.sleep(0.01)
+            for _ in range(1000):
+                if not (self.folder / "mine.haul.finds").exists():
+                    break
+                time.sleep(0.01)
+            search.kill()
+            search.communicate(timeout=60)
+        self.assertEqual(self.search(*words, "--until=700"), (0, "", ""))
+        self.assertEqual(self.read("said"), FINDS)
+        self.assert_nothing_runs()
+
     def test_a_call_that_ends_with_the_search(self) -> None:
         """A program that has ended by itself isn't called again, even if it ends while the search
         does."""
