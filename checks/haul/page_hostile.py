@@ -11,8 +11,18 @@ from pathlib import Path
 from typing import Any
 from urllib.parse import quote
 
-from checks.haul.browser import Driver, all_of, complaints, opened, text, texts, wait_for
-from checks.haul.made_pages import HAUL, count
+from checks.haul.browser import (
+    Driver,
+    all_of,
+    complaints,
+    is_narrow,
+    look_like,
+    opened,
+    text,
+    texts,
+    wait_for,
+)
+from checks.haul.made_pages import HAUL, WIDTHS, count
 from checks.lib.program import CENSUS
 
 # What an attack does if it runs, and texts that would run it somewhere in a page.
@@ -107,7 +117,7 @@ return {
   scripts: all.filter(one => one.localName === 'script').length,
   metas: all.filter(one => one.localName === 'meta').length,
   pwn: document.body.dataset.pwn ?? '',
-  noted,
+  noted: window.noted ?? [],
 };"""
 # Goes to addresses, and lists the codes of the dialogs that open.
 VISIT = """
@@ -203,6 +213,9 @@ def try_codes(driver: Driver, page: Path, codes: list[str]) -> None:
             {"xs4_33"},
         )
         look(driver, f"codes at {address}")
+        for width in WIDTHS:
+            look_like(driver, width)
+            count.holds(f"they fit into {width} points: {address}", is_narrow(driver))
     opened(driver, page)
     # A browser refuses more than 200 addresses in ten seconds. What is after a `&` is no code.
     addresses = [*TEXTS, *map(quote, TEXTS), *(quote(f"xp2_7{one}") for one in TEXTS)]
@@ -214,6 +227,13 @@ def try_codes(driver: Driver, page: Path, codes: list[str]) -> None:
     count.equal("a dialog leads to no code that can't be opened", texts(driver, ".step"), [])
     look(driver, "a dialog beside hostile codes")
     count.equal("nothing is on the console", complaints(driver), [])
+    driver.execute_cdp_cmd("Emulation.setScriptExecutionDisabled", {"value": True})
+    opened(driver, page)
+    shown = {one.text for one in driver.find_elements("css selector", ".all td:nth-child(2) code")}
+    count.equal("without scripts, each code is shown", shown, {"xs4_33", *codes})
+    look(driver, "codes without scripts")
+    driver.execute_cdp_cmd("Emulation.setScriptExecutionDisabled", {"value": False})
+    opened(driver, page)
 
 
 def try_policy(driver: Driver) -> None:

@@ -19,7 +19,6 @@ from haul.formats.report_lines import LINE_LIMIT
 
 # The mode of `launcher.py` that runs the program of `haul search --finds`.
 FIND = "find"
-# mutant: equal because the size of a read doesn't change what is printed
 BYTES_AT_A_TIME = 65_536
 # A program may print at most `MOST_PRINTED` bytes, and `BYTES_OF_A_SOUP` more for each soup that it
 # takes. It may write at most `MOST_COMPLAINED` bytes to standard error, apart from progress lines

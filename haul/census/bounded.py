@@ -127,7 +127,6 @@ class BoundedCensus:
     def read_lines(self, words: list[str], pattern: bytes) -> Iterator[bytes]:
         """Calls the program, and yields each line that it prints as soon as it comes."""
         with self.start(words, pattern) as program:
-            # mutant: equal because both streams exist
             assert program.stdout and program.stderr
             yield from self.lines(program.stdout)
             self.finish(program)
@@ -141,7 +140,6 @@ class BoundedCensus:
             left = self.bounds.left()
             if not poll.poll(None if left is None else left * 1000):
                 raise self.bounds.late()
-            # mutant: equal because the size of a read doesn't change what is printed
             piece = os.read(stream.fileno(), BYTES_AT_A_TIME)
             *lines, begun = (begun + piece).split(b"\n")
             yield from lines

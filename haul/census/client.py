@@ -77,7 +77,6 @@ class Census:
         of the progress line."""
         parts = [asked[start : start + size] for start in range(0, len(asked), size)]
         done = 0
-        # mutant: equal because the number of threads doesn't change what is printed
         with ThreadPoolExecutor(min(self.workers, len(parts) or 1)) as pool:
             for part, said in zip(parts, ask_all(pool, ask, parts), strict=True):
                 done += len(part)
@@ -106,7 +105,6 @@ class Census:
         The program's progress line is shown on a terminal."""
         words = list_take_arguments(job, ranges, self.workers, self.terminal.is_interactive())
         with start_child([self.path, *words], subprocess.PIPE, subprocess.PIPE) as program:
-            # mutant: equal because both streams exist
             assert program.stdout and program.stderr
             errors = bytearray()
             watcher = threading.Thread(target=self.pass_progress_on, args=(program.stderr, errors))
@@ -126,7 +124,6 @@ class Census:
     def pass_progress_on(self, stream: IO[bytes], errors: bytearray) -> None:
         """Shows the progress lines, which end in carriage returns, and keeps the rest in
         `errors`."""
-        # mutant: equal because the size of a read doesn't change what is printed
         while piece := os.read(stream.fileno(), 4096):
             errors += piece
             shown, returned, rest = bytes(errors).rpartition(b"\r")
@@ -149,7 +146,6 @@ def ask_all(
 def check_ending(status: int, printed: bytes, errors: bytes) -> bytes:
     if status != 0:
         lines = errors.decode("utf-8", "replace").strip().splitlines()
-        # mutant: equal because nothing is printed about status 0
         how = f"ended with status {status}" if status > 0 else f"was ended by signal {-status}"
         raise Ended(status, lines[-1].removeprefix("census: ") if lines else f"census {how}")
     return printed

@@ -59,7 +59,6 @@ def list_sizes_arguments(rule: str, first: int, last: int) -> list[str]:
 
 def list_set_options(job: Job, ranges: list[Range]) -> list[str]:
     """Returns the options for a job and a set of soups."""
-    # mutant: equal because an empty set is the same wherever it begins
     (first, count), *more = ranges or [(0, 0)]
     options = [f"--seed={job.seed}", *list_pattern_options(job)]
     options += [f"--first={first}", f"--count={count}"]

@@ -39,7 +39,6 @@ NOT_THERE = (
     "File name too long",
     "Invalid argument",
 )
-# mutant: equal because `haul` passes on only the statuses 2 to 5, and otherwise ends with 5
 USAGE, FAILED = 2, 5
 DONE = "done"
 

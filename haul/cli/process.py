@@ -55,7 +55,6 @@ def run_heeding_signals(work: Callable[[], int]) -> int:
             os.write(writing, bytes([IS_DONE]))
 
     begin_thread(do, reading)
-    # mutant: equal because only the first byte counts
     came = os.read(reading, 1)[0]
     while came != IS_DONE and children.stopping is not None and children.stopping.came(came):
         came = os.read(reading, 1)[0]

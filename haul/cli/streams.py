@@ -74,7 +74,6 @@ class Streams:
     def read_pattern(self, name: str | None) -> bytes:
         """Reads the text of a pattern. Raises `OSError` if it is too long."""
         with self.open_input(name) as stream:
-            # mutant: equal because a longer text is refused, however much of it is read
             return check_length(stream.read(PATTERN_LIMIT + 1), name)
 
     @contextmanager
@@ -83,7 +82,6 @@ class Streams:
         and all lines, since the text may be longer than `PATTERN_LIMIT`. Otherwise, yields the
         whole text and no lines, or raises `OSError` if the text is too long."""
         with self.open_input(name) as stream:
-            # mutant: equal because a longer text is refused, however much of it is read
             text = stream.read(PATTERN_LIMIT + 1)
             if is_coordinates(text):
                 # The last line of the text may have been cut off.
@@ -108,7 +106,6 @@ def check_length(text: bytes, name: str | None) -> bytes:
 def read_short_lines(stream: BinaryIO) -> Iterator[bytes]:
     """Yields the lines of a stream. A line that is too long for coordinates is split into
     pieces."""
-    # mutant: equal because a longer line is bad, however it is cut
     return iter(lambda: stream.readline(MOST_LINE), b"")
 
 

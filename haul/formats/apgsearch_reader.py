@@ -87,7 +87,6 @@ def split_lines(first: bytes, number: int, stream: IO[bytes]) -> Iterator[Line]:
         line = Line(number, text.removesuffix(b"\n").removesuffix(b"\r"))
         if line.words:
             yield line
-        # mutant: equal because a longer piece of a line is refused, too
         number, text = number + 1, stream.readline(LINE_LIMIT + 1)
 
 

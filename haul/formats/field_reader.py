@@ -9,7 +9,6 @@ from haul.formats.syntax import DECIMAL
 
 # Every line of a haul is shorter than this: the longest one has a code of 400 characters and three
 # numbers. The rest of a longer line isn't read.
-# mutant: equal because a longer line is refused, however much of it is read
 LINE_LIMIT = 1000
 
 
@@ -33,7 +32,6 @@ class FieldReader:
         self.number = 0
         self.fields: list[bytes] = []
         self.is_ended = False
-        # mutant: equal because each line begins anew
         self.read = 0
         # The next line, if it has been peeked at.
         self.held: bytes | None = None

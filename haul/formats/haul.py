@@ -53,7 +53,6 @@ class Haul:
     # The number of objects that a haul of apgsearch claims. The sum of its totals may differ.
     said_objects: int | None = None
     # The line of the input in which the haul begins.
-    # mutant: equal because the line is printed only for hauls that were read
     line: int = 1
 
     def objects(self) -> int:

@@ -103,7 +103,6 @@ def split_lines(stream: IO[bytes]) -> Iterator[bytes]:
     """Yields the lines of an input without their line feeds. If a line is too long, yields only its
     first `LINE_LIMIT + 1` bytes. Raises `OSError` if the input is too long."""
     size, is_begun = 0, False
-    # mutant: equal because a longer line is refused, however much of it is read
     while piece := stream.readline(LINE_LIMIT + 1):
         size += len(piece)
         if size > INPUT_LIMIT:

@@ -100,7 +100,6 @@ def build_report(found: re.Match[bytes]) -> Report | None:
     is_lawful = (
         is_between(int(found["worker"]), WORKER)
         and is_between(soup, SOUP)
-        # mutant: equal because 0 and 1 are both lawful
         and is_between(settled or 0, LIMIT)
     )
     if profile is None or counts is None or not is_lawful:
@@ -125,8 +124,8 @@ def read_counts(text: bytes) -> dict[str, int] | None:
     counts = {code: int(count) for code, count in pairs}
     return (
         counts
-        if len(counts) == len(codes) and codes == sorted(codes)
-        # mutant: equal because 0 and 1 are both lawful
+        if len(counts) == len(codes)
+        and codes == sorted(codes)
         and max(counts.values(), default=0) < TOTAL_LIMIT
         else None
     )

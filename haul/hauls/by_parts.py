@@ -55,7 +55,6 @@ class Objects:
     def separate_here(self, codes: list[str]) -> None:
         for done in range(0, len(codes), OBJECTS_BETWEEN_PROGRESS):
             self.show_progress(done, codes)
-            # 2 mutants: equal because no object is separated twice
             for code in codes[done : done + OBJECTS_BETWEEN_PROGRESS]:
                 self.separate(code)
 

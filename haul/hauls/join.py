@@ -61,7 +61,6 @@ class Joining:
         """Adds a range to the set and returns `True`, or returns `False` if the set already has a
         number of the range."""
         first, end = range_[0], range_[0] + range_[1]
-        # mutant: equal because a range with the same first number overlaps on either side
         place = bisect_right(self.ranges, (first, 0))
         # The range before `place` begins before `first`. The ranges from `place` on begin at
         # `first` or later.

@@ -25,12 +25,10 @@ STRIDE, MARGIN = 64, 4
 # The most columns and rows of a pattern, so that the last column isn't in its room.
 MOST_SIDE = STRIDE - 2 * MARGIN
 CORNER = MARGIN * STRIDE + MARGIN
-# mutant: equal because all cells in the first column are dead in each pattern
 ROW = (1 << STRIDE) - 1
 # Shifts by these numbers of rows, one after another, join 64 rows into one.
 HALVES = (32, 16, 8, 4, 2, 1)
 # The live cells of the column that a character stands for, as bits.
-# mutant: equal because a pattern that is read is moved to the corner
 COLUMNS = {
     character: sum(1 << STRIDE * row for row in rows) for character, rows in ROWS_OF_COLUMN.items()
 }
@@ -66,7 +64,6 @@ def read_bitmap(text: str) -> int | None:
 def list_cells(bits: int) -> Cells:
     """Returns the cells of a pattern, moved so that the bounding box begins at (0, 0) instead of
     (`MARGIN`, `MARGIN`)."""
-    # mutant: equal because the prefix `0b` has no 1
     return frozenset(
         [
             (place % STRIDE - MARGIN, place // STRIDE - MARGIN)
@@ -95,7 +92,6 @@ def join_rows(bits: int) -> int:
 
 
 def shift(bits: int, move: int) -> int:
-    # 2 mutants: equal because a shift by 0 bits is the same in both directions
     return bits << move if move >= 0 else bits >> -move
 
 
@@ -154,7 +150,6 @@ def select(digits: tuple[int, ...], counts: frozenset[int]) -> int:
     a count, the result is a negative number: all its bits from some place on are 1."""
     found = 0
     for count in counts:
-        # mutant: equal because the cell (0, 0), which is bit 0, is dead in each pattern
         places = -1
         for power, digit in enumerate(digits):
             places &= digit if count >> power & 1 else ~digit
@@ -173,7 +168,6 @@ def find_islands(phases: list[int]) -> list[int]:
     Each island is given by its cells in phase 0."""
     left, islands = phases[0], []
     while left:
-        # mutant: equal because the cell (0, 0), which is bit 0, is dead in each pattern
         reached, before = left & -left, 0
         while reached != before:
             before = reached
@@ -186,7 +180,6 @@ def find_islands(phases: list[int]) -> list[int]:
 
 def is_cluster(bits: int) -> bool:
     """Checks whether all live cells are connected by steps of at most two columns and two rows."""
-    # mutant: equal because the cell (0, 0), which is bit 0, is dead in each pattern
     reached, before = bits & -bits, 0
     while reached != before:
         before = reached

@@ -72,14 +72,12 @@ class Blocks:
         `left` into further blocks."""
         if not left:
             if self.is_separation(runs):
-                # mutant: equal because every phase of a part has the same code
                 yield [run[0] for run in runs]
             return
         first, *others = sorted(left)
         for size in range(len(left)):
             for more in combinations(others, size):
                 block = frozenset((first, *more))
-                # mutant: equal because the whole object counts as a separation anyway
                 run = self.run(block) if len(block) < len(self.islands) else None
                 if run is not None:
                     yield from self.completed([*runs, run], left - block)
@@ -123,7 +121,6 @@ class Blocks:
         doesn't recur with the object, or is a cluster in no phase."""
         generations: list[Cells] = []
         for together, alone in zip(self.generations, placed, strict=True):
-            # mutant: equal because a block that is the whole object leaves no cell for other blocks
             if not alone <= together:
                 return None
             generations.append(alone)

@@ -46,6 +46,5 @@ def fits_in(cells: Cells, side: int) -> bool:
 
 def draw_rows(cells: Cells, box: Cells) -> Rows:
     """Returns the rows of the pattern `cells` within the bounding box of the pattern `box`."""
-    # mutant: equal because dead cells at the edge aren't drawn
     columns, lines = (range(min(side), max(side) + 1) for side in zip(*box, strict=True))
     return ["".join(["O" if (x, y) in cells else "." for x in columns]) for y in lines]

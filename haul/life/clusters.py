@@ -37,7 +37,6 @@ def is_cluster(cells: Cells) -> bool:
     while edge and left:
         x, y = edge.pop()
         reached = left.intersection(
-            # 2 mutants: equal because the offsets are symmetric
             [(x + dx, y + dy) for dx in (-2, -1, 0, 1, 2) for dy in (-2, -1, 0, 1, 2)]
         )
         left -= reached

@@ -22,7 +22,6 @@ def draw_path(rows: Rows) -> str:
     """Returns the path that draws the runs of live cells, row by row. Each move except for the
     first one is relative to the end of the previous run."""
     moves: list[str] = []
-    # 2 mutants: equal because the first run is at an absolute position
     end, before = 0, 0
     for y, row in enumerate(rows):
         found = draw_runs(row)

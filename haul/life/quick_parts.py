@@ -94,9 +94,7 @@ class QuickSeparator:
         is a cluster in no phase."""
         if (shape, period) not in self.known:
             run = self.run(shape, period)
-            # mutant: equal because the last generation is the first one again
             move = find_move(shape, run[-1]) if run and any(map(is_cluster, run[:-1])) else None
-            # mutant: equal because no object moves by `None`
             self.known[shape, period] = None if run is None or move is None else (run, move)
         return self.known[shape, period]
 
@@ -120,14 +118,12 @@ class QuickBlocks:
         `left` into further blocks."""
         if not left:
             if is_separation(self.generations, runs):
-                # mutant: equal because every phase of a part has the same code
                 yield [run[0] for run in runs]
             return
         first, *others = sorted(left)
         for size in range(len(left)):
             for more in combinations(others, size):
                 block = frozenset((first, *more))
-                # mutant: equal because the whole object counts as a separation anyway
                 run = self.run(block) if len(block) < len(self.islands) else None
                 if run is not None:
                     yield from self.completed([*runs, run], left - block)
@@ -149,7 +145,6 @@ class QuickBlocks:
                 return None
             run.append(bits)
         is_back = move is not None and bits == shift(run[0], move)
-        # mutant: equal because the last generation is the first one again
         return run if is_back and any(map(is_cluster, run[:-1])) else None
 
 

@@ -19,7 +19,7 @@ from haul.names.labels import find_label
 from haul.names.objects import find_name, find_other_names
 from haul.page.lives import Lives, describe_lives
 from haul.page.sides import Side, Sides
-from haul.views.intervals import find_interval
+from haul.statistics.intervals import find_interval
 from haul.views.layout import make_exact
 from haul.rarity.reference import SOUPS
 from haul.terminal import Terminal

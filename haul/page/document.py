@@ -18,26 +18,13 @@ from haul.census.client import Census
 from haul.formats.haul import Haul
 from haul.page.data import describe_objects, write_data
 from haul.page.lives import Lives, write_lives
+from haul.page.modules import bundle_modules
 from haul.page.object_table import write_table
 from haul.page.sides import make_sides
 from haul.page.summary import write_foot, write_title, write_top
 
-# The files of the script. Each file uses definitions of the files before it.
-SCRIPTS = (
-    "elements",
-    "cells",
-    "objects",
-    "choice",
-    "picture",
-    "list",
-    "cards",
-    "charts",
-    "evolution",
-    "player",
-    "dialog",
-    "lives",
-    "page",
-)
+# The module that starts the page's script.
+MAIN = "page.js"
 # The browser runs no script but the one with this hash, and loads nothing.
 POLICY = Template(
     "default-src 'none'; script-src '$hash'; style-src 'unsafe-inline'; img-src data:; "
@@ -76,8 +63,8 @@ def make_page(
 
 def write_script() -> str:
     """Returns the contents of the page's script element."""
-    scripts = "\n".join(read_file(f"{name}.js") for name in SCRIPTS)
-    return f"\n'use strict';\n{{\n{scripts}}}\n"
+    script = bundle_modules(lambda path: read_file(f"script/{path}"), MAIN)
+    return f"\n'use strict';\n{{\n{script}}}\n"
 
 
 def hash_script(script: str) -> str:
@@ -86,5 +73,5 @@ def hash_script(script: str) -> str:
 
 
 def read_file(name: str) -> str:
-    """Returns the text of a file in the folder of this module."""
+    """Returns the text of a file in the folder of this module, or below it."""
     return files("haul.page").joinpath(name).read_text("utf-8")

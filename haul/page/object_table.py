@@ -88,7 +88,7 @@ def write_row(sides: Sides, code: str) -> str:
 
 def write_occurrence(code: str) -> str:
     """Returns how often the reference has a part, with the interval if there is one."""
-    often, *more = list_part_words(code)
+    often, *more = [escape(words) for words in list_part_words(code)]
     return f"{often}<small>{more[0]}</small>" if more else often
 
 
@@ -111,7 +111,6 @@ def describe_frequency(soups: int, total: int) -> str:
     if total * 2 <= soups:
         return f"≤ 1 in {bound_rarity(soups, total):,} soups"
     each = total / soups
-    # 2 mutants: equal because from 100 to 101 both forms have the same three digits
     return f"{each:,.0f} per soup" if each >= 100 else f"{each:.3g} per soup"
 
 

@@ -90,7 +90,6 @@ def fold(summary: str, words: str) -> str:
 
 def write_comparison(sides: Sides) -> str:
     """Returns the facts about hauls that are compared, as a table with a row for each haul."""
-    # mutant: equal because the facts of all hauls have the same names
     first = sides.all[0]
     heads = [
         "Haul",

@@ -16,7 +16,6 @@ from haul.patterns.rules import format_rule, parse_rule
 LINE_LENGTH = 70
 # A longer count is cut to this many digits. The cut count is still larger than the side of any
 # pattern.
-# mutant: equal because a longer count is too large, however many of its digits are read
 COUNT_DIGITS = 20
 
 HEADER = re.compile(
@@ -72,7 +71,6 @@ class RleReader:
 
     def end_of_line(self) -> int:
         end = self.text.find(b"\n", self.place)
-        # 2 mutants: equal because the line feed is never the first byte of the text
         return end if end >= 0 else len(self.text)
 
     def header(self) -> str | None:
@@ -169,7 +167,6 @@ def read_rle(text: bytes, is_plane: bool = False) -> Rle:
     rule = reading.header()
     while reading.run():
         pass
-    # mutant: equal because if there are no rows, no row is padded
     width = max(map(len, reading.rows), default=0)
     rows = [row.decode("ascii").ljust(width, ".") for row in reading.rows]
     return Rle(rows, rule, reading.has_history)

@@ -1,24 +1,10 @@
-"""Occurrences: one soup in N has an object. The interval of N is the exact interval of 95 % for a
-binomial count (Clopper and Pearson 1934)."""
+"""Occurrences: one soup in N has an object, with the exact interval of 95 % for N."""
 
 from __future__ import annotations
 
 from dataclasses import dataclass
-from functools import cache
-from math import expm1, log, sqrt
 
-from haul.rarity.incomplete import compute_beta, compute_beta_density
-
-TAIL = 0.025
-# The quantile of the normal distribution for `TAIL`. With it, `find_beta_quantile` chooses where to
-# start its search.
-# mutant: equal because the search finds the same value from any start
-DEVIATIONS = 1.96
-# The search ends at a step that is smaller than this, relative to the value.
-NEAR = 1e-12
-# The search ends after this many steps in any case.
-# mutant: equal because no search takes this many steps
-MOST_STEPS = 100
+from haul.statistics.shares import find_share_high, find_share_low
 
 
 @dataclass(frozen=True)
@@ -49,49 +35,3 @@ class Occurrence:
 def format_one_in(one_in: float) -> str:
     """Returns the number rounded to an integer, or with two decimal places if it is below 100."""
     return f"{one_in:.0f}" if one_in >= 100 else f"{one_in:.2f}"
-
-
-def find_share_high(having: int, soups: int) -> float:
-    """Returns the high end of the interval for the share of soups that have the object, or 1 if all
-    soups have it. If each soup had the object with this probability, the chance that at most
-    `having` of `soups` soups have it would be 2.5 %."""
-    if having == soups:
-        return 1.0
-    if not having:
-        return -expm1(log(TAIL) / soups)
-    return find_beta_quantile(having + 1, soups - having, 1 - TAIL, DEVIATIONS)
-
-
-def find_share_low(having: int, soups: int) -> float:
-    """Returns the low end of the interval for the share of soups that have the object. If each soup
-    had the object with this probability, the chance that at least `having` of `soups` soups have it
-    would be 2.5 %."""
-    if having == soups:
-        return float(TAIL ** (1 / soups))
-    return find_beta_quantile(having, soups - having + 1, TAIL, -DEVIATIONS)
-
-
-@cache
-def find_beta_quantile(a: int, b: int, chance: float, deviations: float) -> float:
-    """Returns the argument at which the incomplete beta function has the value `chance`, found with
-    Newton's method in a shrinking interval. The search starts `deviations` standard deviations
-    above the mean."""
-    low, high, mean = 0.0, 1.0, a / (a + b)
-    # 5 mutants: equal because the search finds the same value from any start
-    x = mean + deviations * sqrt(mean * (1 - mean) / (a + b + 1))
-    # 3 mutants: equal because the search finds the same value from any start
-    x = x if 0 < x < 1 else mean
-    for _ in range(MOST_STEPS):
-        over = compute_beta(a, b, x) - chance
-        # mutant: equal because a search that is at the value comes back to it from either side
-        low, high = (low, x) if over > 0 else (x, high)
-        slope = compute_beta_density(a, b, x)
-        # mutant: equal because the interval also shrinks without Newton's method
-        new = x - over / slope if slope else low
-        # 2 mutants: equal because a step to an end of the interval only takes longer
-        new = new if low < new < high else (low + high) / 2
-        # 2 mutants: equal because further steps don't change the value
-        if abs(new - x) <= NEAR * x:
-            return new
-        x = new
-    return x

@@ -25,7 +25,6 @@ from haul.rarity.reference import SOUPS, find_occurrence, is_covered, load_refer
 
 # The separator remembers the islands that it has run. After this many islands, it forgets them and
 # the codes of parts to save memory, since a search may go on for weeks.
-# mutant: equal because one more remembered run doesn't change what is printed
 MOST_RUNS = 20_000
 
 
@@ -192,7 +191,6 @@ class Finder:
         return part not in self.common and part not in self.known and part not in self.unread
 
     def parts_of(self, code: str) -> tuple[str, ...]:
-        # mutant: equal because one more remembered run doesn't change what is printed
         if self.separator.count_runs() > MOST_RUNS:
             self.separator.forget()
         return self.separator.separate(code).parts

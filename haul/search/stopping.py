@@ -46,5 +46,4 @@ class Stopping:
     def hear(self) -> None:
         """Reads the bytes in the pipe, so that they don't wake the work again."""
         with suppress(BlockingIOError):
-            # mutant: equal because the size of a read doesn't change what is printed
             os.read(self.reading, 4096)

@@ -95,7 +95,11 @@ def call(
 ) -> int:
     """Calls `haul` in this process, in the folder `cwd`, and returns its status."""
     with patch.object(sys, "argv", [INSTALLED_HAUL, *words]), in_folder(cwd):
-        return main(list(words), stdin, stdout, stderr)
+        try:
+            return main(list(words), stdin, stdout, stderr)
+        finally:
+            # A search handles signals from then on. In this process, other tests follow it.
+            children.stopping = None
 
 
 @contextmanager

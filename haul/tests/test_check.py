@@ -12,6 +12,7 @@ import unittest
 from contextlib import redirect_stderr
 from itertools import combinations
 from pathlib import Path
+from unittest.mock import patch
 
 from haul.cli.parser import parse_arguments
 from haul.hauls.file_choice import FileChoice, compute_chance_to_miss, count_wrong_files
@@ -47,6 +48,24 @@ class WhatIsSaid(unittest.TestCase):
         status, output, errors = self.check(text, "--samples")
         self.assertEqual((status, output), (0, ["right"]))
         self.assertRegex(errors, r"^haul: [0-9]+ sample soups run under b36s23 in [0-9.]+ s\n$")
+
+    def test_workers(self) -> None:
+        """Without `--workers`, there are as many as processors. A census has at most sixteen."""
+        with tempfile.TemporaryDirectory() as folder:
+            program, calls = Path(folder, "census"), Path(folder, "calls")
+            program.write_text(f'#!/bin/sh\necho "$@" >> {calls}\nexec {CENSUS} "$@"\n')
+            program.chmod(0o755)
+            none: list[str] = []
+            for words, processors, wanted in (
+                (none, 3, 3),
+                (none, 40, 16),
+                (["--workers=2"], 40, 2),
+                (["--workers=1024"], 3, 16),
+            ):
+                with patch("os.sched_getaffinity", return_value=range(processors)):
+                    text = census("take", "--count=2")
+                    run("check", "--census", str(program), *words, text=text)
+                self.assertIn(f"--workers={wanted} ", calls.read_text().splitlines()[-1] + " ")
 
     def test_another_seed(self) -> None:
         """The first line says that nothing resembles the seed, and the list ends after twenty."""
@@ -146,6 +165,15 @@ class Several(unittest.TestCase):
                 (0, [b"1.haul: right", name + b": right"]),
             )
             self.assertEqual(drop_summaries(ended.stderr.decode()), "")
+
+    def test_a_name_that_forges_a_line(self) -> None:
+        """Control characters of a name are escaped on standard output, too."""
+        name = "a\nwrong.haul: right\x1b[2K"
+        Path(name).write_bytes(Path("0.haul").read_bytes())
+        self.assertEqual(
+            run("check", name, "1.haul")[:2],
+            (0, "a\\x0awrong.haul: right\\x1b[2K: right\n1.haul: right\n"),
+        )
 
     def test_samples(self) -> None:
         self.assertEqual(

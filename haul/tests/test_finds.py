@@ -27,7 +27,7 @@ from haul.life.generations import read_rule
 from haul.life.parts import Separator
 from haul.rarity.reference import SOUPS, find_occurrence, load_reference
 from haul.census.background import FIND, StreamWaiter
-from haul.census.starters import read_launcher
+from haul.census.starters import list_starter_words
 from haul.search.finds_program import FindsProgram
 from haul.search.finds import Find, Finder, list_common_parts, Unread
 from haul.search.haul_file import Beside, HaulFile
@@ -474,17 +474,7 @@ class Calls(Searches):
 
         program = self.stub("echo $1 >> said; kill -INT $$; echo late >> said")
         ended = subprocess.run(
-            [
-                sys.executable,
-                "-I",
-                "-S",
-                "-c",
-                read_launcher(),
-                FIND,
-                str(os.getpid()),
-                program,
-                "once",
-            ],
+            [*list_starter_words(FIND), program, "once"],
             cwd=self.folder,
             stdout=subprocess.PIPE,
             check=False,

@@ -7,6 +7,7 @@ import sys
 import unittest
 
 from haul.tests.called import TOP
+from haul.tests.mutation.places import load_equal
 from haul.tests.mutation.runs import Trial, find_failing_tests
 
 
@@ -22,6 +23,12 @@ class Sixty(unittest.TestCase):
             (0, "60 passed, 0 failed\n"),
             ended.stderr.decode(),
         )
+
+    def test_the_lines_with_equal_changes(self) -> None:
+        """Each line that is listed in equal.txt is a line of its file."""
+        for file, lines in load_equal().items():
+            there = {line.strip() for line in (TOP / "haul" / file).read_text().splitlines()}
+            self.assertLessEqual(lines.keys(), there, file)
 
     def test_a_test_that_fails_anyway(self) -> None:
         """A test that fails without a change would seem to notice every change."""

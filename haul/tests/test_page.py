@@ -42,7 +42,7 @@ from haul.tests.pages import (
 )
 from haul.tests.test_whole import cells_of, drawn, made
 from haul.rarity.reference import find_dispersion
-from haul.views.intervals import find_dispersed_interval, find_interval
+from haul.statistics.intervals import find_dispersed_interval, find_interval
 
 PULSAR = "xp3_co9nas0san9oczgoldlo0oldlogz1047210127401"
 
@@ -637,12 +637,14 @@ class Data(unittest.TestCase):
         self.assertEqual((text.count("</script>"), text.count("<!--")), (2, 0))
 
     def test_the_files_are_in_it(self) -> None:
-        """The page contains each script and each style sheet of haul/page, and loads nothing."""
+        """The page contains each module of its script and its style sheet, and loads nothing."""
         text = page(self.HAUL, 0)
-        files = [*TOP.glob("haul/page/*.js"), *TOP.glob("haul/page/*.css")]
-        self.assertGreater(len(files), 8)
-        for file in files:
-            self.assertEqual(text.count(file.read_text()), 1, file)
+        modules = [*TOP.glob("haul/page/script/**/*.js")]
+        self.assertGreater(len(modules), 30)
+        for module in modules:
+            name = module.relative_to(TOP / "haul/page/script").with_suffix("").as_posix()
+            self.assertEqual(text.count(f"const ${name.replace('/', '_')} = "), 1, name)
+        self.assertEqual(text.count((TOP / "haul/page/page.css").read_text()), 1)
         self.assertEqual(
             re.findall(
                 "<(?:link|img|iframe|script) [^>]*(?:src|href)=|@import|url\\(|fetch\\(", text

@@ -226,6 +226,12 @@ class Refusals(Searches):
         self.refused(5, "none/mine.haul.lock: No such file or directory", file="none/mine.haul")
         self.assertFalse(os.path.exists("/dev/null.lock"))
 
+    def test_an_option_that_was_renamed(self) -> None:
+        for words in (["--part=7", "x"], ["x", "--part", "7"]):
+            errors = run("search", *words)[2]
+            self.assertIn("unrecognized arguments: --part", errors)
+            self.assertIn("; the number of soups in a batch is --batch\n", errors)
+
     def test_words(self) -> None:
         for words, line in (
             (["-"], "FILE is the name of a file"),

@@ -180,7 +180,7 @@ class Checks(unittest.TestCase):
 
     def test_workers(self) -> None:
         for words, workers in (
-            ((), 1),
+            ((), min(16, len(os.sched_getaffinity(0)))),
             (("--workers=1",), 1),
             (("--workers", "2"), 2),
             (("--workers=16",), 16),

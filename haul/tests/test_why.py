@@ -334,6 +334,10 @@ class Told(unittest.TestCase):
             field.step()
         self.assertEqual(texts, {"settled 0", "settles after 0"})
 
+    def test_a_pattern_that_dies(self) -> None:
+        self.assertEqual(look_for_rest(LIFE, set(), STANDARD), Rest())
+        self.assertEqual(why_pattern("OO\n", "--limit=5", "--stride=7"), "settles after 5")
+
     def test_several_objects(self) -> None:
         shuttle = cells_of(QUEEN_BEE_SHUTTLE)
         both = shuttle | {cell + pack((0, 40)) for cell in shuttle}

@@ -11,7 +11,7 @@ from haul.hauls.by_parts import Objects
 from haul.life.parts import Separation
 from haul.names.labels import find_label, mark_label
 from haul.rarity.counted import find_occurrence_of_counted
-from haul.rarity.equal_rates import STARRED_BELOW, compute_p_value
+from haul.statistics.equal_rates import STARRED_BELOW, compute_p_value
 from haul.rarity.occurrence import Occurrence
 from haul.rarity.reference import find_dispersion, is_covered
 from haul.views.haul_facts import (
@@ -21,7 +21,7 @@ from haul.views.haul_facts import (
     list_haul_facts,
     list_part_facts,
 )
-from haul.views.intervals import find_dispersed_interval, find_interval
+from haul.statistics.intervals import find_dispersed_interval, find_interval
 from haul.views.layout import (
     align_columns,
     format_csv,
@@ -62,7 +62,6 @@ def rank_codes(hauls: list[Haul], least: int, rare: bool = False) -> list[str]:
     codes = [
         code
         for code in set().union(*(haul.totals for haul in hauls))
-        # mutant: equal because each code has an object in at least one haul
         if any(haul.totals.get(code, 0) >= least for haul in hauls)
     ]
     rates = {

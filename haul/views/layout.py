@@ -22,7 +22,6 @@ def align_columns(
     `LEAST_OF_A_CODE` characters, even if a line is then wider."""
     widths = [max(len(row[column]) for row in rows) for column in range(len(rows[0]))]
     over = sum(widths) + len(GAP) * (len(widths) - 1) - width if width is not None else 0
-    # mutant: equal because a code is whole if it is cut to the width that it has
     if over > 0:
         widths[code] = min(widths[code], max(LEAST_OF_A_CODE, widths[code] - over))
     for row in rows:

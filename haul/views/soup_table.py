@@ -57,7 +57,6 @@ class SoupTable:
         bars = [[bar] for bar in self.bars()] if self.has_bars else [[]] * len(rows)
         shown = [row + bar for row, bar in zip(rows, bars, strict=True)]
         heads = self.heads + [""] * self.has_bars
-        # mutant: equal because without a width no column is cut
         yield from align_columns([heads, *shown], self.columns_of_text(), 0, None)
 
     def columns_of_text(self) -> set[int]:
@@ -102,7 +101,6 @@ def describe_settled_soups(settling: Settling) -> str:
 
 def describe_settling(settling: Settling) -> str:
     quartiles, mean = settling.quartiles(), settling.mean()
-    # mutant: equal because either both are known or neither is
     if quartiles is None or mean is None:
         return "no soup has settled"
     first, median, third = quartiles

@@ -1,9 +1,6 @@
 """The places in which a module can be changed, and the changes that no test can notice.
 
-If changes of a line are equal to the original, a comment above the line says so:
-
-    # mutant: equal because no period is above the standard horizon
-    # 2 mutants: equal because both forms have the same three digits
+If changes of a line are equal to the original, the file equal.txt says so.
 """
 
 from __future__ import annotations
@@ -13,6 +10,8 @@ import re
 from collections import Counter
 from collections.abc import Iterator
 from dataclasses import dataclass
+from functools import cache
+from pathlib import Path
 
 OPPOSITE = {
     ast.Lt: ast.LtE,
@@ -30,7 +29,11 @@ OPPOSITE = {
     ast.Add: ast.Sub,
     ast.Sub: ast.Add,
 }
-ALLOWANCE = re.compile(r"# (?:(?P<number>[0-9]+) )?mutants?: equal because ")
+# The lines of equal.txt: the name of a file, a line of it, or the number of its equal changes and the
+# reason.
+FILE_LINE, CODE_LINE = re.compile(r"(\S+)"), re.compile(r"    (\S.*)")
+NUMBER_LINE = re.compile(r"        ([1-9][0-9]*): \S.*")
+EQUAL = Path(__file__).with_name("equal.txt")
 
 
 @dataclass
@@ -160,15 +163,34 @@ def list_shown_parts(statement: ast.stmt) -> list[ast.AST]:
     return [one for part in parts for one in (part if isinstance(part, list) else [part])]
 
 
-def find_allowances(text: str) -> Counter[int]:
-    """Returns how many changes of each line may go unnoticed, according to the comment above the
-    line."""
-    allowances: Counter[int] = Counter()
-    number = 0
-    for line, words in enumerate(text.splitlines(), 1):
-        if found := ALLOWANCE.search(words):
-            number = int(found["number"] or 1)
-        elif not words.lstrip().startswith("#"):
-            allowances[line] = number
-            number = 0
-    return +allowances
+@cache
+def load_equal() -> dict[str, dict[str, int]]:
+    """Returns, for each file of equal.txt, the lines with changes that no test can notice, and how
+    many such changes each has."""
+    equal: dict[str, dict[str, int]] = {}
+    file = code = ""
+    for line in EQUAL.read_text().splitlines():
+        if line.startswith("#") or not line:
+            continue
+        if found := FILE_LINE.fullmatch(line):
+            file = found[1]
+            equal[file] = {}
+        elif found := NUMBER_LINE.fullmatch(line):
+            equal[file][code] = int(found[1])
+        elif found := CODE_LINE.fullmatch(line):
+            code = found[1]
+        else:
+            raise ValueError(f"equal.txt: {line}")
+    return equal
+
+
+def find_allowances(file: str, text: str) -> Counter[int]:
+    """Returns how many changes of each line of a file may go unnoticed."""
+    known = load_equal().get(file, {})
+    return Counter(
+        {
+            line: known[words.strip()]
+            for line, words in enumerate(text.splitlines(), 1)
+            if words.strip() in known
+        }
+    )

@@ -26,7 +26,6 @@ def compute_beta(a: float, b: float, x: float) -> float:
     if x <= 0 or x >= 1:
         return 0.0 if x <= 0 else 1.0
     # The fraction converges quickly only below the mean.
-    # 3 mutants: equal because near the mean it converges quickly on both sides
     if x > (a + 1) / (a + b + 2):
         return 1 - compute_beta_below(b, a, 1 - x)
     return compute_beta_below(a, b, x)
@@ -58,7 +57,6 @@ def compute_gamma_tail(a: float, x: float) -> float:
     if x <= 0:
         return 1.0
     factor = exp(a * log(x) - x - lgamma(a))
-    # 3 mutants: equal because near the mean the series and the fraction both converge
     if x < a + 1:
         return 1 - factor * sum_gamma_series(a, x)
     return factor / evaluate(list_gamma_terms(a, x), x + 1 - a)
@@ -72,7 +70,6 @@ def sum_gamma_series(a: float, x: float) -> float:
     for n in count(1):
         term *= x / (a + n)
         total += term
-        # mutant: equal because a further term of this size doesn't change the total
         if term < total * NEAR:
             break
     return total
@@ -92,7 +89,6 @@ def evaluate(terms: Iterator[tuple[float, float]], first: float = 1.0) -> float:
         below = 1 / (denominator + numerator * below or TINY)
         above = denominator + numerator / above or TINY
         value *= above * below
-        # mutant: equal because one more factor of this size doesn't change the value
         if abs(above * below - 1) < NEAR:
             break
     return value

@@ -16,18 +16,15 @@ from __future__ import annotations
 from collections.abc import Callable
 from math import erfc, exp, log1p, pi, sqrt
 
-from haul.rarity.incomplete import compute_gamma_tail
+from haul.statistics.incomplete_functions import compute_gamma_tail
 
 TAIL = 0.025
 # After this many steps a double no longer changes.
-# mutant: equal because a double changes no more
 STEPS = 60
 # Up to this count the probability is computed exactly. Above it, two terms of an expansion give
 # more than six digits.
-# mutant: equal because both ways have more digits than are shown
 MOST_TERMS = 30
 # For counts above `MOST_TERMS`, both ends are within this many standard deviations of the count.
-# mutant: equal because the same value is found between other ends
 DEVIATIONS = 5
 
 
@@ -48,9 +45,7 @@ def find_dispersed_interval(total: int, dispersion: float) -> tuple[float, float
 
 def find_mean(count: float, chance: float) -> float:
     """Returns the mean at which the probability of fewer than `count` events is `chance`."""
-    # mutant: equal because both ways have more digits than are shown
     if count <= MOST_TERMS:
-        # mutant: equal because the same value is found between other ends
         return bisect(lambda mean: find_chance(count, mean), chance, 0.0, 2.0 * MOST_TERMS)
     # Bisects the relative distance between the mean and the count. This distance is small, so a
     # double has more digits for it than for the mean.
@@ -63,7 +58,6 @@ def bisect(falls: Callable[[float], float], wanted: float, low: float, high: flo
     the value `wanted`."""
     for _ in range(STEPS):
         middle = (low + high) / 2
-        # mutant: equal because a double changes no more
         if falls(middle) > wanted:
             low = middle
         else:
@@ -91,17 +85,13 @@ def expand(count: float, apart: float) -> float:
     """Returns the probability of fewer than `count` events if the mean is `count * (1 + apart)`,
     with Temme's expansion of the incomplete gamma function: the NIST Digital Library of
     Mathematical Functions, 8.12.4."""
-    # mutant: equal because both forms agree there
     if abs(apart) < 1e-4:
         # The difference `apart - log1p(apart)` would lose most of its digits here.
         half_square = apart * apart * (1 / 2 - apart * (1 / 3 - apart / 4))
     else:
         half_square = apart - log1p(apart)
-    # mutant: equal because the root of 0 is 0 with either sign
     eta = sqrt(2 * half_square) if apart > 0 else -sqrt(2 * half_square)
-    # 2 mutants: equal because the change is smaller than the terms that are left out
     first = -1 / 3 + eta * (1 / 12 + eta * (-2 / 135 + eta * (1 / 864 + eta / 2835)))
-    # 2 mutants: equal because the change is smaller than the terms that are left out
     second = (-1 / 540 - eta / 288) / count
     return erfc(eta * sqrt(count / 2)) / 2 + exp(-count * half_square) / sqrt(2 * pi * count) * (
         first + second

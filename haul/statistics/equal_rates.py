@@ -2,7 +2,7 @@
 
 from __future__ import annotations
 
-from haul.rarity.incomplete import compute_beta
+from haul.statistics.incomplete_functions import compute_beta
 
 # A difference with a smaller p-value gets a star. A comparison has hundreds of rows, so a limit of
 # 0.05 would star many of them by chance.
@@ -21,14 +21,12 @@ def compute_p_value(one: float, soups: int, other: float, other_soups: int) -> f
     share = other_soups / (soups + other_soups)
     # The smaller of two probabilities, doubled: that the second count is below `other`, and that it
     # is above, each plus half of the probability that it is exactly `other`.
-    # mutant: equal because the smaller tail is at most 1/2
     return min(1.0, 2 * min(compute_tail(one, other, 1 - share), compute_tail(other, one, share)))
 
 
 def compute_tail(more: float, fewer: float, share: float) -> float:
     """Returns the probability of more than `more` successes in `more + fewer` trials that succeed
     with probability `share`, plus half of the probability of exactly `more`."""
-    # mutant: equal because the other tail is the smaller one if `more` is 0
     at_least = compute_beta(more, fewer + 1, share) if more else 1.0
     above = compute_beta(more + 1, fewer, share) if fewer else 0.0
     return (at_least + above) / 2

@@ -1,0 +1,1 @@
+"""Exact intervals of counts and shares, and the test of equal rates."""
