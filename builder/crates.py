@@ -10,7 +10,6 @@ from pathlib import Path
 from builder.failure import cannot_build
 from builder.places import PROGRAM
 
-
 KILOBYTE = 1024
 
 

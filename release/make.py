@@ -11,10 +11,10 @@ from pathlib import Path
 from release import Failed
 from release.archive import PACKED_BY, archive
 from release.checkout import Checkout
+from release.contents import archive_tree, name_of, package_tree
 from release.file_tree import Tree
 from release.package import PACKER, has, package, version_of
 from release.programs import LEVELS, rt_version, said_version, verdicts
-from release.contents import archive_tree, name_of, package_tree
 
 PROVENANCE, SUMS = "PROVENANCE.txt", "SHA256SUMS"
 

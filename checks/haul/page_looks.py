@@ -10,16 +10,7 @@ import sys
 from pathlib import Path
 
 from checks.haul import browser
-from checks.haul.browser import (
-    Driver,
-    all_of,
-    click,
-    look_like,
-    opened,
-    text,
-    texts,
-    wait_for,
-)
+from checks.haul.browser import Driver, all_of, click, look_like, opened, text, texts, wait_for
 from checks.haul.made_pages import HAUL, PULSAR, WIDTHS, count, haul_of, in_order, page_of, rows_of
 
 TAB, ENTER, ESCAPE, SPACE, BACKSPACE = "\ue004", "\ue007", "\ue00c", " ", "\ue003"

@@ -6,10 +6,10 @@ from dataclasses import dataclass
 from functools import cache
 
 from haul.census.client import Census
-from haul.patterns.codes import is_large, read_kind
 from haul.formats.haul import Job
 from haul.life.generations import Rule, read_rule
 from haul.life.parts import read_object
+from haul.patterns.codes import is_large, read_kind
 
 # The most soups in one call. Several calls run at a time.
 SOUPS_IN_A_CALL = 100

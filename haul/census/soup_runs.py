@@ -9,9 +9,9 @@ from dataclasses import replace
 from functools import partial
 from typing import NamedTuple
 
+from haul.census.bounded import SOUP_SECONDS, BoundedCensus, Bounds, Undecided
 from haul.census.children import NoCensus
 from haul.census.client import Census
-from haul.census.bounded import SOUP_SECONDS, BoundedCensus, Bounds, Undecided
 from haul.census.command_lines import list_name_arguments, list_sizes_arguments
 from haul.formats.haul import Job
 from haul.life.soups import make_soup

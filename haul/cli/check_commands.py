@@ -27,7 +27,6 @@ from haul.hauls.indexing import CantIndex, Indexing
 from haul.plurals import write_count
 from haul.terminal import escape_controls
 
-
 RIGHT = "right"
 # The most differences that are listed.
 MOST_LINES = 20

@@ -27,8 +27,8 @@ from haul.page.lives import Lives, find_lives
 from haul.patterns.rules import LIFE
 from haul.rarity.reference import is_covered
 from haul.search.batches import Plan
-from haul.search.resume import Disagrees, USUAL_RARER, find_next_soup, open_files
 from haul.search.haul_file import CantUseFile
+from haul.search.resume import USUAL_RARER, Disagrees, find_next_soup, open_files
 from haul.search.search import Dropped, Search
 from haul.search.stopping import Stopping
 from haul.terminal import Terminal, find_output_width

@@ -10,8 +10,8 @@ from haul.cli.streams import Refused, Streams, format_place
 from haul.formats.field_reader import BadHaul
 from haul.formats.haul import Haul
 from haul.formats.haul_reader import read_one_haul
-from haul.formats.recognition import describe_other_form
 from haul.formats.late_file import BadLate, Late, is_late_file, read_late
+from haul.formats.recognition import describe_other_form
 
 SUFFIX = ".late"
 

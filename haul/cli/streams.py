@@ -10,12 +10,12 @@ from contextlib import contextmanager
 from itertools import chain
 from typing import BinaryIO, TextIO
 
-from haul.patterns.coordinates import is_coordinates
 from haul.formats.field_reader import BadHaul
 from haul.formats.haul import Haul
 from haul.formats.haul_reader import read_any_haul
 from haul.formats.report_files import INPUT_LIMIT, BadLines, Reports
 from haul.formats.report_lines import Report
+from haul.patterns.coordinates import is_coordinates
 from haul.terminal import Terminal
 
 # The most bytes that a pattern may have, as in `census`, unless it is given as coordinates.

@@ -7,13 +7,12 @@ import re
 from collections.abc import Callable
 
 from haul.formats.haul import NUMBER_LIMIT
-from haul.patterns.codes import read_object_address
-from haul.patterns.rules import LIFE, parse_rule
 from haul.formats.late_file import ONLY_UNSETTLED
 from haul.formats.syntax import CODE, RULE, SEED
 from haul.names.objects import find_code_of_name, find_near_names
+from haul.patterns.codes import read_object_address
+from haul.patterns.rules import LIFE, parse_rule
 from haul.search.late_soups import NEVER
-
 
 # Digits, possibly with an underscore between two of them, and a power of ten.
 COUNT = re.compile(r"([0-9]+(?:_[0-9]+)*)(?:e([0-9]{1,2}))?")

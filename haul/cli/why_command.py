@@ -23,12 +23,12 @@ from haul.cli.values import (
 )
 from haul.fates.explain import Fates, TooLate
 from haul.fates.fate import Kind, describe_wrong_line
-from haul.patterns.coordinates import BadCoordinates, is_coordinates, read_coordinates
 from haul.formats.haul import Job
-from haul.patterns.plaintext import SIDE, BadPlaintext, Rows, is_plaintext, read_plaintext
 from haul.formats.profile import STANDARD, Profile
 from haul.formats.recognition import describe_other_form
 from haul.formats.report_files import Reports
+from haul.patterns.coordinates import BadCoordinates, is_coordinates, read_coordinates
+from haul.patterns.plaintext import SIDE, BadPlaintext, Rows, is_plaintext, read_plaintext
 from haul.patterns.rle import WITHOUT_HISTORY, BadRle, read_rle
 from haul.patterns.rules import LIFE, parse_rule
 from haul.views.why import FateTable

@@ -8,10 +8,6 @@ from collections.abc import Iterable, Iterator
 from dataclasses import dataclass, field, replace
 
 from haul.formats.haul import NUMBER_LIMIT, Haul, Job, Range, count_numbers
-from haul.formats.profile import LIMIT
-from haul.formats.ranges import add_range, intersect, is_in
-from haul.formats.report_lines import BadLine, read_report_line
-from haul.plurals import write_count
 from haul.formats.heads import (
     JOB,
     LINES,
@@ -24,6 +20,10 @@ from haul.formats.heads import (
     read_job,
     read_ranges,
 )
+from haul.formats.profile import LIMIT
+from haul.formats.ranges import add_range, intersect, is_in
+from haul.formats.report_lines import BadLine, read_report_line
+from haul.plurals import write_count
 
 # If late soups start at this generation, no checkpoint is late, so only unsettled soups are kept.
 ONLY_UNSETTLED = LIMIT[1] + 1

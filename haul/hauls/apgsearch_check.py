@@ -7,13 +7,13 @@ from collections.abc import Iterator
 from dataclasses import replace
 
 from haul.census.client import Census
-from haul.patterns.codes import is_large
 from haul.formats.haul import NUMBER_LIMIT, SYMMETRY, Haul
 from haul.formats.syntax import SEED
 from haul.hauls.by_parts import Objects
 from haul.hauls.check import find_codes_left, retake
 from haul.life.generations import read_rule
 from haul.life.parts import Separator, is_counted, read_object
+from haul.patterns.codes import is_large
 from haul.plurals import pluralize
 
 LINEAR_GROWTH = "linear growth isn't counted here"

@@ -6,9 +6,9 @@ from __future__ import annotations
 from collections.abc import Iterator
 from itertools import groupby
 
-from haul.patterns.plaintext import SIDE
-from haul.life.cells import Cell, Cells, fits_in, move_to_corner
+from haul.life.cells import Cells, fits_in, move_to_corner
 from haul.life.generations import Recurrence
+from haul.patterns.plaintext import SIDE
 
 # The most columns and rows of a pattern that a code draws.
 SIDE_OF_TEXT = 40
@@ -30,7 +30,19 @@ LEAST_LONG_RUN = 4
 def read_wechsler(text: str) -> Cells | None:
     """Reads a text in extended Wechsler format. Returns `None` if it isn't in this format, has no
     live cells, or has more than `SIDE` columns or rows."""
-    cells: list[Cell] = []
+    columns = read_columns(text)
+    if not columns:
+        return None
+    drawn = frozenset(
+        [(x, top + row) for x, top, character in columns for row in ROWS_OF_COLUMN[character]]
+    )
+    return drawn if drawn and fits_in(drawn, SIDE) else None
+
+
+def read_columns(text: str) -> list[tuple[int, int, str]] | None:
+    """Reads the live columns of a text in extended Wechsler format: the number of each column, the
+    first row of its strip, and its character. Returns `None` if the text isn't in this format."""
+    columns: list[tuple[int, int, str]] = []
     x = top = 0
     characters = iter(text)
     for character in characters:
@@ -43,14 +55,12 @@ def read_wechsler(text: str) -> Cells | None:
             if run < 0:
                 return None
             x += LEAST_LONG_RUN + run
-        else:
-            rows = ROWS_OF_COLUMN.get(character)
-            if rows is None:
-                return None
-            cells += [(x, top + row) for row in rows]
+        elif character in ROWS_OF_COLUMN:
+            columns.append((x, top, character))
             x += 1
-    drawn = frozenset(cells)
-    return drawn if drawn and fits_in(drawn, SIDE) else None
+        else:
+            return None
+    return columns
 
 
 def write_wechsler(cells: Cells) -> str | None:

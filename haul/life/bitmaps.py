@@ -17,7 +17,7 @@ from __future__ import annotations
 
 from functools import cache
 
-from haul.life.apgcodes import CHARACTERS, LEAST_LONG_RUN, ROWS_OF_COLUMN, RUNS, STRIP
+from haul.life.apgcodes import ROWS_OF_COLUMN, read_columns
 from haul.life.cells import Cells
 from haul.life.generations import Rule
 
@@ -38,25 +38,15 @@ def read_bitmap(text: str) -> int | None:
     """Reads a pattern in extended Wechsler format. Returns `None` if the text isn't in this format,
     or if the pattern has no live cells, has a live cell after the first `MOST_SIDE` columns, or is
     more than `MOST_SIDE` rows high."""
-    bits = x = top = 0
-    characters = iter(text)
-    for character in characters:
-        if character == "z":
-            x, top = 0, top + STRIP
-        elif character in RUNS:
-            x += RUNS[character]
-        elif character == "y":
-            run = CHARACTERS.find(next(characters, "?"))
-            if run < 0:
-                return None
-            x += LEAST_LONG_RUN + run
-        elif character in COLUMNS and x < MOST_SIDE:
-            bits |= COLUMNS[character] << STRIDE * top + x
-            x += 1
-        else:
-            return None
-    if not bits:
+    columns = read_columns(text)
+    if not columns:
         return None
+    above, below = columns[0][1], columns[-1][1]
+    if below - above >= MOST_SIDE or max(x for x, _, _ in columns) >= MOST_SIDE:
+        return None
+    bits = 0
+    for x, top, character in columns:
+        bits |= COLUMNS[character] << STRIDE * (top - above) + x
     bits = shift_to_corner(bits)
     return bits if bits >> STRIDE * (MARGIN + MOST_SIDE) == 0 else None
 

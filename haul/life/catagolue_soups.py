@@ -12,10 +12,10 @@ from dataclasses import dataclass
 from urllib.parse import unquote
 
 from haul.formats.haul import SYMMETRY
+from haul.life.soups import make_soup
 from haul.patterns.codes import read_object_address
 from haul.patterns.plaintext import Rows, trim_rows
 from haul.patterns.rules import LIFE, parse_rule
-from haul.life.soups import make_soup
 
 # The address of a sample's page, up to the sample.
 ADDRESS = re.compile(r"(?:https?://)?[^/]*catagolue[^/]*/hashsoup/")

@@ -7,8 +7,8 @@ import re
 from functools import cache
 from html import escape
 
-from haul.patterns.plaintext import Rows
 from haul.life.cells import Cells, draw_rows
+from haul.patterns.plaintext import Rows
 from haul.plurals import write_count
 
 # The size of a cell in pixels, for most objects and for objects with few cells.

@@ -10,8 +10,8 @@ from collections import Counter
 from dataclasses import dataclass
 from itertools import chain
 
-from haul.patterns.plaintext import SIDE
 from haul.life.cells import Cell, Cells, fits_in, move
+from haul.patterns.plaintext import SIDE
 
 # The longest period of an object in any census.
 MOST_PERIOD = 64

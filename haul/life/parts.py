@@ -10,7 +10,6 @@ from __future__ import annotations
 
 from dataclasses import dataclass
 
-from haul.patterns.codes import read_drawing, read_kind
 from haul.life.apgcodes import find_code, read_wechsler
 from haul.life.bitmaps import list_cells
 from haul.life.blocks import MOST_ISLANDS, Blocks, Run
@@ -18,6 +17,7 @@ from haul.life.cells import Cells, move_to_corner
 from haul.life.clusters import is_cluster
 from haul.life.generations import MOST_PERIOD, Recurrence, Rule, find_recurrence
 from haul.life.quick_parts import QuickSeparator
+from haul.patterns.codes import read_drawing, read_kind
 
 
 @dataclass(frozen=True)

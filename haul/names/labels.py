@@ -6,9 +6,9 @@ import re
 from collections import Counter
 from functools import cache
 
-from haul.patterns.codes import read_kind
 from haul.life.parts import Separation
 from haul.names.objects import find_name
+from haul.patterns.codes import read_kind
 
 NOT_SEPARATED = "not separated"
 

@@ -9,9 +9,7 @@ from collections.abc import Iterator
 from functools import cache
 
 from haul.census.command_lines import format_soup_commands
-from haul.patterns.codes import is_large, read_drawing, read_kind
 from haul.formats.haul import Haul
-from haul.patterns.rules import format_rule
 from haul.life.apgcodes import read_wechsler
 from haul.life.bitmaps import read_bitmap
 from haul.life.soups import make_soup
@@ -19,10 +17,12 @@ from haul.names.labels import find_label
 from haul.names.objects import find_name, find_other_names
 from haul.page.lives import Lives, describe_lives
 from haul.page.sides import Side, Sides
-from haul.statistics.intervals import find_interval
-from haul.views.layout import make_exact
+from haul.patterns.codes import is_large, read_drawing, read_kind
+from haul.patterns.rules import format_rule
 from haul.rarity.reference import SOUPS
+from haul.statistics.intervals import find_interval
 from haul.terminal import Terminal
+from haul.views.layout import make_exact
 from haul.views.rarity import list_part_words
 
 # These words replace the parts of an object that is strict, and of an object that isn't separated.

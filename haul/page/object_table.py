@@ -7,13 +7,13 @@ from collections.abc import Iterator
 from html import escape
 from urllib.parse import quote
 
-from haul.patterns.codes import is_large, read_drawing, read_kind
 from haul.life.apgcodes import read_wechsler
 from haul.life.drawing import draw_picture
 from haul.names.labels import find_label, mark_label
 from haul.names.objects import find_name
 from haul.page.data import count_cells
 from haul.page.sides import Side, Sides
+from haul.patterns.codes import is_large, read_drawing, read_kind
 from haul.views.rarity import list_part_words
 from haul.views.rates import bound_rarity
 

@@ -10,8 +10,8 @@ from haul import VERSION
 from haul.census.command_lines import format_unsettled_command
 from haul.formats.haul import SYMMETRY, Haul, Job
 from haul.formats.profile import Profile
-from haul.patterns.rules import LIFE, format_rule
 from haul.page.sides import Side, Sides
+from haul.patterns.rules import LIFE, format_rule
 from haul.plurals import pluralize, write_count
 
 # The most ranges that are listed. If there are more, the number of further ranges follows.

@@ -5,10 +5,10 @@ from __future__ import annotations
 
 from functools import cache
 
-from haul.patterns.codes import is_large, read_kind
-from haul.patterns.rules import LIFE
 from haul.life.generations import read_rule
 from haul.life.parts import is_counted
+from haul.patterns.codes import is_large, read_kind
+from haul.patterns.rules import LIFE
 from haul.rarity.occurrence import Occurrence
 from haul.rarity.reference import find_occurrence, load_reference
 

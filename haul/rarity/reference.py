@@ -13,8 +13,8 @@ from pathlib import Path
 
 from haul.formats.haul import Job
 from haul.formats.profile import STANDARD
-from haul.patterns.rules import LIFE
 from haul.formats.tables import BadTable, read_table
+from haul.patterns.rules import LIFE
 from haul.rarity.occurrence import Occurrence
 
 FILE = "parts.tsv"

@@ -14,13 +14,13 @@ from dataclasses import dataclass, field
 from datetime import datetime, timezone
 
 from haul.census.command_lines import format_find_command
-from haul.patterns.codes import Kind, read_kind
 from haul.formats.haul import NUMBER_LIMIT, Haul, Job
 from haul.formats.profile import STANDARD
-from haul.patterns.rules import LIFE
 from haul.life.generations import read_rule
 from haul.life.parts import Separator
 from haul.names.objects import find_name
+from haul.patterns.codes import Kind, read_kind
+from haul.patterns.rules import LIFE
 from haul.rarity.reference import SOUPS, find_occurrence, is_covered, load_reference
 
 # The separator remembers the islands that it has run. After this many islands, it forgets them and

@@ -18,13 +18,7 @@ from haul.formats.haul import Haul
 from haul.formats.haul_reader import read_one_haul
 from haul.formats.haul_writer import format_haul
 from haul.search.side_file import SideFile
-from haul.search.whole_files import (
-    ANY_RIGHTS,
-    find_stamp,
-    make_stamp,
-    replace_file,
-    write_new_text,
-)
+from haul.search.whole_files import ANY_RIGHTS, find_stamp, make_stamp, replace_file, write_new_text
 
 # How long to try to lock a file, and the pause between two tries, in seconds.
 SECONDS_FOR_LOCK, SECONDS_BETWEEN_TRIES = 2.0, 0.02

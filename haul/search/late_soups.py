@@ -9,13 +9,13 @@ from haul.census.background import BackgroundTake
 from haul.census.children import NoCensus
 from haul.census.command_lines import format_find_command
 from haul.formats.haul import Haul, Job
-from haul.formats.ranges import intersect, is_in
 from haul.formats.late_file import MOST_LINES, ONLY_UNSETTLED, BadLate, Late, LateLine, read_late
+from haul.formats.ranges import intersect, is_in
 from haul.formats.report_lines import BadLine, read_report_line
 from haul.patterns.rules import LIFE
-from haul.search.side_file import SideFile
 from haul.search.finds import format_time
 from haul.search.haul_file import CantUseFile
+from haul.search.side_file import SideFile
 
 # Stands for `--late never`: neither late nor unsettled soups are kept.
 NEVER = -1

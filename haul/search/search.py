@@ -24,8 +24,8 @@ from haul.formats.haul import NUMBER_LIMIT
 from haul.hauls.join import Joining
 from haul.plurals import write_count
 from haul.search.batches import Batches, Plan, Taken
-from haul.search.finds_program import FindsProgram
 from haul.search.finds import Finder
+from haul.search.finds_program import FindsProgram
 from haul.search.haul_file import Beside, Displaced
 from haul.search.late_soups import list_late_finds
 from haul.search.reporter import Reporter

@@ -8,9 +8,6 @@ from collections.abc import Iterable, Iterator
 from dataclasses import dataclass, field
 
 from haul.formats.haul import NUMBER_LIMIT, Haul, Job, Range
-from haul.formats.ranges import intersect, is_in
-from haul.plurals import pluralize, write_count
-from haul.search.side_file import SideFile
 from haul.formats.heads import (
     JOB,
     LINES,
@@ -22,6 +19,9 @@ from haul.formats.heads import (
     read_job,
     read_ranges,
 )
+from haul.formats.ranges import intersect, is_in
+from haul.plurals import pluralize, write_count
+from haul.search.side_file import SideFile
 
 # The most finds that the file keeps.
 MOST_LINES = 100_000

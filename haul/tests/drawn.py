@@ -5,9 +5,9 @@ from __future__ import annotations
 
 import random
 
-from haul.formats.profile import Profile
-from haul.formats.haul import Haul, Job, MOST_SAMPLES, Range
+from haul.formats.haul import MOST_SAMPLES, Haul, Job, Range
 from haul.formats.haul_writer import format_haul
+from haul.formats.profile import Profile
 
 ALPHABET = "0123456789abcdefghijklmnopqrstuvwxyz_"
 

@@ -15,15 +15,15 @@ from contextlib import suppress
 from pathlib import Path
 from typing import TextIO
 
-from haul.census.command_lines import list_take_arguments
 from haul.census.client import Census
+from haul.census.command_lines import list_take_arguments
 from haul.formats.haul import Haul
 from haul.formats.haul_reader import read_one_haul
 from haul.search.batches import Plan
-from haul.search.side_file import SideFile
 from haul.search.haul_file import HaulFile
 from haul.search.resume import SearchFiles
 from haul.search.search import Search
+from haul.search.side_file import SideFile
 from haul.search.stopping import Stopping
 from haul.search.unreported import Unreported
 from haul.tests.called import CENSUS, HAUL, as_haul, census

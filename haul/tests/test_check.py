@@ -19,7 +19,6 @@ from haul.hauls.file_choice import FileChoice, compute_chance_to_miss, count_wro
 from haul.tests.called import CENSUS, HAUL, census, drop_summaries, run
 from haul.tests.searching import QUICK
 
-
 MISSING = "haul with missing soups, which can't be taken again; --samples runs its sample soups"
 
 

@@ -17,10 +17,10 @@ from contextlib import suppress
 from pathlib import Path
 from unittest.mock import patch
 
-from haul.formats.profile import Profile
 from haul.census.children import NoThread
 from haul.formats.haul import Haul, Job
 from haul.formats.haul_reader import read_one_haul
+from haul.formats.profile import Profile
 from haul.tests.called import (
     CENSUS,
     HAUL,

@@ -18,25 +18,25 @@ from struct import pack
 from termios import TIOCSWINSZ
 from unittest.mock import Mock, patch
 
-from haul.census.command_lines import format_find_command
+from haul.census.background import FIND, StreamWaiter
 from haul.census.client import Census
+from haul.census.command_lines import format_find_command
+from haul.census.starters import list_starter_words
 from haul.formats.haul import Haul, Job
 from haul.formats.haul_reader import read_one_haul
 from haul.formats.profile import STANDARD, Profile
 from haul.life.generations import read_rule
 from haul.life.parts import Separator
 from haul.rarity.reference import SOUPS, find_occurrence, load_reference
-from haul.census.background import FIND, StreamWaiter
-from haul.census.starters import list_starter_words
-from haul.search.finds_program import FindsProgram
-from haul.search.finds import Find, Finder, list_common_parts, Unread
-from haul.search.haul_file import Beside, HaulFile
 from haul.search.batches import Batch, Plan, Taken
+from haul.search.finds import Find, Finder, Unread, list_common_parts
+from haul.search.finds_program import FindsProgram
+from haul.search.haul_file import Beside, HaulFile
 from haul.search.search import Dropped
 from haul.search.status_line import Status, StatusLine, format_duration, format_short
 from haul.search.stopping import Stopping
-from haul.tests.called import CENSUS, HAUL, TOP, census, make_client
 from haul.terminal import Terminal
+from haul.tests.called import CENSUS, HAUL, TOP, census, make_client
 from haul.tests.searching import CLOCK, CLOCK_SOUP, Searches, make_search
 
 LIFE, OTHER_RULE, OTHER_PROFILE = (

@@ -10,12 +10,12 @@ from functools import lru_cache
 
 from haul.formats.haul import Haul
 from haul.formats.haul_reader import read_one_haul
-from haul.patterns.plaintext import SIDE, trim_rows
 from haul.life.apgcodes import find_code, list_orientations, read_wechsler, write_wechsler
 from haul.life.cells import Cells, draw_rows, fits_in, move, move_to_corner
 from haul.life.clusters import find_islands, is_cluster
 from haul.life.generations import MOST_PERIOD, advance, find_recurrence, find_shift, read_rule
 from haul.life.soups import make_soup
+from haul.patterns.plaintext import SIDE, trim_rows
 from haul.tests.called import CENSUS, TOP
 
 # Under this rule, every live cell survives and no cell is born, so each cluster is a still life.

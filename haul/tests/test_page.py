@@ -16,16 +16,18 @@ from pathlib import Path
 from unittest.mock import patch
 
 from haul import VERSION
-from haul.formats.profile import STANDARD, Profile
 from haul.census.command_lines import format_unsettled_command
 from haul.census.soup_ends import End, list_populations, read_end
 from haul.cli.streams import Streams
 from haul.formats.haul import Haul, Job, Range
 from haul.formats.haul_reader import read_one_haul
+from haul.formats.profile import STANDARD, Profile
 from haul.life.generations import read_rule
 from haul.page.data import describe_objects
 from haul.page.sides import make_sides
 from haul.page.summary import describe_profile
+from haul.rarity.reference import find_dispersion
+from haul.statistics.intervals import find_dispersed_interval, find_interval
 from haul.terminal import Terminal
 from haul.tests.called import CENSUS, QUIET, TOP, census, run
 from haul.tests.drawn import text_of
@@ -41,8 +43,6 @@ from haul.tests.pages import (
     without_rates,
 )
 from haul.tests.test_whole import cells_of, drawn, made
-from haul.rarity.reference import find_dispersion
-from haul.statistics.intervals import find_dispersed_interval, find_interval
 
 PULSAR = "xp3_co9nas0san9oczgoldlo0oldlogz1047210127401"
 

@@ -15,23 +15,22 @@ from importlib.resources import files
 from pathlib import Path
 from unittest.mock import patch
 
-from haul.tests.called import QUIET
 from haul.census.children import children
 from haul.census.forks import work_apart
-from haul.hauls import by_parts
-from haul.hauls.by_parts import Objects
 from haul.fates.rest import look_for_rest
 from haul.formats.profile import STANDARD
-from haul.life.field import pack
+from haul.formats.tables import BadTable
+from haul.hauls import by_parts
+from haul.hauls.by_parts import Objects
 from haul.life.blocks import MOST_ISLANDS, Blocks, Run
 from haul.life.clusters import is_cluster
+from haul.life.field import pack
 from haul.life.generations import read_rule
 from haul.life.parts import Separation, Separator, read_object
 from haul.names.labels import describe_parts, find_label, make_plural, mark_label
-from haul.formats.tables import BadTable
 from haul.names.objects import find_code_of_name, load_names, parse_names
 from haul.tests import plain_parts
-from haul.tests.called import CENSUS, census, run
+from haul.tests.called import CENSUS, QUIET, census, run
 from haul.tests.test_life import STILL, example
 from haul.tests.test_tables import haul
 

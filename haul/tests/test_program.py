@@ -14,8 +14,6 @@ from html import escape
 from pathlib import Path
 from typing import IO
 
-from haul.tests.called import QUIET
-from haul.formats.profile import Profile
 from haul.census.children import NoCensus
 from haul.census.client import Census
 from haul.census.command_lines import format_soup_commands, list_take_arguments, split_ranges
@@ -23,10 +21,11 @@ from haul.census.locate import find_beside
 from haul.formats.field_reader import BadHaul
 from haul.formats.haul import Haul, Job, Range
 from haul.formats.haul_reader import read_one_haul
+from haul.formats.profile import Profile
 from haul.hauls.by_parts import Objects
 from haul.hauls.check import list_differences, retake
 from haul.tests import plain_parts
-from haul.tests.called import CENSUS, census, run
+from haul.tests.called import CENSUS, QUIET, census, run
 from haul.tests.pages import before_table, data_of, page, table_of
 from haul.views.compare import Comparison
 

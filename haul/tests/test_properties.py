@@ -9,13 +9,12 @@ import re
 import unittest
 from fractions import Fraction
 
-from haul.tests.called import QUIET
-from haul.formats.profile import Profile
 from haul.census.client import Census
 from haul.formats.haul import Haul, Job
 from haul.formats.haul_reader import read_one_haul
+from haul.formats.profile import Profile
 from haul.hauls.check import find_wrong_samples, list_differences
-from haul.tests.called import CENSUS, census
+from haul.tests.called import CENSUS, QUIET, census
 from haul.tests.drawn import any_haul
 from haul.tests.pages import compared, objects_of, page, table_of
 

@@ -8,8 +8,8 @@ import re
 import subprocess
 import unittest
 
-from haul.formats.profile import Profile
 from haul.formats.haul import Job
+from haul.formats.profile import Profile
 from haul.formats.report_files import split_lines
 from haul.formats.report_lines import BadLine, Report, read_report_line
 from haul.tests.called import CENSUS

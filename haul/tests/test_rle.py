@@ -13,9 +13,9 @@ import time
 import unittest
 from pathlib import Path
 
+from haul.formats.syntax import RULE
 from haul.patterns.rle import BadRle, format_rle, read_rle
 from haul.patterns.rules import RULES, find_named_rule, parse_rule
-from haul.formats.syntax import RULE
 from haul.tests.called import CENSUS, HAUL, census, run
 
 # LifeWiki's RLE of the glider gun that is also in examples/glider-gun.cells.

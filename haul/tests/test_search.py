@@ -16,17 +16,13 @@ from contextlib import redirect_stderr
 from pathlib import Path
 from unittest.mock import patch
 
-from haul.cli.parser import parse_arguments
-from haul.formats.haul import Haul, NUMBER_LIMIT
-from haul.formats.haul_reader import read_one_haul
-from haul.census.background import (
-    BackgroundProgram,
-    BackgroundTake,
-    StreamWaiter,
-)
-from haul.census.starters import LAUNCH_CENSUS
-from haul.search.haul_file import CantUseFile, HaulFile
+from haul.census.background import BackgroundProgram, BackgroundTake, StreamWaiter
 from haul.census.client import count_processors
+from haul.census.starters import LAUNCH_CENSUS
+from haul.cli.parser import parse_arguments
+from haul.formats.haul import NUMBER_LIMIT, Haul
+from haul.formats.haul_reader import read_one_haul
+from haul.search.haul_file import CantUseFile, HaulFile
 from haul.search.stopping import Stopping
 from haul.tests.called import CENSUS, TOP, census, run
 from haul.tests.searching import QUICK, Searches

@@ -13,8 +13,8 @@ from contextlib import contextmanager
 from pathlib import Path
 from unittest.mock import Mock, call, patch
 
-from haul.formats.profile import Profile
 from haul.formats.haul import Job
+from haul.formats.profile import Profile
 from haul.formats.report_files import Reports
 from haul.formats.report_lines import Report
 from haul.life.cells import Cells

@@ -6,8 +6,8 @@ import unittest
 from pathlib import Path
 from tempfile import TemporaryDirectory
 
-from haul.patterns.rle import read_rle
 from haul.life.catagolue_soups import BadSample, read_sample
+from haul.patterns.rle import read_rle
 from haul.tests.called import census, run
 
 

@@ -18,14 +18,14 @@ from types import FrameType
 from typing import Any
 from unittest.mock import patch
 
-from haul.formats.profile import Profile
 from haul.formats.haul import Haul, Job
+from haul.formats.profile import Profile
+from haul.rarity.reference import find_dispersion
 from haul.statistics.equal_rates import compute_p_value
 from haul.statistics.incomplete_functions import compute_gamma_tail
-from haul.rarity.reference import find_dispersion
+from haul.statistics.intervals import find_dispersed_interval, find_interval
 from haul.tests.called import call, read_terminal, run
 from haul.views.compare import letter_hauls
-from haul.statistics.intervals import find_dispersed_interval, find_interval
 from haul.views.layout import format_figure
 from haul.views.rates import compute_rate
 

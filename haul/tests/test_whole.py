@@ -11,13 +11,12 @@ import tempfile
 import unittest
 from pathlib import Path
 
-from haul.tests.called import QUIET
-from haul.formats.profile import STANDARD, Profile
 from haul.census.command_lines import split_ranges
 from haul.formats.haul import Haul, Job, Range
 from haul.formats.haul_reader import read_one_haul
+from haul.formats.profile import STANDARD, Profile
 from haul.hauls.by_parts import Objects
-from haul.tests.called import census, run
+from haul.tests.called import QUIET, census, run
 from haul.tests.drawn import any_haul, text_of
 from haul.tests.pages import page, table_of
 from haul.views.compare import Comparison, rank_codes

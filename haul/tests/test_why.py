@@ -28,13 +28,13 @@ from haul.fates.growth import (
 from haul.fates.rest import Rest, look_for_rest
 from haul.fates.sizes import Size
 from haul.formats.profile import STANDARD
-from haul.patterns.rle import read_rle
-from haul.life.cells import Cells
 from haul.life import field as field_module
+from haul.life.cells import Cells
 from haul.life.field import Field, pack, unpack_all
 from haul.life.generations import advance, read_rule
 from haul.life.groups import Watched, split_clusters
 from haul.life.soups import make_soup
+from haul.patterns.rle import read_rle
 from haul.tests.called import CENSUS, census, run
 
 LIFE = read_rule("b3s23")

@@ -11,9 +11,10 @@ from haul.hauls.by_parts import Objects
 from haul.life.parts import Separation
 from haul.names.labels import find_label, mark_label
 from haul.rarity.counted import find_occurrence_of_counted
-from haul.statistics.equal_rates import STARRED_BELOW, compute_p_value
 from haul.rarity.occurrence import Occurrence
 from haul.rarity.reference import find_dispersion, is_covered
+from haul.statistics.equal_rates import STARRED_BELOW, compute_p_value
+from haul.statistics.intervals import find_dispersed_interval, find_interval
 from haul.views.haul_facts import (
     describe_lettered_job,
     describe_soups,
@@ -21,7 +22,6 @@ from haul.views.haul_facts import (
     list_haul_facts,
     list_part_facts,
 )
-from haul.statistics.intervals import find_dispersed_interval, find_interval
 from haul.views.layout import (
     align_columns,
     format_csv,
@@ -30,12 +30,7 @@ from haul.views.layout import (
     format_truth,
     make_exact,
 )
-from haul.views.rarity import (
-    RARITY_HEADS,
-    list_rarity_facts,
-    list_rarity_values,
-    list_rarity_words,
-)
+from haul.views.rarity import RARITY_HEADS, list_rarity_facts, list_rarity_values, list_rarity_words
 from haul.views.rates import MILLION, compute_rate
 
 # The hauls are named by these letters, so there can't be more hauls than letters.

@@ -5,11 +5,11 @@ from __future__ import annotations
 from collections.abc import Iterator
 from dataclasses import dataclass
 
-from haul.patterns.codes import read_kind
 from haul.formats.haul import Haul
 from haul.hauls.by_parts import Objects
 from haul.life.parts import Separation
 from haul.names.labels import find_label, mark_label
+from haul.patterns.codes import read_kind
 from haul.rarity.counted import find_occurrence_of_counted
 from haul.rarity.occurrence import Occurrence
 from haul.views.haul_facts import list_haul_facts, list_part_facts
@@ -21,12 +21,7 @@ from haul.views.layout import (
     format_truth,
     make_exact,
 )
-from haul.views.rarity import (
-    RARITY_HEADS,
-    list_rarity_facts,
-    list_rarity_values,
-    list_rarity_words,
-)
+from haul.views.rarity import RARITY_HEADS, list_rarity_facts, list_rarity_values, list_rarity_words
 from haul.views.rates import bound_rarity, compute_rate
 
 BEFORE_RARITY = ["rank", "code", "total", "per_million"]

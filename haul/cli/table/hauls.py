@@ -4,12 +4,11 @@ from __future__ import annotations
 
 from haul.cli import commands
 from haul.cli.arguments import Argument, Command, flag, option
-from haul.cli.faults import find_fault_of_check
 from haul.cli.check_commands import run_check, run_index
+from haul.cli.faults import find_fault_of_check
 from haul.cli.shared_options import CENSUS, WORKERS
 from haul.cli.values import read_as_census, read_count, read_word
 from haul.formats.haul import NUMBER_LIMIT
-
 
 CHECK = Command(
     "check",

@@ -19,7 +19,6 @@ from haul.cli.values import (
 from haul.formats.haul import NUMBER_LIMIT
 from haul.rarity.reference import SOUPS as REFERENCE_SOUPS
 
-
 SEARCH = Command(
     "search",
     "run soups until it is stopped, and keep their haul in FILE",

@@ -10,7 +10,6 @@ from haul.cli.values import read_count, read_kinds, read_object, read_path, read
 from haul.page.sides import MOST_SIDES
 from haul.views.compare import MOST_HAULS
 
-
 COMPARE = Command(
     "compare",
     "set hauls side by side",
