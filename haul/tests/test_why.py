@@ -282,10 +282,12 @@ class Hints(unittest.TestCase):
     def test_growth(self) -> None:
         """A population that falls now and then may grow, but one that stops doesn't."""
         grows = [generation**2 // 1000 + generation % 7 for generation in range(800, 2400)]
-        stops = [*grows[:900], *[grows[900]] * 700]
+        # It stops in the last of the parts, or just before the last but one.
+        late, early = ([*grows[:end], *[grows[end]] * (1600 - end)] for end in (1210, 1190))
         for populations, expected in (
             (grows, True),
-            (stops, False),
+            (late, True),
+            (early, False),
             (grows[::-1], False),
             ([5] * 16, False),
             ([generation % 100 for generation in range(800)], False),
