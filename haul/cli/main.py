@@ -5,6 +5,7 @@ from __future__ import annotations
 from contextlib import redirect_stderr, redirect_stdout
 from typing import BinaryIO, TextIO
 
+from haul.census.bounded import Undecided
 from haul.census.children import NoCensus, NoThread
 from haul.census.client import Ended
 from haul.cli.parser import parse_arguments
@@ -34,7 +35,7 @@ def main(arguments: list[str], stdin: BinaryIO, stdout: TextIO, stderr: TextIO) 
     except MemoryError:
         complain("out of memory")
         return NO_MEMORY
-    except NoThread as error:
+    except (NoThread, Undecided) as error:
         complain(str(error))
         return NO_MEMORY
     except BrokenPipeError:

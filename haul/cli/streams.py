@@ -43,7 +43,7 @@ class Streams:
         if name is None or name == "-":
             yield self.stdin
         elif os.path.isdir(name):
-            raise Refused(f"{name}: this is a folder, and not a file in it")
+            raise Refused(f"{name}: this is a folder; give the name of a file in it")
         else:
             with open(name, "rb") as file:
                 yield file

@@ -11,6 +11,7 @@ from haul.census.client import Census
 from haul.census.soup_runs import SOUPS_IN_A_CALL, draw_soup
 from haul.fates.fate import MOST_LIMIT, Fate, tell_undecided
 from haul.fates.inquiry import Inquiry
+from haul.fates.sizes import Sizes
 from haul.formats.haul import Job
 
 
@@ -44,16 +45,15 @@ class Fates:
 
     def find(self, pattern: bytes) -> Fate:
         """Returns the fate of a pattern, given as plaintext."""
+        census = BoundedCensus(self.census, Bounds(self.seconds))
         try:
-            return self.inquire(pattern).find_fate()
+            return Inquiry(census, self.job, pattern).find_fate()
         except Undecided as why:
             return tell_undecided(str(why))
 
-    def list_populations(self, pattern: bytes, first: int, last: int) -> list[int]:
-        """Returns the number of live cells in each generation from `first` to `last`. Raises
-        `Undecided` if a bound is exceeded."""
-        return [size.cells for size in self.inquire(pattern).sizes().between(first, last)]
-
-    def inquire(self, pattern: bytes) -> Inquiry:
-        """Returns an inquiry about a pattern, whose time begins now."""
-        return Inquiry(BoundedCensus(self.census, Bounds(self.seconds)), self.job, pattern)
+    def count_cells(self, pattern: bytes, generation: int) -> int:
+        """Returns the number of live cells in a generation. Its time isn't bounded. Raises
+        `Undecided` if it takes too much memory."""
+        return Sizes(BoundedCensus(self.census, Bounds(0)), self.job.rule, pattern).count_cells(
+            generation
+        )

@@ -39,9 +39,7 @@ def find_cycle_of_sizes(populations: list[int]) -> Growth | None:
         cells = populations[cycle] - populations[0]
         if cells >= 0 and all(
             later - earlier == cells
-            for earlier, later in zip(
-                populations[: GENERATIONS + 1], populations[cycle : cycle + GENERATIONS + 1]
-            )
+            for earlier, later in zip(populations, populations[cycle : cycle + GENERATIONS + 1])
         ):
             return Growth(cells, cycle)
     return None

@@ -52,6 +52,8 @@ def look_for_rest(
     are known."""
     if len(cells) > MOST_CELLS:
         return None
+    if not cells:
+        return Rest()
     try:
         wanted = range(1, LONG_PERIOD + 1) if periods is None else periods
         cycle = find_cycle(rule, cells, set(wanted))

@@ -77,7 +77,9 @@ FORMS = (
         re.compile(rb"[a-z_]+(?:,[a-z_]+){2,}\r?\n"),
         "comma-separated values, which a spreadsheet reads",
     ),
-    Form("binary", re.compile(rb"[^\n]*[\x00-\x08\x0e-\x1a\x1c-\x1f]"), "a binary file"),
+    Form(
+        "binary", re.compile(rb"[\x80-\xbf]|[^\n]*[\x00-\x08\x0e-\x1a\x1c-\x1f]"), "a binary file"
+    ),
 )
 
 

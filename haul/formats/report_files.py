@@ -52,7 +52,7 @@ class Reports:
         waiting: list[str] | None = []
         for number, line in enumerate(split_lines(stream), 1):
             if number == 1 and (other := describe_other_form(line + b"\n", *READ)):
-                raise BadLines(f"{place}no report lines{other}")
+                raise BadLines(f"{place}no report lines{other}{find_lines_beside(line)}")
             if waiting is not None and line.startswith(REPORT):
                 for why in waiting:
                     self.skip(why)
@@ -91,6 +91,12 @@ class Reports:
         """Writes how many lines were skipped without a message, if there were any."""
         if self.skipped > MOST_TOLD:
             self.terminal.complain(f"{self.skipped - MOST_TOLD} more lines are skipped")
+
+
+def find_lines_beside(line: bytes) -> str:
+    """Returns where report lines may be, if an input begins like a haul."""
+    is_haul = line == b"@VERSION 2"
+    return "; the report lines of a search are in FILE.late" if is_haul else ""
 
 
 def split_lines(stream: IO[bytes]) -> Iterator[bytes]:

@@ -113,7 +113,7 @@ def find_exact_ends(fates: Fates, lives: list[LongLife]) -> Iterator[str]:
         generation = find_exact_generation(census, job, soups)
         if generation is None:
             return None
-        return generation, fates.list_populations(draw_soup(job, *soups), generation, generation)[0]
+        return generation, fates.count_cells(draw_soup(job, *soups), generation)
 
     found = census.ask_in_parts(find_end, [life.soup for life in lives], 1, "soups run")
     for life, end in zip(lives, found, strict=True):

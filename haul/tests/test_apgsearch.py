@@ -287,7 +287,8 @@ class Apgsearch(unittest.TestCase):
         )
         self.assertEqual(
             self.refused("soups", self.write("haul", own)),
-            "no report lines: this looks like a haul, which `haul table` and `haul check` read",
+            "no report lines: this looks like a haul, which `haul table` and `haul check` read; "
+            "the report lines of a search are in FILE.late",
         )
 
     def test_rules(self) -> None:

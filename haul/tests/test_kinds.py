@@ -28,7 +28,7 @@ LOOKS = {
     "csv": "comma-separated values, which a spreadsheet reads",
     "json": "JSON, which other programs read",
     "empty": "an empty text",
-    "folder": "this is a folder, and not a file in it",
+    "folder": "this is a folder; give the name of a file in it",
     "binary": "a binary file",
     "compressed": "a compressed file, which has to be unpacked first",
     "macrocell": "a macrocell file, which Golly can open and save as RLE",
@@ -125,6 +125,8 @@ class Matrix(unittest.TestCase):
                     path = self.put(kind)
                     if kind == "several" and not self.reads_hauls(words):
                         looks = LOOKS["haul"]
+                    if looks == LOOKS["haul"] and words[0] in ("soups", "why") and "@" in words:
+                        looks += "; the report lines of a search are in FILE.late"
                     status, output, errors = self.call(words, path)
                     if kind in accepted:
                         self.assertIn(status, (0, 7), errors)
@@ -157,6 +159,7 @@ class Forms(unittest.TestCase):
             (b"!Name: Glider\n.O.\n", "plaintext"),
             (b"-1 -2\n", "coordinates"),
             (b"a\x00b", "binary"),
+            (b"\x89PNG\r\n", "binary"),
         ):
             form = find_form(text)
             self.assertEqual(form and form.key, key, text)

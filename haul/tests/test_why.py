@@ -282,10 +282,12 @@ class Hints(unittest.TestCase):
     def test_growth(self) -> None:
         """A population that falls now and then may grow, but one that stops doesn't."""
         grows = [generation**2 // 1000 + generation % 7 for generation in range(800, 2400)]
-        stops = [*grows[:900], *[grows[900]] * 700]
+        # It stops in the last of the parts, or just before the last but one.
+        late, early = ([*grows[:end], *[grows[end]] * (1600 - end)] for end in (1210, 1190))
         for populations, expected in (
             (grows, True),
-            (stops, False),
+            (late, True),
+            (early, False),
             (grows[::-1], False),
             ([5] * 16, False),
             ([generation % 100 for generation in range(800)], False),
@@ -333,6 +335,10 @@ class Told(unittest.TestCase):
             texts.add(why_pattern(rows, "--limit=0"))
             field.step()
         self.assertEqual(texts, {"settled 0", "settles after 0"})
+
+    def test_a_pattern_that_dies(self) -> None:
+        self.assertEqual(look_for_rest(LIFE, set(), STANDARD), Rest())
+        self.assertEqual(why_pattern("OO\n", "--limit=5", "--stride=7"), "settles after 5")
 
     def test_several_objects(self) -> None:
         shuttle = cells_of(QUEEN_BEE_SHUTTLE)
