@@ -16,8 +16,15 @@ from haul.tests.searching import CLOCK, Searches
 # The 700 soups from 23000 on leave three finds.
 WORDS = ["--seed=", "--first=23000", "--rarer=10000", "--until=700", "--late=never"]
 FINDS = ["xs12_330f96", CLOCK, "xs20_3lkkl3z32w23"]
-# The ways in which a search is told to end at once.
-SIGNALS = ([signal.SIGTERM], [signal.SIGHUP], [signal.SIGINT, signal.SIGINT])
+# The signals that tell a search to end at once, the call of the `--finds` program during which they
+# come, and how many seconds after it has begun.
+MOMENTS = (
+    ([signal.SIGTERM], 1, 0.0),
+    ([signal.SIGTERM], 3, 0.2),
+    ([signal.SIGHUP], 2, 0.1),
+    ([signal.SIGINT, signal.SIGINT], 1, 0.2),
+    ([signal.SIGINT, signal.SIGINT], 3, 0.0),
+)
 # An invented haul of apgsearch. Its seeds make the soups of its samples.
 APGSEARCH = """@VERSION v5.4-ll2.2
 @MD5 5a105e8b9d40e1329780d62ea2265d8a
@@ -49,24 +56,23 @@ class OpenCalls(Searches):
         call and the later ones, and no other."""
         slow = self.stub("echo $2 >> begun; sleep 0.6; echo $2 >> ended", "slow")
         quick = self.stub("echo $2 >> again", "quick")
-        for place, numbers in enumerate(SIGNALS):
-            for call in (1, 2, 3):
-                with self.subTest(numbers=numbers, call=call):
-                    for path in self.folder.glob("[!sq]*"):
-                        path.unlink()
-                    with self.start(*WORDS, "--finds", slow) as search:
-                        while len(self.read("begun")) < call:
-                            time.sleep(0.01)
-                        time.sleep(0.1 * ((place + call) % 3))
-                        for number in numbers:
-                            search.send_signal(number)
-                            time.sleep(0.05)
-                        search.communicate(timeout=60)
-                    self.assertEqual(search.returncode, -numbers[-1])
-                    self.assertEqual(self.read("ended"), FINDS[: call - 1])
-                    self.search(*WORDS, "--finds", quick)
-                    self.assertEqual(self.read("again"), FINDS[call - 1 :])
-                    self.assertFalse((self.folder / "mine.haul.finds").exists())
+        for numbers, call, seconds in MOMENTS:
+            with self.subTest(numbers=numbers, call=call):
+                for path in self.folder.glob("[!sq]*"):
+                    path.unlink()
+                with self.start(*WORDS, "--finds", slow) as search:
+                    while len(self.read("begun")) < call:
+                        time.sleep(0.01)
+                    time.sleep(seconds)
+                    for number in numbers:
+                        search.send_signal(number)
+                        time.sleep(0.05)
+                    search.communicate(timeout=60)
+                self.assertEqual(search.returncode, -numbers[-1])
+                self.assertEqual(self.read("ended"), FINDS[: call - 1])
+                self.search(*WORDS, "--finds", quick)
+                self.assertEqual(self.read("again"), FINDS[call - 1 :])
+                self.assertFalse((self.folder / "mine.haul.finds").exists())
         self.assert_nothing_runs()
 
     def test_a_kill_after_a_second(self) -> None:
