@@ -26,6 +26,6 @@ complete -c census -n '__fish_seen_subcommand_from take work gather' -l also -x 
 complete -c census -n '__fish_seen_subcommand_from take' -l workers -x -d 'The number of workers that run soups at the same time'
 complete -c census -n '__fish_seen_subcommand_from take' -l progress -d 'Shows the progress on standard error, even if it isn’t a terminal'
 complete -c census -n '__fish_seen_subcommand_from take' -l report-from -x -d 'Writes the report lines of late soups to standard error while it runs'
-complete -c census -n '__fish_seen_subcommand_from work' -l worker -x -d 'The number of the worker that reports'
+complete -c census -n '__fish_seen_subcommand_from work' -l worker -x -d 'The worker that each line names'
 complete -c census -n '__fish_seen_subcommand_from gather' -l workers -x -d 'The highest number of a worker whose lines are taken'
 complete -c census -n '__fish_seen_subcommand_from help' -a 'run name show soup take work gather'

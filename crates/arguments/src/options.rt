@@ -147,7 +147,7 @@ pub const COUNT: Parameter = Parameter {
     kind: ValueKind::Number(0, 16_777_216),
     default: None,
     heading: None,
-    help: "The number of soups, from 0 to 16777216",
+    help: "The number of soups, from 0 to 16777216. `haul search` has no such limit",
 };
 
 /// A list of more ranges of soups.
@@ -232,7 +232,8 @@ pub const WORKER: Parameter = Parameter {
     kind: ValueKind::Number(1, MOST_WORKERS),
     default: None,
     heading: None,
-    help: "The number of the worker that reports, from 1 to 16",
+    help: "The worker that each line names, from 1 to 16. It is only a label: the\n\
+         soups run one after another, in one thread",
 };
 
 /// The flag that asks for the progress line.
