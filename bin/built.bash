@@ -39,5 +39,5 @@ get_cpu() {
 write_stamp() {
     [[ -x $top/$program && $(basis) == "$1" ]] || return
     # The stamp gets its name last, so that an incomplete stamp is never read.
-    { echo "${1%%$'\n'*}" && echo "$2" && digests "$program"; } >"$stamp.next" && mv -fT -- "$stamp.next" "$stamp"
+    { echo "${1%%$'\n'*}" && echo "$2" && digests crates.txt crates "$program"; } >"$stamp.next" && mv -fT -- "$stamp.next" "$stamp"
 }

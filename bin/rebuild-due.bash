@@ -7,13 +7,13 @@
 #
 # Each call of bin/census waits for `is_fresh`, so these functions start few processes.
 
-# Prints the digests of the sources, and of the program if it is an argument. Crates of tests and the crate of laws are
+# Prints the digests of the sources in some files and folders. Crates of tests and the crate of laws are
 # left out, since they aren't built into the program. So are mutants and inputs of tests, which have other suffixes, and
 # the folder `out` of each crate, which has built files. Below `src/` and `specs/`, a folder may have any name, and may
 # be a link.
 digests() (
     set -o pipefail
-    cd -- "$top" && find -L crates.txt crates "$@" -type d -regex 'crates/\([^/]*_tests\|laws\|[^/]*/out\)' -prune -o \
+    cd -- "$top" && find -L "$@" -type d -regex 'crates/\([^/]*_tests\|laws\|[^/]*/out\)' -prune -o \
         -type f \( -name '*.rt' -o -name '*.antt' -o -path crates.txt -o -path "$program" \) \
         -exec b2sum -l 256 -- {} + 2>/dev/null | LC_ALL=C sort
 )
@@ -21,7 +21,7 @@ digests() (
 # Prints what a build starts from: the toolchain's version and the digests of the sources.
 basis() {
     local version
-    get_version && echo "$version" && digests
+    get_version && echo "$version" && digests crates.txt crates
 }
 
 # Checks whether the program was built from these sources by this toolchain, for this machine's level of processors or
@@ -31,7 +31,7 @@ is_fresh() {
     [[ -x $top/$program && -f $stamp && -r $stamp ]] || return
     local version cpu built_by='' built_for='' built_from=''
     { read -r built_by; read -r built_for; read -r -d '' built_from; } <"$stamp"
-    [[ $built_from == "$(digests "$program")" ]] || return
+    [[ $built_from == "$(digests crates.txt crates "$program")" ]] || return
     get_cpu
     [[ $built_for == default || $built_for == "$cpu" ]] || return
     ! get_version || [[ $built_by == "$version" ]]

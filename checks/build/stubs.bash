@@ -15,7 +15,8 @@ room=$(mktemp -d) || exit 1
 trap 'touch -- "$room/go"; chmod -R u+w -- "$room"; rm -rf -- "$room"' EXIT
 chmod 755 -- "$room"
 
-tree=$room/tree
+# The name has a blank, which the scripts have to quote.
+tree="$room/the tree"
 source=$tree/crates/census/src/main.rt
 out=$tree/crates/census/out
 kit=$room/kit
@@ -23,30 +24,34 @@ tools=$room/tools
 
 # Only the commands that these scripts and the stubs need, so that no other `rt` is found.
 mkdir -- "$tools"
-for tool in awk b2sum bash cat chmod cp diff find flock grep head ln mkdir mktemp mv nice nproc readlink rm sed seq sh sleep sort stat tac tail \
-    tee touch truncate; do
+for tool in awk b2sum bash cat chmod cp diff env find flock grep head ln make mkdir mktemp mv nice nproc readlink rm sed seq sh sleep sort stat \
+    tac tail tee touch tr truncate; do
     ln -s -- "$(type -P "$tool")" "$tools/$tool"
 done
-# `python3` may be a script that looks for Python on the PATH, so the link leads to the interpreter itself.
-ln -s -- "$(python3 -c 'import sys; print(sys.executable)')" "$tools/python3"
 
 # Root can write into read-only folders. So if root runs a case that needs such a folder, the user `nobody` makes its
 # calls.
 as_user=()
 [[ $(id -u) != 0 ]] || as_user=(setpriv --reuid=65534 --regid=65534 --clear-groups)
 
-# Makes a tree that isn't built, and a toolchain of stubs.
+# Makes a tree that isn't built, and a toolchain of stubs. The program uses two libraries, which use no other crate of
+# the tree. The file `note` is behind a link in the sources.
 new_tree() {
     touch -- "$room/go"
-    rm -rf -- "$tree" "$kit" "$room"/{begun.*,said,slow,go,breaks,links,proof,low.pid,prover.pid,version,tries,programs,log}
-    mkdir -p -- "$tree"/{bin,crates/census/{src,specs,must-fail},crates/timing/src} "$kit/bin"
-    cp -- "$top"/bin/{census,rebuild,programs,unproved,built.bash,prove.bash,rebuild-due.bash} "$tree/bin/"
+    rm -rf -- "$tree" "$kit" "$room"/{begun.*,note,said,slow,go,breaks,links,proof,prover.pid,version,tries,programs,log}
+    mkdir -p -- "$tree"/{bin,crates/{census/{src,specs,must-fail},timing/src,plane_core/src,ranges/src}} "$kit/bin"
+    cp -- "$top"/bin/{census,rebuild,programs,unproved,built.bash,rebuild-due.bash} "$tree/bin/"
     cp -rp -- "$top/builder" "$tree/"
-    echo 'census:' >"$tree/crates.txt"
-    echo 'first' >"$source"
+    printf '%s\n' '# a comment: with a colon' 'census: plane_core ranges' 'plane_core: core' 'ranges: clap' 'census_tests: census' \
+        >"$tree/crates.txt"
+    echo plane >"$tree/crates/plane_core/src/lib.rt"
+    echo ranges >"$tree/crates/ranges/src/lib.rt"
+    echo first >"$source"
     echo 'a definition' >"$tree/crates/census/specs/Words.antt"
     echo 'a mutant' >"$tree/crates/census/must-fail/wrong.edit"
     echo 'another program' >"$tree/crates/timing/src/main.rt"
+    echo linked >"$room/note"
+    ln -s -- "$room/note" "$tree/crates/census/src/linked.rt"
     echo 'kit 1' >"$kit/KIT-ID"
     : >"$room/said"
     write_stubs
@@ -142,23 +147,14 @@ until_true() {
     return 1
 }
 
-# Makes two libraries that use no other crate of the tree, and a list in which the program uses both.
-two_libraries() {
-    printf '%s\n' '# a comment' 'census: low arguments' 'low: core' 'arguments: clap' 'census_tests: census' >"$tree/crates.txt"
-    mkdir -p -- "$tree"/crates/{low,arguments}/src
-    echo 'low' >"$tree/crates/low/src/lib.rt"
-    echo 'words' >"$tree/crates/arguments/src/lib.rt"
-}
-
 # Checks whether a process has ended.
 has_ended() { ! kill -0 "$1" 2>/dev/null; }
 
-# Runs the case $2, whose name is $1, on a new tree. If it fails, what the last call wrote to standard error is printed
-# too.
+# Runs a case, whose name is $1, on a new tree. If it fails, what the last call wrote to standard error is printed too.
 try() {
     new_tree
     : >"$room/errors"
-    if "$2"; then
+    if "${@:2}"; then
         pass
     else
         fail "$1"
@@ -166,11 +162,16 @@ try() {
     fi
 }
 
-# Runs a case on a read-only tree, which needs a user who can't write everywhere.
-try_read_only() {
-    if [[ ${#as_user[@]} != 0 ]] && ! "${as_user[@]}" test -x "$room" 2>/dev/null; then
-        skip "$1" "root can write everywhere, and setpriv doesn't work here" 1
-    else
-        try "$@"
-    fi
+# Runs the cases without arguments, which are functions that begin with `case_`, or with `read_only_case_` if they need a
+# user who can't write everywhere. Then ends the check.
+try_cases() {
+    local name
+    for name in $(compgen -A function | grep '^\(read_only_\)\?case_'); do
+        if [[ $name == read_only_* && ${#as_user[@]} != 0 ]] && ! "${as_user[@]}" test -x "$room" 2>/dev/null; then
+            skip "${name//_/ }" "root can write everywhere, and setpriv doesn't work here" 1
+        else
+            try "${name//_/ }" "$name"
+        fi
+    done
+    end
 }
