@@ -9,9 +9,8 @@ from email.utils import formatdate
 from pathlib import Path
 
 from release import Failed
-from release.archive import gzipped
 from release.checkout import Checkout
-from release.file_tree import PROGRAM, TEXT, File, Tree
+from release.pack import PROGRAM, TEXT, File, Tree, gzipped
 from release.pages import moved_page
 from release.zipped import is_packed, packed
 

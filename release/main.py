@@ -10,9 +10,8 @@ from pathlib import Path
 
 from release import Failed
 from release.checkout import Checkout, clean_checkout
-from release.compare import differences
-from release.make import PROVENANCE, files_of_release, write_release
-from release.programs import call
+from release.make import PROVENANCE, call_programs, files_of_release, write_release
+from release.pack import differences
 
 TOP = Path(__file__).resolve().parent.parent
 DESCRIPTION = "Makes a release of a checkout without changes: an archive, a Debian package, PROVENANCE.txt and SHA256SUMS."
@@ -43,10 +42,10 @@ def parser() -> argparse.ArgumentParser:
 def files_made(checkout: Checkout, built: Path | None) -> dict[str, bytes]:
     """Returns the files of the release. If `built` is `None`, the programs are built now."""
     if built is not None:
-        call(TOP, ["--look", str(built)])
+        call_programs(TOP, ["--look", str(built)])
         return files_of_release(checkout, built)
     with tempfile.TemporaryDirectory() as room:
-        call(TOP, [room])
+        call_programs(TOP, [room])
         return files_of_release(checkout, Path(room))
 
 

@@ -4,17 +4,15 @@ from __future__ import annotations
 
 import hashlib
 import os
+import signal
+import subprocess
 import sys
-import tempfile
 from pathlib import Path
 
 from release import Failed
-from release.archive import PACKED_BY, archive
 from release.checkout import Checkout
 from release.contents import archive_tree, name_of, package_tree
-from release.file_tree import Tree
-from release.package import PACKER, has, package, version_of
-from release.programs import LEVELS, rt_version, said_version, verdicts
+from release.pack import archive, has_packer, package, packed_by
 
 PROVENANCE, SUMS = "PROVENANCE.txt", "SHA256SUMS"
 
@@ -23,41 +21,41 @@ def sha256(data: bytes) -> str:
     return hashlib.sha256(data).hexdigest()
 
 
+def call_programs(top: Path, words: list[str]) -> None:
+    """Calls bin/programs, which reports errors itself."""
+    # Ctrl-C also reaches bin/programs, which then ends the prover. Until that has happened, this
+    # process ignores Ctrl-C and waits.
+    before = signal.signal(signal.SIGINT, lambda _number, _frame: None)
+    try:
+        call = [str(top / "bin" / "programs"), *words]
+        status = subprocess.run(call, stdin=subprocess.DEVNULL, check=False).returncode
+    finally:
+        signal.signal(signal.SIGINT, before)
+    if status != 0:
+        raise Failed(status=status if status > 0 else 128 - status)
+
+
 def files_of_release(checkout: Checkout, programs: Path) -> dict[str, bytes]:
     """Returns the files of a release by name. The release is made of a checkout, and of the
     programs in the folder `programs`. There is no package if dpkg-deb isn't installed.
     """
-    said = said_version(programs)
+    version = subprocess.run(
+        [programs / "census-v2", "--version"], capture_output=True, check=False
+    )
+    said = version.stdout.decode("utf-8", "replace").removeprefix("census ").rstrip("\n")
     if said != checkout.version:
         raise Failed(
             f"the program says that it is of version {said}, and haul/__init__.py says {checkout.version}"
         )
     made = {f"{name_of(checkout)}.tar.gz": archive(archive_tree(checkout, programs), checkout.date)}
-    if has(PACKER):
-        with tempfile.TemporaryDirectory() as room:
-            write_tree(package_tree(checkout, programs), Path(room), checkout.date)
-            made[f"gokzerd_{checkout.version}_amd64.deb"] = package(Path(room), checkout.date)
+    if has_packer():
+        tree = package_tree(checkout, programs)
+        made[f"gokzerd_{checkout.version}_amd64.deb"] = package(tree, checkout.date)
     made[PROVENANCE] = provenance(checkout, programs, list(made)).encode()
     made[SUMS] = "".join(
         f"{sha256(data)}  {name}\n" for name, data in sorted(made.items())
     ).encode()
     return made
-
-
-def write_tree(tree: Tree, folder: Path, date: int) -> None:
-    """Writes the files below a folder, with their modes (regardless of the umask) and all with the
-    same date.
-    """
-    for place, file in tree.items():
-        path = folder / place
-        path.parent.mkdir(parents=True, exist_ok=True)
-        path.write_bytes(file.data)
-        path.chmod(file.mode)
-    for above, _, names in os.walk(folder, topdown=False):
-        for name in names:
-            os.utime(os.path.join(above, name), (date, date))
-        os.chmod(above, 0o755)
-        os.utime(above, (date, date))
 
 
 def provenance(checkout: Checkout, programs: Path, archives: list[str]) -> str:
@@ -68,18 +66,19 @@ def provenance(checkout: Checkout, programs: Path, archives: list[str]) -> str:
     lines.append(
         f"files {checkout.sum_of_files()} (the SHA-256 of what `git ls-tree -r` prints of the commit)"
     )
-    lines.append(f"toolchain {rt_version(programs)}")
+    toolchain = (programs / "from").read_text().partition("\n")[0]
+    lines.append(f"toolchain {toolchain}")
     lines += [
         f"program {sha256((programs / f'census-{level}').read_bytes())} census-{level}"
-        for level in LEVELS
+        for level in ("v2", "v3")
     ]
     lines += [
         "",
         "What the prover said of each crate, and of the program for the processors of each level:",
         "",
-        *verdicts(programs),
+        *(programs / "verdicts").read_text().splitlines(),
     ]
-    lines += ["", "Packed by:", "", PACKED_BY, version_of(PACKER)]
+    lines += ["", "Packed by:", "", *packed_by()]
     lines += [
         "",
         "In a clone of the repository, with this file beside the archives, these two commands make all of it anew and compare:",
@@ -102,5 +101,5 @@ def write_release(made: dict[str, bytes], folder: Path) -> None:
         raise Failed(f"{error.filename}: {error.strerror}") from None
     for name in made:
         print(folder / name)
-    if not has(PACKER):
+    if not has_packer():
         print("release: there is no dpkg-deb, so no package was made", file=sys.stderr)
