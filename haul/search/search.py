@@ -83,7 +83,7 @@ class Search:
         self.waiter = StreamWaiter()
         self.waiter.add(stopping.reading, stopping.hear)
         self.batches = Batches(plan, haul.job, haul.soups, census, self.waiter)
-        self.finder = Finder(haul.job, haul, plan.rarer, files.unreported.since)
+        self.finder = Finder(haul.job, haul, plan.rarer, files.unreported.since, plan.wants)
         self.calls = FindsProgram(self.waiter, plan.finds, self.terminal.complain)
         self.reporter = Reporter(output, self.terminal, self.calls, files.unreported.finds)
         self.line = StatusLine(self.terminal)
