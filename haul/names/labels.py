@@ -28,11 +28,6 @@ def find_name_or_parts(code: str, separation: Separation, rule: str) -> str:
     return describe_parts(separation.parts, rule) if len(separation.parts) > 1 else ""
 
 
-def find_name_or_kind(code: str, rule: str) -> str:
-    """Returns the name of an object, or otherwise what its code says."""
-    return find_name(code, rule) or describe_kind(code)
-
-
 def describe_kind(code: str) -> str:
     """Returns what a code says of its object, such as `still life of 14 cells` or `oscillator of
     period 3`. Returns an empty text if it isn't the code of an object."""

@@ -61,8 +61,12 @@ def parse_names(text: bytes) -> Names:
 def find_name(code: str, rule: str = LIFE) -> str | None:
     """Returns the name of an object, or `None` if it has no name. A name that the user has added
     counts only under its rule, and only if names.tsv has none."""
-    own = load_names().shown.get(code)
-    return own or next(iter(list_user_names(code, rule)), None)
+    return find_own_name(code) or next(iter(list_user_names(code, rule)), None)
+
+
+def find_own_name(code: str) -> str | None:
+    """Returns the name in names.tsv, or `None` if there is none."""
+    return load_names().shown.get(code)
 
 
 def find_other_names(code: str, rule: str = LIFE) -> tuple[str, ...]:

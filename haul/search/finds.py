@@ -20,7 +20,8 @@ from haul.known.lookup import load_known
 from haul.known.wanted import Want, is_wanted
 from haul.life.generations import read_rule
 from haul.life.parts import Separator
-from haul.names.labels import find_name_or_kind
+from haul.names.labels import describe_kind
+from haul.names.objects import find_name, find_own_name
 from haul.patterns.codes import Kind, read_kind
 from haul.patterns.rules import LIFE
 from haul.rarity.reference import SOUPS, find_occurrence, is_covered, load_reference
@@ -44,18 +45,27 @@ class Find:
 
     def fields(self, job: Job) -> list[str]:
         """Returns the fields of the line about a find: the time, the code, the name or what the
-        code says, the soup, a command that shows the soup, and the rarity of the part in the reference or `-`. If
-        the user has added lists of known codes, the last field says whether they have the part."""
-        known = load_known(job.rule)
+        code says, the soup, a command that shows the soup, and the rarity of the part in the reference or `-`.
+        FILE.finds keeps these, so they have nothing that the user has added."""
         return [
             format_time(),
             self.code,
-            find_name_or_kind(self.code, job.rule) or "-",
+            find_own_name(self.code) or describe_kind(self.code) or "-",
             str(self.soup),
             format_find_command(job, self.soup),
             find_occurrence(self.code).describe() if is_covered(job) else "-",
-            *([] if known is None else [known.describe(self.code)]),
         ]
+
+
+def show_fields(rule: str, fields: list[str]) -> list[str]:
+    """Returns the fields of a find as they are printed: with a name that the user has added, and, if
+    there are lists of known codes, with a last field that says whether they have the part."""
+    code, known = fields[1], load_known(rule)
+    if "_" not in code:
+        # The line is about a late or an unsettled soup.
+        return fields if known is None else [*fields, "-"]
+    shown = [*fields[:2], find_name(code, rule) or fields[2], *fields[3:]]
+    return shown if known is None else [*shown, known.describe(code)]
 
 
 @dataclass

@@ -12,7 +12,7 @@ import unittest
 from haul.formats.haul import Job
 from haul.formats.profile import STANDARD
 from haul.known.wanted import BadWant, read_want
-from haul.search.finds import Find
+from haul.search.finds import Find, show_fields
 from haul.tests.called import CENSUS, HAUL, taken
 from haul.tests.test_names import UserData
 
@@ -88,8 +88,10 @@ class Known(UserData):
         self.assertNotIn("known", self.haul("table", "--no-data", haul)[0])
         page, _ = self.haul("page", "--census", CENSUS, "--play", "0", haul)
         self.assertIn('"known":"123 in codes.csv"', page)
-        fields = Find("xs6_696", 5).fields(Job("", "b3s23", STANDARD))
+        fields = show_fields("b3s23", Find("xs6_696", 5).fields(Job("", "b3s23", STANDARD)))
         self.assertEqual((len(fields), fields[-1]), (7, "5 in codes.csv"))
+        late = ["", "settled", "-", "5", "-", "-"]
+        self.assertEqual(show_fields("b3s23", late), [*late, "-"])
 
 
 class Wanted(UserData):

@@ -32,7 +32,7 @@ SEARCH = Command(
     "finishes the running batch, so nothing is lost. A second Ctrl-C drops it.\n\n"
     "A find is an object that is new in FILE and rare: under Life, fewer than one soup in a\n"
     "million of the reference census has it. Each find is printed as a line of six values with\n"
-    "tabs between them: the time, the code, the name or `-`, the soup, a command that shows what\n"
+    "tabs between them: the time, the code, the name or kind, the soup, a command that shows what\n"
     "the soup leaves, and how rare the object is. What the reference doesn't have begins with `!`\n"
     "on a terminal.\n\n"
     "examples:\n  haul search mine.haul\n  haul search --rule b36s23 --until 1000000 highlife.haul\n"
