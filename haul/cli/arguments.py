@@ -26,6 +26,8 @@ class Argument:
     is_flag: bool = False
     # The number of values: `?`, `*` or `+` as in a regular expression, or empty for exactly one.
     repeats: str = ""
+    # Whether an option may be given several times. Its value is then the list of all values.
+    is_list: bool = False
     # The most hauls that a call may have, or `None` if their number isn't limited. `other_hauls` is
     # the number of hauls that other arguments give.
     most_hauls: int | None = None

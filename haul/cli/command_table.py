@@ -7,6 +7,7 @@ from __future__ import annotations
 from haul.cli.table.hauls import CHECK, INDEX, JOIN
 from haul.cli.table.search import SEARCH
 from haul.cli.table.soups import CELLS, RLE, SOUP, SOUPS
+from haul.cli.table.user_data import KNOWN, NAMES
 from haul.cli.table.views import COMPARE, PAGE, RARITY, TABLE
 from haul.cli.why_command import WHY
 
@@ -18,6 +19,8 @@ COMMANDS = (
     COMPARE,
     TABLE,
     RARITY,
+    NAMES,
+    KNOWN,
     PAGE,
     SOUP,
     SOUPS,

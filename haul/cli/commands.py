@@ -19,8 +19,10 @@ from haul.formats.haul_writer import format_haul
 from haul.formats.report_files import Reports
 from haul.hauls.by_parts import Objects
 from haul.hauls.join import CantJoin, Joining
+from haul.known.wanted import describe_wants, find_fault_of_wants
 from haul.life.generations import read_rule
 from haul.life.parts import Separator
+from haul.names.famous import find_famous
 from haul.names.objects import find_code_of_name, load_names
 from haul.page.document import make_page
 from haul.page.lives import Lives, find_lives
@@ -106,10 +108,14 @@ def run_table(asked: argparse.Namespace, streams: Streams) -> int:
     objects = Objects(read_counted_haul(streams, asked.file, counts_parts), streams.terminal)
     haul = objects.by_parts() if counts_parts else objects.haul
     has_rarity = counts_parts and is_covered(haul.job)
+    wants = asked.want or []
+    fault = find_fault_of_wants(wants, haul.job.rule, is_covered(haul.job))
+    if fault is not None:
+        raise Refused(f"{format_place(asked.file)}{fault}")
     lines = choose_rows(
         haul,
         objects,
-        RowChoice(asked.kind, asked.period, asked.strict, asked.rare, asked.top),
+        RowChoice(asked.kind, asked.period, asked.strict, asked.rare, asked.top, wants),
         has_rarity,
     )
     by_parts = objects if counts_parts else None
@@ -127,8 +133,10 @@ def run_rarity(asked: argparse.Namespace, streams: Streams) -> int:
     separator = Separator(read_rule(LIFE))
     status = DONE
     for text in asked.objects:
-        code = find_code_of_name(text) or find_code(text)
-        if code is None:
+        code, famous = find_code_of_name(text) or find_code(text), find_famous(text)
+        if famous is not None:
+            streams.write_lines([f"{famous.name}: {famous.describe()}"])
+        elif code is None:
             streams.terminal.complain(describe_unknown(text))
             status = USAGE
         else:
@@ -195,8 +203,13 @@ def run_search(asked: argparse.Namespace, streams: Streams) -> int:
         # is running.
         load_names()
         census = Census(asked.census, streams.terminal, asked.workers)
+        next_soup, wants = find_next_soup(asked, files.haul), asked.want or []
+        if wants and files.haul.soups:
+            streams.terminal.complain(
+                f"from soup {next_soup} on, finds are new objects that are: {describe_wants(wants)}"
+            )
         plan = Plan(
-            find_next_soup(asked, files.haul),
+            next_soup,
             asked.until,
             asked.batch,
             census.workers,
@@ -205,6 +218,7 @@ def run_search(asked: argparse.Namespace, streams: Streams) -> int:
             None if files.late is None else files.late.generation,
             files.haul.job.rule == LIFE or asked.late is not None,
             asked.soup_seconds,
+            wants,
         )
         stopping = Stopping()
         search = Search(plan, files, census, stopping, streams.stdout)

@@ -11,6 +11,8 @@ from haul.formats.profile import STANDARD
 def find_fault_of_search(asked: argparse.Namespace) -> str | None:
     if asked.file == "-":
         return "FILE is the name of a file, since the haul is kept in it"
+    if asked.want and asked.rarer is not None:
+        return "--rarer doesn't go with --want, which can have `rarer N`"
     return "the horizon is below the period" if is_horizon_low(asked) else None
 
 

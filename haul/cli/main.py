@@ -13,6 +13,8 @@ from haul.cli.statuses import DONE, FAILED, NO_MEMORY, REFUSED, USAGE
 from haul.cli.streams import Refused, Streams
 from haul.cli.values import RuleValue
 from haul.formats.tables import BadTable
+from haul.known.database import BadDatabase
+from haul.user_data import Use
 
 
 def main(arguments: list[str], stdin: BinaryIO, stdout: TextIO, stderr: TextIO) -> int:
@@ -23,7 +25,7 @@ def main(arguments: list[str], stdin: BinaryIO, stdout: TextIO, stderr: TextIO) 
         status = run_command(arguments, streams)
         stdout.flush()
         return status
-    except (Refused, BadTable) as why:
+    except (Refused, BadTable, BadDatabase) as why:
         complain(str(why))
         return REFUSED
     except NoCensus as why:
@@ -56,6 +58,7 @@ def run_command(arguments: list[str], streams: Streams) -> int:
     for value in vars(asked).values():
         if isinstance(value, RuleValue) and value.given != value:
             streams.terminal.complain(f"rule {value.given} is --rule {value}")
+    Use.is_on = not getattr(asked, "no_data", False)
     status: int = asked.command.run(asked, streams)
     return status
 

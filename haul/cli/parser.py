@@ -137,6 +137,8 @@ def list_settings(argument: Argument) -> dict[str, Any]:
     }
     if argument.choices:
         settings["choices"] = argument.choices
+    if argument.is_list:
+        settings["action"] = "append"
     if argument.repeats:
         settings["nargs"] = argument.repeats
     if argument.most_hauls is not None:

@@ -8,15 +8,21 @@ from pathlib import Path
 
 from haul.cli.statuses import DONE
 from haul.cli.streams import Refused, Streams, format_place
+from haul.cli.values import find_code
 from haul.formats.recognition import describe_other_form
+from haul.life.apgcodes import read_wechsler
 from haul.life.catagolue_soups import BadSample, Sample, read_sample
+from haul.life.cells import draw_rows
+from haul.names.famous import find_famous
+from haul.names.objects import find_code_of_name
+from haul.patterns.codes import read_drawing
 from haul.patterns.coordinates import (
     BadCoordinates,
     format_rle_of_cells,
     is_coordinates,
     read_coordinates,
 )
-from haul.patterns.plaintext import BadPlaintext, is_plaintext, read_plaintext
+from haul.patterns.plaintext import BadPlaintext, Rows, is_plaintext, read_plaintext
 from haul.patterns.rle import WITHOUT_HISTORY, BadRle, Rle, format_rle, read_rle
 from haul.patterns.rules import LIFE, parse_rule
 
@@ -66,7 +72,25 @@ def find_fault_of_soup(asked: argparse.Namespace) -> str | None:
     return None
 
 
+def find_named_rows(name: str | None) -> Rows | None:
+    """Returns the rows of the famous pattern or the object that has a name or a code. Returns `None`
+    if nothing has it, or if there is a file of this name."""
+    if name is None or os.path.lexists(name):
+        return None
+    famous = find_famous(name)
+    if famous is not None:
+        return famous.rows()
+    code = find_code_of_name(name) or find_code(name)
+    drawing = None if code is None else read_drawing(code)
+    cells = None if drawing is None else read_wechsler(drawing)
+    return draw_rows(cells, cells) if cells else None
+
+
 def run_cells(asked: argparse.Namespace, streams: Streams) -> int:
+    named = find_named_rows(asked.file)
+    if named is not None:
+        streams.write_lines(named)
+        return DONE
     text = streams.read_pattern(asked.file)
     try:
         if is_plaintext(text):
@@ -85,6 +109,10 @@ def run_cells(asked: argparse.Namespace, streams: Streams) -> int:
 
 
 def run_rle(asked: argparse.Namespace, streams: Streams) -> int:
+    named = find_named_rows(asked.file)
+    if named is not None:
+        streams.write_lines([f"#N {asked.file}", *format_rle(named, asked.rule)])
+        return DONE
     text = b""
     try:
         with streams.open_pattern(asked.file) as (text, lines):

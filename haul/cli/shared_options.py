@@ -4,7 +4,7 @@ from __future__ import annotations
 
 from haul.census.client import MOST_WORKERS
 from haul.cli.arguments import Argument, Exclusive, flag, option
-from haul.cli.values import read_as_census, read_path, read_within
+from haul.cli.values import read_as_census, read_path, read_want_value, read_within
 from haul.formats.profile import LIMIT, MOST_HORIZON, PERIOD, STANDARD, STRIDE, Profile
 
 CENSUS = option(
@@ -14,6 +14,15 @@ CENSUS = option(
     read_path,
 )
 PLANE = flag("--plane", "read RLE with a rule on a bounded grid as a pattern on the plane")
+NO_DATA = flag("--no-data", "use only the names that come with `haul`, and no lists of known codes")
+WANT = Argument(
+    "--want",
+    "kinds such as `p3+`, `pq` or `s`, `rarer N`, `unknown` (in no list of `haul known`), or several of them joined by "
+    "`and`; may be given several times, for alternatives",
+    "WHAT",
+    read_want_value,
+    is_list=True,
+)
 WORKERS = option(
     "--workers",
     "W",

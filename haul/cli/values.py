@@ -9,7 +9,9 @@ from collections.abc import Callable
 from haul.formats.haul import NUMBER_LIMIT
 from haul.formats.late_file import ONLY_UNSETTLED
 from haul.formats.syntax import CODE, RULE, SEED
-from haul.names.objects import find_code_of_name, find_near_names
+from haul.known.wanted import BadWant, Want, read_want
+from haul.names.near_names import find_near_names
+from haul.names.objects import find_code_of_name, find_codes_of_name
 from haul.patterns.codes import read_object_address
 from haul.patterns.rules import LIFE, parse_rule
 from haul.search.late_soups import NEVER
@@ -124,10 +126,21 @@ def find_code(text: str) -> str | None:
 
 
 def describe_unknown(text: str) -> str:
-    """Says that a text is neither a code nor a name, and which names look like it."""
+    """Says that a text is neither a code nor a name, and which names look like it, or which objects
+    have the name."""
+    codes = find_codes_of_name(text)
+    if codes:
+        return f"{text} is the name of several objects: give the code, {' or '.join(codes)}"
     near = find_near_names(text)
     meant = f"; did you mean {' or '.join(near)}?" if near else ""
     return f"{text} is neither a code such as xs4_33 nor a known name{meant}"
+
+
+def read_want_value(text: str) -> Want:
+    try:
+        return read_want(text)
+    except BadWant as bad:
+        raise argparse.ArgumentTypeError(str(bad)) from None
 
 
 class RuleValue(str):

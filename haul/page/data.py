@@ -10,10 +10,11 @@ from functools import cache
 
 from haul.census.command_lines import format_soup_commands
 from haul.formats.haul import Haul
+from haul.known.lookup import describe_known, load_known
 from haul.life.apgcodes import read_wechsler
 from haul.life.bitmaps import read_bitmap
 from haul.life.soups import make_soup
-from haul.names.labels import find_label
+from haul.names.labels import find_name_or_parts
 from haul.names.objects import find_name, find_other_names
 from haul.page.lives import Lives, describe_lives
 from haul.page.sides import Side, Sides
@@ -90,17 +91,21 @@ def describe_object(sides: Sides, code: str) -> dict[str, object]:
     """Returns the data about an object. Each list except `also` and `rarity` has a value for each
     haul."""
     separation = sides.first_with(code).separate(code)
+    rule = sides.first_with(code).haul.job.rule
     of_objects = [list_counts(side.haul, code) for side in sides.all]
     of_parts = [list_counts(side.by_parts, code) for side in sides.all]
     known: dict[str, object] = {
         "code": code,
-        "label": find_label(code, separation),
+        "label": find_name_or_parts(code, separation, rule),
         "made": [describe_parts(side, code) for side in sides.all],
     }
-    if find_name(code) is not None:
+    if find_name(code, rule) is not None:
         known["named"] = 1
-    if find_other_names(code):
-        known["also"] = list(find_other_names(code))
+    if find_other_names(code, rule):
+        known["also"] = list(find_other_names(code, rule))
+    lists = load_known(rule)
+    if lists is not None:
+        known["known"] = describe_known(lists, separation.parts)
     if any(of_objects):
         known["objects"] = of_objects
     if any(of_parts):

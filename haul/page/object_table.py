@@ -9,7 +9,7 @@ from urllib.parse import quote
 
 from haul.life.apgcodes import read_wechsler
 from haul.life.drawing import draw_picture
-from haul.names.labels import find_label, mark_label
+from haul.names.labels import find_name_or_parts, mark_label
 from haul.names.objects import find_name
 from haul.page.data import count_cells
 from haul.page.sides import Side, Sides
@@ -70,11 +70,11 @@ def describe_omissions(sides: Sides) -> str:
 
 def write_row(sides: Sides, code: str) -> str:
     separation = sides.first_with(code).separate(code)
-    label = mark_label(find_label(code, separation), separation)
-    cells = count_cells(code)
     rule = sides.first_with(code).haul.job.rule
+    label = mark_label(find_name_or_parts(code, separation, rule), separation)
+    cells = count_cells(code)
     named = f"<b>{escape(label)}</b> {link_code(code, rule)}" if label else link_code(code, rule)
-    columns = [draw_object(code), named, describe_kind(code), "" if cells is None else cells]
+    columns = [draw_object(code, rule), named, describe_kind(code), "" if cells is None else cells]
     row = "".join(f"<td>{column}</td>" for column in columns)
     reference = write_occurrence(code) if sides.has_rarity else ""
     if len(sides.all) == 1:
@@ -136,12 +136,12 @@ def link_code(code: str, rule: str) -> str:
     return f'<a href="{CATAGOLUE}/object/{code}/{rule}">{text}</a>'
 
 
-def draw_object(code: str) -> str:
+def draw_object(code: str, rule: str) -> str:
     """Returns the picture of an object, or why there is none."""
     text = read_drawing(code)
     cells = read_wechsler(text) if text is not None else None
     if cells is not None:
-        return draw_picture(cells, find_name(code) or code)
+        return draw_picture(cells, find_name(code, rule) or code)
     # A haul may have a code that isn't the code of an object.
     return "too large to draw" if is_large(code) else "can't be drawn"
 

@@ -5,7 +5,7 @@ from __future__ import annotations
 
 import io
 from collections import deque
-from dataclasses import dataclass
+from dataclasses import dataclass, field
 
 from haul.census.background import BackgroundTake, StreamWaiter
 from haul.census.children import NoCensus
@@ -14,6 +14,7 @@ from haul.census.command_lines import WORKERS_OF_A_CALL, list_take_arguments
 from haul.formats.field_reader import BadHaul
 from haul.formats.haul import NUMBER_LIMIT, Haul, Job
 from haul.formats.haul_reader import read_one_haul
+from haul.known.wanted import Want
 from haul.search.late_soups import BatchLines
 
 # If several batches run at once, the queue has at most this many batches per running batch.
@@ -45,6 +46,8 @@ class Plan:
     reports_late: bool = False
     # The search ends after this many seconds without a soup, or never if it is 0.
     soup_seconds: int = 60
+    # What a find has to be one of, or nothing.
+    wants: list[Want] = field(default_factory=list)
 
 
 @dataclass

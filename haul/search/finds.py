@@ -16,9 +16,12 @@ from datetime import datetime, timezone
 from haul.census.command_lines import format_find_command
 from haul.formats.haul import NUMBER_LIMIT, Haul, Job
 from haul.formats.profile import STANDARD
+from haul.known.lookup import load_known
+from haul.known.wanted import Want, is_wanted
 from haul.life.generations import read_rule
 from haul.life.parts import Separator
-from haul.names.objects import find_name
+from haul.names.labels import describe_kind
+from haul.names.objects import find_name, find_own_name
 from haul.patterns.codes import Kind, read_kind
 from haul.patterns.rules import LIFE
 from haul.rarity.reference import SOUPS, find_occurrence, is_covered, load_reference
@@ -41,16 +44,28 @@ class Find:
     soup: int
 
     def fields(self, job: Job) -> list[str]:
-        """Returns the fields of the line about a find: the time, the code, the name or `-`, the
-        soup, a command that shows the soup, and the rarity of the part in the reference or `-`."""
+        """Returns the fields of the line about a find: the time, the code, the name or what the
+        code says, the soup, a command that shows the soup, and the rarity of the part in the reference or `-`.
+        FILE.finds keeps these, so they have nothing that the user has added."""
         return [
             format_time(),
             self.code,
-            find_name(self.code) or "-",
+            find_own_name(self.code) or describe_kind(self.code) or "-",
             str(self.soup),
             format_find_command(job, self.soup),
             find_occurrence(self.code).describe() if is_covered(job) else "-",
         ]
+
+
+def show_fields(rule: str, fields: list[str]) -> list[str]:
+    """Returns the fields of a find as they are printed: with a name that the user has added, and, if
+    there are lists of known codes, with a last field that says whether they have the part."""
+    code, known = fields[1], load_known(rule)
+    if "_" not in code:
+        # The line is about a late or an unsettled soup.
+        return fields if known is None else [*fields, "-"]
+    shown = [*fields[:2], find_name(code, rule) or fields[2], *fields[3:]]
+    return shown if known is None else [*shown, known.describe(code)]
 
 
 @dataclass
@@ -123,10 +138,18 @@ class Finder:
     the file, so they aren't new, and no object of the file has to be separated for them.
     """
 
-    def __init__(self, job: Job, haul: Haul, rarer: int, first: int = NUMBER_LIMIT) -> None:
-        """Under Life, a part is common if at least one in `rarer` soups of the reference has it. An
-        object of the haul hasn't been examined yet if the lowest soup that left it is `first` or
-        higher."""
+    def __init__(
+        self,
+        job: Job,
+        haul: Haul,
+        rarer: int,
+        first: int = NUMBER_LIMIT,
+        wants: list[Want] | None = None,
+    ) -> None:
+        """Under Life, a part is common if at least one in `rarer` soups of the reference has it. If
+        `wants` is given, a part is common if it isn't wanted. An object of the haul hasn't been
+        examined yet if the lowest soup that left it is `first` or higher."""
+        self.rule, self.wants = job.rule, wants or []
         new = [(code, soups[0]) for code, soups in haul.samples.items() if soups[0] >= first]
         self.separator = Separator(read_rule(job.rule))
         self.common = list_common_parts(rarer) if job.rule == LIFE else frozenset()
@@ -188,7 +211,12 @@ class Finder:
         """Checks whether a part is neither common, nor known, nor itself an unread object. An
         unread object with the part's code has this part, since a part can't be separated further.
         In that case, the part isn't new."""
-        return part not in self.common and part not in self.known and part not in self.unread
+        return not self.is_common(part) and part not in self.known and part not in self.unread
+
+    def is_common(self, part: str) -> bool:
+        if self.wants:
+            return not is_wanted(self.wants, part, self.rule)
+        return part in self.common
 
     def parts_of(self, code: str) -> tuple[str, ...]:
         if self.separator.count_runs() > MOST_RUNS:

@@ -23,6 +23,8 @@ class FindsProgram:
         lines."""
         self.waiter = waiter
         self.program = program
+        # Returns the fields as arguments of the program.
+        self.show: Callable[[list[str]], list[str]] = list
         self.complain = complain
         self.waiting: deque[list[str]] = deque()
         self.running: BackgroundProgram | None = None
@@ -61,7 +63,9 @@ class FindsProgram:
         assert self.program is not None
         self.arguments = arguments
         try:
-            self.running = BackgroundProgram(self.waiter, FIND, [self.program, *arguments], None)
+            self.running = BackgroundProgram(
+                self.waiter, FIND, [self.program, *self.show(arguments)], None
+            )
             self.began = time.monotonic()
         except OSError as error:
             self.report(error.strerror or "can't be started")

@@ -6,6 +6,7 @@ Late and unsettled soups are reported in the same way, and are called finds here
 from __future__ import annotations
 
 from collections import deque
+from collections.abc import Callable
 from typing import TextIO
 
 from haul.plurals import write_count
@@ -29,6 +30,8 @@ class Reporter:
         self.calls = calls
         self.waiting = deque(finds)
         self.marks_finds = output.isatty()
+        # Returns the fields as they are printed.
+        self.show: Callable[[list[str]], list[str]] = list
         self.count = 0
         # Whether a find couldn't be printed. Nothing is printed after that.
         self.has_failed = False
@@ -45,7 +48,7 @@ class Reporter:
         is_unknown = self.marks_finds and fields[-1].startswith(UNKNOWN)
         try:
             print(
-                (UNKNOWN_MARK if is_unknown else "") + "\t".join(fields),
+                (UNKNOWN_MARK if is_unknown else "") + "\t".join(self.show(fields)),
                 file=self.output,
                 flush=True,
             )

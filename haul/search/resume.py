@@ -12,7 +12,9 @@ from dataclasses import dataclass
 from haul.formats.haul import Haul, Job
 from haul.formats.late_file import Late
 from haul.formats.profile import STANDARD, Profile
+from haul.known.wanted import find_fault_of_wants
 from haul.patterns.rules import LIFE
+from haul.rarity.reference import is_covered
 from haul.search.haul_file import HaulFile
 from haul.search.late_soups import open_late
 from haul.search.side_file import SideFile
@@ -81,6 +83,9 @@ def refuse_other_jobs(asked: argparse.Namespace, haul: Haul) -> None:
         raise Disagrees(
             f"{asked.file}: --rarer needs Life, since the reference has no soups of {haul.job.rule}"
         )
+    fault = find_fault_of_wants(asked.want or [], haul.job.rule, is_covered(haul.job))
+    if fault is not None:
+        raise Disagrees(f"{asked.file}: {fault}")
     for name, wanted, is_so in zip(
         ("seed", "rule", *Profile._fields, "first soup"), said, there, strict=True
     ):

@@ -16,6 +16,7 @@ from __future__ import annotations
 import time
 from collections.abc import Callable
 from contextlib import ExitStack, suppress
+from functools import partial
 from typing import TextIO
 
 from haul.census.background import StreamWaiter
@@ -24,7 +25,7 @@ from haul.formats.haul import NUMBER_LIMIT
 from haul.hauls.join import Joining
 from haul.plurals import write_count
 from haul.search.batches import Batches, Plan, Taken
-from haul.search.finds import Finder
+from haul.search.finds import Finder, show_fields
 from haul.search.finds_program import FindsProgram
 from haul.search.haul_file import Beside, Displaced
 from haul.search.late_soups import list_late_finds
@@ -83,9 +84,10 @@ class Search:
         self.waiter = StreamWaiter()
         self.waiter.add(stopping.reading, stopping.hear)
         self.batches = Batches(plan, haul.job, haul.soups, census, self.waiter)
-        self.finder = Finder(haul.job, haul, plan.rarer, files.unreported.since)
+        self.finder = Finder(haul.job, haul, plan.rarer, files.unreported.since, plan.wants)
         self.calls = FindsProgram(self.waiter, plan.finds, self.terminal.complain)
         self.reporter = Reporter(output, self.terminal, self.calls, files.unreported.finds)
+        self.reporter.show = self.calls.show = partial(show_fields, haul.job.rule)
         self.line = StatusLine(self.terminal)
         self.stall = Stall(plan.soup_seconds)
         self.said_that_it_finishes = self.said_what_is_left = False

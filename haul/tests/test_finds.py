@@ -279,7 +279,7 @@ class Fields(Searches):
                 find_occurrence(BIPOLE).describe(),
             ],
         )
-        self.assertEqual(Find("xs99_0", 1).fields(LIFE)[2], "-")
+        self.assertEqual(Find("xs99_0", 1).fields(LIFE)[2], "still life of 99 cells")
 
     def test_commands_are_for_a_shell(self) -> None:
         """The command of a find, run by a shell, prints what its soup leaves."""

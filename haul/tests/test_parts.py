@@ -326,17 +326,22 @@ class Parts(unittest.TestCase):
 
 class Labels(unittest.TestCase):
     def test_the_most_frequent(self) -> None:
-        self.assertEqual({code: find_label(code, parts(code)) for code in FREQUENT}, FREQUENT)
+        self.assertEqual(
+            {code: find_label(code, parts(code), "b3s23") for code in FREQUENT}, FREQUENT
+        )
 
     def test_what_has_a_name_is_called_by_it(self) -> None:
         for code, label in (
             ("xs8_rr", "bi-block"),
             (LIGHT, "traffic light"),
             ("xs4_33", "block"),
-            ("xs12_256o8a6", ""),
-            ("xs4_y", ""),
+            ("xs12_256o8a6", "still life of 12 cells"),
+            ("xs4_y", "still life of 4 cells"),
+            ("xp3_y", "oscillator of period 3"),
+            ("xq7_y", "spaceship of period 7"),
+            ("yl144_1", ""),
         ):
-            self.assertEqual(find_label(code, parts(code)), label)
+            self.assertEqual(find_label(code, parts(code), "b3s23"), label)
 
     def test_words(self) -> None:
         """Oscillators come first and still lifes last. Among parts of a kind, those with the lower

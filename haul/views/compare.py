@@ -201,16 +201,19 @@ class Comparison:
         return find_occurrence_of_counted(code)
 
     def label(self, code: str) -> str:
-        return find_label(code, self.separate(code))
+        objects = self.first_with(code)
+        return find_label(code, objects.separate(code), objects.haul.job.rule)
 
     def separate(self, code: str) -> Separation:
         """Returns the parts of an object under the rule of the first haul that has the object."""
-        objects = next(
+        return self.first_with(code).separate(code)
+
+    def first_with(self, code: str) -> Objects:
+        return next(
             objects
             for objects, haul in zip(self.objects, self.hauls, strict=True)
             if code in haul.totals
         )
-        return objects.separate(code)
 
     def arranged(self, shown: list[list[str]]) -> Iterable[str]:
         """Arranges the values of all hauls in columns: haul by haul if there are intervals,

@@ -6,9 +6,11 @@ from __future__ import annotations
 from collections import Counter
 from collections.abc import Iterator
 
+from haul.known.lookup import load_known
 from haul.life.parts import Separator
 from haul.names.labels import NOT_SEPARATED, describe_parts
 from haul.names.objects import find_name
+from haul.patterns.rules import LIFE
 from haul.plurals import pluralize
 from haul.rarity.code_faults import find_code_fault
 from haul.rarity.counted import find_occurrence_of_counted
@@ -33,7 +35,7 @@ def describe_rarity(separator: Separator, code: str) -> Iterator[str]:
         unsure = "" if separation.is_separated else f", {NOT_SEPARATED}"
         yield f"{name_object(code)}{unsure}: {describe_part(code)}"
         return
-    yield f"{name_object(code)}: a pseudo-object, made of {describe_parts(separation.parts)}"
+    yield f"{name_object(code)}: a pseudo-object, made of {describe_parts(separation.parts, LIFE)}"
     for part in Counter(separation.parts):
         yield f"  {name_object(part)}: {describe_part(part)}"
 
@@ -44,7 +46,13 @@ def name_object(code: str) -> str:
 
 
 def describe_part(code: str) -> str:
-    """Returns a text that says how often a part occurs in the reference, with the 95 % interval."""
+    """Returns a text that says how often a part occurs in the reference, with the 95 % interval,
+    and, if the user has added lists of known codes, whether they have it."""
+    known = load_known(LIFE)
+    return describe_part_alone(code) + (f"; {known.describe(code)}" if known else "")
+
+
+def describe_part_alone(code: str) -> str:
     occurrence, entry = find_occurrence_of_counted(code), load_reference().get(code, NONE)
     if occurrence is None:
         return NOT_COUNTED

@@ -3,13 +3,16 @@
 from __future__ import annotations
 
 from collections.abc import Iterator
-from dataclasses import dataclass
+from dataclasses import dataclass, field
 
 from haul.formats.haul import Haul
 from haul.hauls.by_parts import Objects
+from haul.known.lookup import describe_known, load_known
+from haul.known.wanted import Want, is_wanted
 from haul.life.parts import Separation
 from haul.names.labels import find_label, mark_label
 from haul.patterns.codes import read_kind
+from haul.patterns.rules import LIFE
 from haul.rarity.counted import find_occurrence_of_counted
 from haul.rarity.occurrence import Occurrence
 from haul.views.haul_facts import list_haul_facts, list_part_facts
@@ -48,9 +51,12 @@ class TableRow:
     # `census` doesn't count such objects.
     has_rarity: bool = False
     occurrence: Occurrence | None = None
+    # The rule of the haul, and what the user's lists of known codes say, or `None` without lists.
+    rule: str = LIFE
+    known: str | None = None
 
     def label(self) -> str:
-        return find_label(self.code, self.separation)
+        return find_label(self.code, self.separation, self.rule)
 
     def words(self) -> list[str]:
         samples = ",".join(map(str, self.samples))
@@ -61,9 +67,18 @@ class TableRow:
             str(self.total),
             format_figure(self.per_million),
             *self.rarity_words(),
+            *self.known_words(),
             samples,
             label,
         ]
+
+    def known_words(self) -> list[str]:
+        """Returns the column `known` if there is one, as a single word: the first number of what
+        the lists say, or `none`."""
+        if self.known is None:
+            return []
+        first = self.known.split()[0]
+        return ["none" if first == "not" else first if first.isdecimal() else "yes"]
 
     def rarity_words(self) -> list[str]:
         if not self.has_rarity:
@@ -82,6 +97,7 @@ class TableRow:
                 if self.has_rarity
                 else [str(self.one_in_at_most)]
             ),
+            *([] if self.known is None else [self.known]),
             samples,
             self.label(),
         ]
@@ -105,6 +121,7 @@ class TableRow:
                 if self.has_rarity
                 else {"one_in_at_most": self.one_in_at_most}
             ),
+            **({} if self.known is None else {"known": self.known}),
             "samples": self.samples,
             "label": self.label() or None,
             "parts": list(self.separation.parts),
@@ -125,9 +142,13 @@ class RowChoice:
     strict: bool = False
     rare: bool = False
     top: int | None = None
+    # What an object has to be one of, or nothing.
+    wants: list[Want] = field(default_factory=list)
 
-    def has(self, code: str) -> bool:
-        """Checks whether a code has a chosen kind and period."""
+    def has(self, code: str, rule: str) -> bool:
+        """Checks whether an object is wanted, and has a chosen kind and period."""
+        if self.wants and not is_wanted(self.wants, code, rule):
+            return False
         known = read_kind(code)
         if known is None:
             return self.kind is None and self.period is None
@@ -143,7 +164,7 @@ def choose_rows(
     rank of each row is its rank among all rows. If `has_rarity` is set, each row has its rarity in
     the reference."""
     codes = sorted(haul.totals, key=lambda code: (-haul.totals[code], code))
-    ranks = [(rank, code) for rank, code in enumerate(codes, 1) if choice.has(code)]
+    ranks = [(rank, code) for rank, code in enumerate(codes, 1) if choice.has(code, haul.job.rule)]
     if choice.strict:
         separations = objects.separate_all(code for _, code in ranks)
         ranks = [
@@ -154,8 +175,11 @@ def choose_rows(
     shown = (ranks[::-1] if choice.rare else ranks)[: choice.top]
     separations = objects.separate_all(code for _, code in shown)
     rows = [make_row(haul, rank, code, separations[code]) for rank, code in shown]
-    if has_rarity:
-        for row in rows:
+    known = load_known(haul.job.rule)
+    for row in rows:
+        row.rule = haul.job.rule
+        row.known = None if known is None else describe_known(known, row.separation.parts)
+        if has_rarity:
             row.has_rarity, row.occurrence = True, find_occurrence_of_counted(row.code)
     return rows
 
@@ -173,21 +197,22 @@ def make_row(haul: Haul, rank: int, code: str, separation: Separation) -> TableR
     )
 
 
-def list_heads(has_rarity: bool) -> list[str]:
-    return [*BEFORE_RARITY, *(RARITY_HEADS if has_rarity else AT_MOST), *AFTER_RARITY]
+def list_heads(lines: list[TableRow], has_rarity: bool) -> list[str]:
+    known = ["known"] if any(line.known is not None for line in lines) else []
+    return [*BEFORE_RARITY, *(RARITY_HEADS if has_rarity else AT_MOST), *known, *AFTER_RARITY]
 
 
 def format_table_text(lines: list[TableRow], has_rarity: bool, width: int | None) -> Iterator[str]:
     """Yields the lines for a reader. Each value is a single word, except for the label in the last
     column. Only the samples may be empty, in a haul of apgsearch."""
-    heads = list_heads(has_rarity)
+    heads = list_heads(lines, has_rarity)
     texts = {CODE, *(heads.index(head) for head in AFTER_RARITY)}
     return align_columns([heads] + [line.words() for line in lines], texts, CODE, width)
 
 
 def format_table_csv(lines: list[TableRow], has_rarity: bool, by_parts: bool) -> Iterator[str]:
     return format_csv(
-        [list_heads(has_rarity) + MORE_HEADS] + [line.csv_row(by_parts) for line in lines]
+        [list_heads(lines, has_rarity) + MORE_HEADS] + [line.csv_row(by_parts) for line in lines]
     )
 
 

@@ -2,11 +2,13 @@
 
 from __future__ import annotations
 
+from dataclasses import replace
+
 from haul.census.command_lines import NUMBERS_IN_A_CALL
 from haul.cli import commands
 from haul.cli.arguments import Argument, Command, option
 from haul.cli.faults import find_fault_of_search
-from haul.cli.shared_options import CENSUS, WORKERS, list_profile_options
+from haul.cli.shared_options import CENSUS, NO_DATA, WANT, WORKERS, list_profile_options
 from haul.cli.values import (
     read_as_census,
     read_count,
@@ -30,7 +32,7 @@ SEARCH = Command(
     "finishes the running batch, so nothing is lost. A second Ctrl-C drops it.\n\n"
     "A find is an object that is new in FILE and rare: under Life, fewer than one soup in a\n"
     "million of the reference census has it. Each find is printed as a line of six values with\n"
-    "tabs between them: the time, the code, the name or `-`, the soup, a command that shows what\n"
+    "tabs between them: the time, the code, the name or kind, the soup, a command that shows what\n"
     "the soup leaves, and how rare the object is. What the reference doesn't have begins with `!`\n"
     "on a terminal.\n\n"
     "examples:\n  haul search mine.haul\n  haul search --rule b36s23 --until 1000000 highlife.haul\n"
@@ -69,6 +71,7 @@ SEARCH = Command(
             "only under Life",
             read_within(1, REFERENCE_SOUPS),
         ),
+        replace(WANT, help=f"tell of these objects, and not of rare ones: {WANT.help}"),
         option(
             "--finds",
             "PROGRAM",
@@ -93,6 +96,7 @@ SEARCH = Command(
         ),
         *list_profile_options("begin FILE with this"),
         CENSUS,
+        NO_DATA,
         Argument("file", "the file that keeps the haul", "FILE", read_path),
     ),
     commands.run_search,

@@ -6,7 +6,7 @@ from haul.cli import commands
 from haul.cli.arguments import Argument, Command, Exclusive, flag, option
 from haul.cli.faults import find_fault_of_soups
 from haul.cli.pattern_commands import find_fault_of_soup, run_cells, run_rle, run_soup
-from haul.cli.shared_options import CENSUS, FORMS, PLANE, WORKERS
+from haul.cli.shared_options import CENSUS, FORMS, NO_DATA, PLANE, WORKERS
 from haul.cli.values import read_code, read_count, read_path, read_rule_value
 from haul.patterns.rules import LIFE
 
@@ -68,6 +68,7 @@ SOUPS = Command(
         FORMS,
         WORKERS,
         CENSUS,
+        NO_DATA,
         Argument("files", "the lines (default: standard input)", "file", repeats="*"),
     ),
     commands.run_soups,
@@ -80,7 +81,11 @@ CELLS = Command(
     "If the\nrule in the header isn't Life, the option that `census` needs is written to standard "
     "error.\nPlaintext passes through without its comments.\n\n"
     "example:\n  haul cells gun.rle | census run 30",
-    (PLANE, Argument("file", "the pattern (default: standard input)", repeats="?")),
+    (
+        PLANE,
+        NO_DATA,
+        Argument("file", "the pattern, or its name or code (default: standard input)", repeats="?"),
+    ),
     run_cells,
 )
 
@@ -98,7 +103,8 @@ RLE = Command(
             read_rule_value,
             LIFE,
         ),
-        Argument("file", "the pattern (default: standard input)", repeats="?"),
+        NO_DATA,
+        Argument("file", "the pattern, or its name or code (default: standard input)", repeats="?"),
     ),
     run_rle,
 )

@@ -2,10 +2,12 @@
 
 from __future__ import annotations
 
+from dataclasses import replace
+
 from haul.cli import commands
 from haul.cli.arguments import Argument, Command, Exclusive, flag, option
 from haul.cli.faults import find_fault_of_page
-from haul.cli.shared_options import CENSUS, FORMS, WORKERS
+from haul.cli.shared_options import CENSUS, FORMS, NO_DATA, WANT, WORKERS
 from haul.cli.values import read_count, read_kinds, read_object, read_path, read_periods
 from haul.page.sides import MOST_SIDES
 from haul.views.compare import MOST_HAULS
@@ -47,6 +49,7 @@ COMPARE = Command(
             )
         ),
         FORMS,
+        NO_DATA,
         Argument("a", "a haul (`-`: standard input)", "A"),
         Argument("b", "another haul (`-`: standard input)", "B"),
         Argument(
@@ -88,6 +91,7 @@ TABLE = Command(
             "period 1",
             read_periods,
         ),
+        replace(WANT, help=f"print only these objects: {WANT.help}"),
         Exclusive(
             (
                 flag(
@@ -100,6 +104,7 @@ TABLE = Command(
             )
         ),
         FORMS,
+        NO_DATA,
         Argument("file", "the haul (default: standard input)", repeats="?"),
     ),
     commands.run_table,
@@ -115,6 +120,7 @@ RARITY = Command(
     "them. No haul and no built\n`census` is needed.\n\n"
     "examples:\n  haul rarity loafer 'octagon 2' block\n  haul rarity xs8_rr",
     (
+        NO_DATA,
         Argument(
             "objects", "a code, or a name such as `loafer`", "NAME|CODE", read_object, repeats="+"
         ),
@@ -154,6 +160,7 @@ PAGE = Command(
         ),
         WORKERS,
         CENSUS,
+        NO_DATA,
         Argument(
             "files",
             "the hauls (default: standard input)",

@@ -67,9 +67,11 @@ const blockOf = (object, haul) => {
     element('div', { class: 'frame' }, picture),
     phases.length > 1 && phaseButtons());
   const facts = element('dl', { class: 'facts' },
+    object.also.length > 0 && factOf('other names', object.also.join(', ')),
     kindFacts(object, known),
     partsFact(object, haul),
     object.rarity.length > 0 && factOf('in the reference', rarityWords(object.rarity)),
+    object.known && factOf('known elsewhere', object.known),
     !isCompared && totalFacts(object, haul));
   return { large, facts, some: [haul] };
 };
@@ -138,7 +140,8 @@ const sectionOf = ({ large, facts, some }) => element('section', { class: 'phase
   columns(large, facts));
 
 /**
- * Makes two columns, if there is room. An object with one block has its picture at the left, and all else at the right.
+ * Makes two columns, if there is room: the picture at the left and the facts at the right. The sample soups, one of
+ * which may play, are below both, so that picture and facts stay side by side.
  * @type {(object: LifeObject) => any}
  */
 export const objectBody = object => {
@@ -146,6 +149,6 @@ export const objectBody = object => {
   const [first, ...others] = blocksOf(object);
   const contents = others.length
     ? [[first, ...others].map(sectionOf), columns([below, ratesOf(object)], sampleList(object))]
-    : columns([first.large, below], [first.facts, ratesOf(object), sampleList(object)]);
+    : [columns([first.large, below], [first.facts, ratesOf(object)]), sampleList(object)];
   return element('div', { class: 'body' }, contents);
 };

@@ -30,7 +30,9 @@
  * @property {{ objects: boolean, parts: boolean }} isLeftOut
  * @property {boolean} isStrict
  * @property {boolean} isUnsure whether it couldn't be separated
+ * @property {string[]} also its other names
  * @property {string[]} rarity what the reference says of it as a part
+ * @property {string} known what the lists of known codes say of it, or nothing
  * @property {string} text what a search finds
  */
 import { cellsOfCode, kindOf } from '../life/codes.js';
@@ -56,7 +58,7 @@ const countWay = (values, ends, stars) => {
 const isTooFew = ({ totals }) => !totals.some(total => BigInt(total) >= BigInt(data.least) && BigInt(total) > 0n);
 
 /** @type {(one: any) => LifeObject} */
-const readObject = ({ code, label, also = [], named, made, cells, rarity = [], ...counts }) => {
+const readObject = ({ code, label, also = [], named, made, cells, rarity = [], known = '', ...counts }) => {
   const kind = kindOf(code);
   const objects = countWay(counts.objects);
   const parts = countWay(counts.parts, counts.ends, counts.stars);
@@ -73,8 +75,10 @@ const readObject = ({ code, label, also = [], named, made, cells, rarity = [], .
     // An object is shown as strict if it is in one of the hauls, or if it couldn't be separated.
     isStrict: made.some(one => one === STRICT || one === NOT_SEPARATED),
     isUnsure: made.includes(NOT_SEPARATED),
+    also,
     rarity,
-    text: [code, label, ...also, kindWords(kind)].join(' ').toLowerCase(),
+    known,
+    text: [code, label, ...also, kindWords(kind), known].join(' ').toLowerCase(),
   };
 };
 

@@ -1,0 +1,1 @@
+"""Collections of patterns with names, as the user has at hand."""

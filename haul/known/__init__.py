@@ -1,0 +1,1 @@
+"""Lists of codes that others know, which the user has added."""
