@@ -246,7 +246,7 @@ class Finds(unittest.TestCase):
         )
 
     def test_what_is_remembered_is_bounded(self) -> None:
-        with patch("haul.search.finds.MOST_RUNS", 3):
+        with patch("haul.search.finds.MOST_KNOWN", 3):
             finder = Finder(LIFE, haul_of(LIFE), RARER)
             self.assertEqual(
                 len(
@@ -261,8 +261,7 @@ class Finds(unittest.TestCase):
                 ),
                 2,
             )
-            self.assertLessEqual(finder.separator.count_runs(), 5)
-            self.assertLessEqual(len(finder.separator.quickly_known), 5)
+            self.assertLessEqual(finder.separator.count_known(), 6)
 
 
 class Fields(Searches):
