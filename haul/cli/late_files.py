@@ -45,13 +45,15 @@ def warn_of_lost_lines(name: str | None, streams: Streams) -> None:
     line announces, or if it doesn't fit the haul beside it."""
     if name is None or not os.path.isfile(name) or not is_late_file(name):
         return
+    # A search that is running replaces FILE.late before FILE. So if FILE is read first, FILE.late
+    # covers at least as many soups.
+    haul = read_haul_beside(name)
     try:
         with open(name, "rb") as stream:
             late = read_late(stream)
     except BadLate as bad:
         why: str | None = str(bad)
     else:
-        haul = read_haul_beside(name)
         why = late.find_misfit(haul) if haul is not None else None
     if why is not None:
         streams.terminal.complain(f"{format_place(name)}{why}, so soups may be missing")

@@ -37,6 +37,7 @@ from haul.search.status_line import Status, StatusLine, format_duration, format_
 from haul.search.stopping import Stopping
 from haul.terminal import Terminal
 from haul.tests.called import CENSUS, HAUL, TOP, census, make_client
+from haul.tests.made import make_haul
 from haul.tests.searching import CLOCK, CLOCK_SOUP, Searches, make_search
 
 LIFE, OTHER_RULE, OTHER_PROFILE = (
@@ -51,13 +52,11 @@ BIPOLE, BLINKER, BLOCK, BI_BLOCK = "xp2_31ago", "xp2_7", "xs4_33", "xs8_rr"
 
 
 def haul_of(job: Job, *codes: str) -> Haul:
-    return Haul(
-        job,
-        ranges=[(0, 100)] if codes else [],
+    return make_haul(
+        {code: 1 for code in sorted(codes)},
+        [(0, 100)] if codes else [],
+        job=job,
         soups=100 if codes else 0,
-        unsettled=0,
-        for_good=0,
-        totals={code: 1 for code in sorted(codes)},
         samples={code: [0] for code in sorted(codes)},
     )
 
@@ -155,15 +154,7 @@ class Finds(unittest.TestCase):
             found(
                 Finder(
                     OTHER_PROFILE,
-                    Haul(
-                        OTHER_PROFILE,
-                        ranges=[(0, 9)],
-                        soups=9,
-                        unsettled=9,
-                        for_good=0,
-                        totals={},
-                        samples={},
-                    ),
+                    make_haul(ranges=[(0, 9)], job=OTHER_PROFILE, unsettled=9),
                     RARER,
                 ),
                 [(BIPOLE, 9)],
@@ -563,13 +554,10 @@ class StatusLines(Searches):
                 Stopping(),
                 sys.stdout,
             )
-            haul = Haul(
-                LIFE,
-                ranges=[(100, 30)],
-                soups=30,
-                unsettled=0,
-                for_good=0,
-                totals={BLINKER: 7, BLOCK: 1},
+            haul = make_haul(
+                {BLINKER: 7, BLOCK: 1},
+                [(100, 30)],
+                job=LIFE,
                 samples={BLINKER: [100], BLOCK: [101]},
             )
             search.add(Taken(haul, None))

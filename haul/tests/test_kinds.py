@@ -131,7 +131,7 @@ class Matrix(unittest.TestCase):
                     if kind in accepted:
                         self.assertIn(status, (0, 7), errors)
                     elif (*words, kind) in OTHER_REASONS:
-                        self.assertIn(OTHER_REASONS[*words, kind], errors)
+                        self.assertIn(OTHER_REASONS[(*words, kind)], errors)
                         self.assertIn(status, (2, 3))
                     else:
                         self.assertEqual((status, errors.count("\n")), (3, 1), errors)

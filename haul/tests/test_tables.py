@@ -18,13 +18,12 @@ from types import FrameType
 from typing import Any
 from unittest.mock import patch
 
-from haul.formats.haul import Haul, Job
-from haul.formats.profile import Profile
 from haul.rarity.reference import find_dispersion
 from haul.statistics.equal_rates import compute_p_value
 from haul.statistics.incomplete_functions import compute_gamma_tail
 from haul.statistics.intervals import find_dispersed_interval, find_interval
 from haul.tests.called import call, read_terminal, run
+from haul.tests.made import QUICK_JOB, make_haul
 from haul.views.compare import letter_hauls
 from haul.views.layout import format_figure
 from haul.views.rates import compute_rate
@@ -772,15 +771,7 @@ in A alone: xq4_153 xs8_rr; in B alone: xp15_4r4z4r4
 
     def test_none_vanishes(self) -> None:
         """Sixteen hauls have sixteen letters. There is no letter for a seventeenth haul."""
-        none = Haul(
-            Job("", "b3s23", Profile(1, 1, 1, 0)),
-            ranges=[],
-            soups=0,
-            unsettled=0,
-            for_good=0,
-            totals={},
-            samples={},
-        )
+        none = make_haul(ranges=[], job=QUICK_JOB)
         self.assertEqual(
             "".join(letter for letter, _ in letter_hauls([none] * 16)), "ABCDEFGHIJKLMNOP"
         )
