@@ -14,6 +14,8 @@ from haul.formats.late_file import BadLate, Late, is_late_file, read_late
 from haul.formats.recognition import describe_other_form
 
 SUFFIX = ".late"
+# What can be done if a page can't show the file.
+INSTEAD = "; leave out --lives, or restore the file"
 
 
 def read_late_soups(name: str, streams: Streams, haul: Haul) -> Late:
@@ -25,17 +27,18 @@ def read_late_soups(name: str, streams: Streams, haul: Haul) -> Late:
             first = stream.readline()
             late = read_late(chain([first] if first else [], stream))
     except BadLate as bad:
-        raise Refused(f"{format_place(name)}{bad}{describe_other_form(first, 'late')}") from None
+        other = describe_other_form(first, "late") or INSTEAD
+        raise Refused(f"{format_place(name)}{bad}{other}") from None
     if late.job not in (None, haul.job):
-        raise Refused(f"{format_place(name)}other job")
+        raise Refused(f"{format_place(name)}of a census with another seed, rule or profile")
     late = late.choose(haul.ranges, late.generation)
     lost = late.find_lost_unsettled(haul)
     if lost is not None:
-        raise Refused(f"{format_place(name)}{lost}")
+        raise Refused(f"{format_place(name)}{lost}{INSTEAD}")
     uncovered = late.count_uncovered(haul)
     if uncovered:
         streams.terminal.complain(
-            f"{format_place(name)}covers {haul.size() - uncovered} of the {haul.size()} soups"
+            f"{format_place(name)}covers only {haul.size() - uncovered} of the {haul.size()} soups"
         )
     return late
 

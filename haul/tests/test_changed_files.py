@@ -167,7 +167,8 @@ class ReadLate(Searches):
             self.complaint("soups", "mine.haul.late"), (0, f"{lost}, so soups may be missing\n")
         )
         self.assertEqual(
-            self.complaint("page", "--lives", "mine.haul.late", "mine.haul"), (3, f"{lost}\n")
+            self.complaint("page", "--lives", "mine.haul.late", "mine.haul"),
+            (3, f"{lost}; leave out --lives, or restore the file\n"),
         )
 
     def test_an_old_copy(self) -> None:
@@ -183,7 +184,7 @@ class ReadLate(Searches):
         )
         self.assertEqual(
             self.complaint("page", "--lives", "mine.haul.late", "mine.haul"),
-            (0, "haul: mine.haul.late: covers 40 of the 60 soups\n"),
+            (0, "haul: mine.haul.late: covers only 40 of the 60 soups\n"),
         )
 
     def test_nothing_is_wrong(self) -> None:

@@ -62,7 +62,6 @@ OTHER_REASONS = {
     ("check", "--samples", "@", "index"): "--samples needs hauls",
     ("table", "--strict", "@", "apgsearch"): "the totals of apgsearch are by parts already",
     ("index", "@", "apgsearch"): "a haul of apgsearch, which doesn't name its soups",
-    ("search", "--until=0", "@", "folder"): "folder: not a regular file",
 }
 # These commands read hauls, so for them several hauls are too many.
 READ_HAULS = ("search", "check", "index", "compare", "table")

@@ -216,8 +216,9 @@ class Refusals(Searches):
 
     def test_no_regular_file(self) -> None:
         os.mkfifo(self.folder / "pipe")
-        for name in ("/dev/null", "pipe", "."):
+        for name in ("/dev/null", "pipe"):
             self.refused(3, f"{name}: not a regular file", file=name)
+        self.refused(3, ".: this is a folder; give the name of a file in it", file=".")
         self.assert_left("pipe")
         self.refused(5, "none/mine.haul.lock: No such file or directory", file="none/mine.haul")
         self.assertFalse(os.path.exists("/dev/null.lock"))
