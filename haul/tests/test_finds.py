@@ -18,10 +18,11 @@ from struct import pack
 from termios import TIOCSWINSZ
 from unittest.mock import Mock, patch
 
-from haul.census.background import FIND, StreamWaiter
+from haul.census.background import StreamWaiter
+from haul.census.children import list_starter_words
 from haul.census.client import Census
 from haul.census.command_lines import format_find_command
-from haul.census.starters import list_starter_words
+from haul.census.launcher import FIND
 from haul.formats.haul import Haul, Job
 from haul.formats.haul_reader import read_one_haul
 from haul.formats.profile import STANDARD, Profile

@@ -18,7 +18,7 @@ from unittest.mock import patch
 
 from haul.census.background import BackgroundProgram, BackgroundTake, StreamWaiter
 from haul.census.client import count_processors
-from haul.census.starters import LAUNCH_CENSUS
+from haul.census.launcher import CENSUS as LAUNCH_CENSUS
 from haul.cli.parser import parse_arguments
 from haul.formats.haul import NUMBER_LIMIT, Haul
 from haul.formats.haul_reader import read_one_haul
