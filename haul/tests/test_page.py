@@ -6,6 +6,7 @@ from __future__ import annotations
 import base64
 import hashlib
 import io
+import json
 import re
 import subprocess
 import tempfile
@@ -265,107 +266,25 @@ class Rows(unittest.TestCase):
         """The table counts parts, so an object of two blinkers counts as two blinkers. The profile
         of the haul isn't that of the reference, so the table has no rarity from the reference."""
         haul = make_haul(
-            {
-                "xs4_33": 1200,
-                "xp15_4r4z4r4": 40,
-                "xq4_153": 3,
-                "xp2_1110s": 1,
-                "ov_p123": 1,
-                "ov_s4000": 1,
-                "zz_1": 1,
-            },
+            {"xs4_33": 1200, "xp15_4r4z4r4": 40, "xq4_153": 3}
+            | dict.fromkeys(("xp2_1110s", "ov_p123", "ov_s4000", "zz_1"), 1),
             [(5, 7)],
             Profile(64, 512, 101, 20200),
-            samples={
-                "xs4_33": [5, 6, 11],
-                "xp15_4r4z4r4": [7],
-                "xq4_153": [8],
-                "xp2_1110s": [9],
-                "ov_p123": [10],
-                "ov_s4000": [10],
-                "zz_1": [11],
-            },
+            samples={"xs4_33": [5, 6, 11], "xp15_4r4z4r4": [7], "xq4_153": [8]}
+            | {"xp2_1110s": [9], "ov_p123": [10], "ov_s4000": [10], "zz_1": [11]},
         )
         table = table_of(page(haul, 0))
         self.assertEqual(
-            table.heads,
-            [
-                "Picture",
-                "Name and code",
-                "What it is",
-                "Cells",
-                "Total",
-                "How often",
-                "Sample soups",
-            ],
-        )
-        self.assertEqual(
-            [row.cells for row in table.rows],
-            [
-                [
-                    "block: 2 by 2, 4 cells",
-                    "block xs4_33",
-                    "still life",
-                    "4",
-                    "1,200",
-                    "171 per soup",
-                    "5 6 11",
-                ],
-                [
-                    "pentadecathlon: 3 by 10, 12 cells",
-                    "pentadecathlon xp15_4r4z4r4",
-                    "oscillator of period 15",
-                    "12",
-                    "40",
-                    "5.71 per soup",
-                    "7",
-                ],
-                [
-                    "glider: 3 by 3, 5 cells",
-                    "glider xq4_153",
-                    "spaceship of period 4",
-                    "5",
-                    "3",
-                    "≤ 1 in 2 soups",
-                    "8",
-                ],
-                [
-                    "blinker: 1 by 3, 3 cells",
-                    "blinker xp2_7",
-                    "oscillator of period 2",
-                    "3",
-                    "2",
-                    "≤ 1 in 3 soups",
-                    "9",
-                ],
-                [
-                    "too large to draw",
-                    "not separated ov_p123",
-                    "oscillator of period 123",
-                    "",
-                    "1",
-                    "≤ 1 in 7 soups",
-                    "10",
-                ],
-                [
-                    "too large to draw",
-                    "not separated ov_s4000",
-                    "still life",
-                    "4000",
-                    "1",
-                    "≤ 1 in 7 soups",
-                    "10",
-                ],
-                [
-                    "can't be drawn",
-                    "not separated zz_1",
-                    "an object",
-                    "",
-                    "1",
-                    "≤ 1 in 7 soups",
-                    "11",
-                ],
-            ],
+            [" | ".join(cells) for cells in (table.heads, *(row.cells for row in table.rows))],
+            """\
+Picture | Name and code | What it is | Cells | Total | How often | Sample soups
+block: 2 by 2, 4 cells | block xs4_33 | still life | 4 | 1,200 | 171 per soup | 5 6 11
+pentadecathlon: 3 by 10, 12 cells | pentadecathlon xp15_4r4z4r4 | oscillator of period 15 | 12 | 40 | 5.71 per soup | 7
+glider: 3 by 3, 5 cells | glider xq4_153 | spaceship of period 4 | 5 | 3 | ≤ 1 in 2 soups | 8
+blinker: 1 by 3, 3 cells | blinker xp2_7 | oscillator of period 2 | 3 | 2 | ≤ 1 in 3 soups | 9
+too large to draw | not separated ov_p123 | oscillator of period 123 |  | 1 | ≤ 1 in 7 soups | 10
+too large to draw | not separated ov_s4000 | still life | 4000 | 1 | ≤ 1 in 7 soups | 10
+can't be drawn | not separated zz_1 | an object |  | 1 | ≤ 1 in 7 soups | 11""".splitlines(),
         )
         self.assertEqual(
             table.rows[0].links,
@@ -460,64 +379,22 @@ class Data(unittest.TestCase):
     def test_each_object(self) -> None:
         """There are 14 blinkers, all of them parts of larger objects; 3 + 2 + 2 blocks; and 3
         beehives."""
+        objects = map(without_rates, data_of(page(self.HAUL, 0))["objects"])
         self.assertEqual(
-            list(map(without_rates, data_of(page(self.HAUL, 0))["objects"])),
-            [
-                {
-                    "code": "xp2_1110s",
-                    "label": "2 blinkers",
-                    "made": [["xp2_7", "xp2_7"]],
-                    "objects": [[7, 4, 5]],
-                    "cells": 6,
-                },
-                {
-                    "code": "xs10_25520oo",
-                    "label": "block and beehive",
-                    "made": [["xs4_33", "xs6_696"]],
-                    "objects": [[3, 1, 8]],
-                    "cells": 10,
-                },
-                {
-                    "code": "xs4_33",
-                    "label": "block",
-                    "named": 1,
-                    "made": ["strict"],
-                    "objects": [[2, 2]],
-                    "parts": [[7, 1, 2, 7]],
-                    "cells": 4,
-                },
-                {
-                    "code": "ov_p3",
-                    "label": "",
-                    "made": ["not separated"],
-                    "objects": [[1, 0]],
-                    "parts": [[1, 0]],
-                },
-                {
-                    "code": "xs8_rr",
-                    "label": "bi-block",
-                    "named": 1,
-                    "made": [["xs4_33", "xs4_33"]],
-                    "objects": [[1, 7]],
-                    "cells": 8,
-                },
-                {
-                    "code": "xp2_7",
-                    "label": "blinker",
-                    "named": 1,
-                    "made": ["strict"],
-                    "parts": [[14, 4, 5]],
-                    "cells": 3,
-                },
-                {
-                    "code": "xs6_696",
-                    "label": "beehive",
-                    "named": 1,
-                    "made": ["strict"],
-                    "parts": [[3, 1, 8]],
-                    "cells": 6,
-                },
-            ],
+            list(objects),
+            list(
+                map(
+                    json.loads,
+                    """\
+{"code": "xp2_1110s", "label": "2 blinkers", "made": [["xp2_7", "xp2_7"]], "objects": [[7, 4, 5]], "cells": 6}
+{"code": "xs10_25520oo", "label": "block and beehive", "made": [["xs4_33", "xs6_696"]], "objects": [[3, 1, 8]], "cells": 10}
+{"code": "xs4_33", "label": "block", "named": 1, "made": ["strict"], "objects": [[2, 2]], "parts": [[7, 1, 2, 7]], "cells": 4}
+{"code": "ov_p3", "label": "", "made": ["not separated"], "objects": [[1, 0]], "parts": [[1, 0]]}
+{"code": "xs8_rr", "label": "bi-block", "named": 1, "made": [["xs4_33", "xs4_33"]], "objects": [[1, 7]], "cells": 8}
+{"code": "xp2_7", "label": "blinker", "named": 1, "made": ["strict"], "parts": [[14, 4, 5]], "cells": 3}
+{"code": "xs6_696", "label": "beehive", "named": 1, "made": ["strict"], "parts": [[3, 1, 8]], "cells": 6}""".splitlines(),
+                )
+            ),
         )
 
     def test_the_haul(self) -> None:
@@ -712,36 +589,15 @@ class Comparing(unittest.TestCase):
             '<tr><th scope="row">(.*?)</th>(.*?)</tr>',
             before_table(compared(self.LIFE, self.OTHER)),
         )
+        seed = '<code class="seed">{}</code>'
         self.assertEqual(
             [
                 [re.sub("<.*?>", "", head), *re.findall("<td>(.*?)</td>", cells)]
                 for head, cells in rows
             ],
             [
-                [
-                    "A B3/S23",
-                    "100",
-                    "1,014",
-                    "10.14",
-                    "3",
-                    "3",
-                    "0",
-                    "0",
-                    '<code class="seed">a</code>',
-                    "0 to 99",
-                ],
-                [
-                    "B B/S123",
-                    "50",
-                    "9",
-                    "0.18",
-                    "2",
-                    "1",
-                    "3",
-                    "4",
-                    '<code class="seed">b</code>',
-                    "7 to 56",
-                ],
+                ["A B3/S23", *"100 1,014 10.14 3 3 0 0".split(), seed.format("a"), "0 to 99"],
+                ["B B/S123", *"50 9 0.18 2 1 3 4".split(), seed.format("b"), "7 to 56"],
             ],
         )
 

@@ -47,14 +47,7 @@ class Soups(Searches):
         self.assertEqual(self.search("--seed", "", "--first", "7", "--until", "30"), (0, "", ""))
         self.assertEqual(self.file.read_bytes(), census("take", "--first", "7", "--count", "30"))
         self.file.unlink()
-        words = [
-            "--seed=-a",
-            "--rule=b36s23",
-            "--period=3",
-            "--horizon=20",
-            "--stride=50",
-            "--limit=500",
-        ]
+        words = "--seed=-a --rule=b36s23 --period=3 --horizon=20 --stride=50 --limit=500".split()
         self.assertEqual(
             self.search(*words, "--until", "30", "--batch", "11", "--workers", "2")[0], 0
         )
