@@ -14,11 +14,9 @@ from typing import IO
 
 from haul.census.children import children, kill_apart, measure_session
 from haul.census.client import FAILED, Ended, check_ending
-from haul.census.starters import LAUNCH_CENSUS
+from haul.census.launcher import CENSUS
 from haul.formats.report_lines import LINE_LIMIT
 
-# The mode of `launcher.py` that runs the program of `haul search --finds`.
-FIND = "find"
 BYTES_AT_A_TIME = 65_536
 # A program may print at most `MOST_PRINTED` bytes, and `BYTES_OF_A_SOUP` more for each soup that it
 # takes. It may write at most `MOST_COMPLAINED` bytes to standard error, apart from progress lines
@@ -69,7 +67,7 @@ class BackgroundProgram:
     def __init__(
         self, waiter: StreamWaiter, how: str, words: list[str], stderr: int | None
     ) -> None:
-        """Starts a program with `launcher.py`, in the mode `how`: `LAUNCH_CENSUS` or `FIND`. Raises
+        """Starts a program with `launcher.py`, in the mode `how`: `CENSUS` or `FIND`. Raises
         `OSError` if `launcher.py` can't be started."""
         self.waiter = waiter
         self.process = children.start(words, subprocess.PIPE, stderr, how=how)
@@ -163,7 +161,7 @@ class BackgroundTake(BackgroundProgram):
         self.reported_bytes = 0
         # The number of soups run so far, according to the latest progress line.
         self.latest = 0
-        super().__init__(waiter, LAUNCH_CENSUS, words, subprocess.PIPE)
+        super().__init__(waiter, CENSUS, words, subprocess.PIPE)
 
     def refuse_floods(self) -> None:
         # Progress lines and report lines don't count as complaints, but there may be too many

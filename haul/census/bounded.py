@@ -30,6 +30,9 @@ NO_MEMORY = 4
 # The number of bytes that are read at a time.
 BYTES_AT_A_TIME = 2**16
 
+# The beginning of the reason if the time is up.
+NO_ANSWER_IN = "no answer in "
+
 Result = TypeVar("Result")
 
 
@@ -60,7 +63,7 @@ class Bounds:
         return left
 
     def late(self) -> Undecided:
-        return Undecided(f"no answer in {write_count(self.seconds, 'second')}")
+        return Undecided(f"{NO_ANSWER_IN}{write_count(self.seconds, 'second')}")
 
     def work(self, work: Callable[[], Result]) -> Result:
         """Does work in a process of its own, and returns the result. Raises `Undecided` if it takes

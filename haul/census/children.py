@@ -6,12 +6,15 @@ from __future__ import annotations
 import os
 import signal
 import subprocess
+import sys
 import threading
 from collections.abc import Callable, Iterator
 from contextlib import contextmanager, suppress
+from functools import cache
+from importlib.resources import files
 from typing import Protocol, TypeVar
 
-from haul.census.starters import LAUNCH_CENSUS, list_starter_words
+from haul.census.launcher import CENSUS
 
 # How many seconds `launcher.py` has after SIGTERM to kill its program and everything that the
 # program has started. Then `launcher.py` itself is killed.
@@ -23,6 +26,22 @@ BYTES_OF_A_PIPE = 65_536
 class NoThread(Exception):
     """Raised if a thread can't be started, because there is no memory for it or the system has
     reached its limit."""
+
+
+@cache
+def read_launcher() -> str:
+    """Returns the text of `launcher.py`. It is read only once, since an installed `haul` is a
+    single file, which may be replaced while this process runs."""
+    return files("haul.census").joinpath("launcher.py").read_text("utf-8")
+
+
+def list_starter_words(how: str, most_memory: int | None = None) -> list[str]:
+    """Returns the words with which the command line of `launcher.py` begins. The words of the
+    program to start must follow. The program gets at most `most_memory` bytes of memory, or any
+    number if that is `None`."""
+    # Without a PATH, `sys.executable` may be empty.
+    python = sys.executable or os.readlink("/proc/self/exe")
+    return [python, "-I", "-S", "-c", read_launcher(), how, str(os.getpid()), str(most_memory or 0)]
 
 
 def start_thread(thread: threading.Thread) -> None:
@@ -72,7 +91,7 @@ class Children:
         stdout: int,
         stderr: int | None,
         stdin: int = subprocess.DEVNULL,
-        how: str = LAUNCH_CENSUS,
+        how: str = CENSUS,
         most_memory: int | None = None,
     ) -> subprocess.Popen[bytes]:
         """Starts a program with `launcher.py`, in the mode `how`. The launcher runs it in a session

@@ -41,6 +41,8 @@ NOT_THERE = (
 )
 USAGE, FAILED = 2, 5
 DONE = "done"
+# The values of HOW.
+CENSUS, FIND = "census", "find"
 
 
 def drop_interrupts() -> None:
@@ -211,5 +213,5 @@ def how_ended(status: int) -> str:
 
 if __name__ == "__main__":
     drop_interrupts()
-    run = run_find if sys.argv[1] == "find" else run_census
+    run = run_find if sys.argv[1] == FIND else run_census
     run(int(sys.argv[2]), int(sys.argv[3]), sys.argv[4:])

@@ -171,7 +171,9 @@ def run_index_check(asked: argparse.Namespace, streams: Streams) -> int:
     pieces = list(index.pieces)
     if asked.random is not None:
         if asked.random > len(pieces):
-            streams.terminal.complain(f"--random {asked.random} is more than there are pieces")
+            streams.terminal.complain(
+                f"--random {asked.random} is more than the {write_count(len(pieces), 'piece')}"
+            )
             return USAGE
         choice = FileChoice(list(map(name_piece, pieces)), asked.random, asked.choice, "piece")
         streams.write_lines([choice.text()])
@@ -197,7 +199,9 @@ def compare_hauls(streams: Streams, index: Index, names: list[str]) -> Iterator[
     for name in names:
         haul = streams.read_haul(name)
         if haul.job != index.job or len(haul.ranges) != 1 or haul.ranges[0] not in index.pieces:
-            raise Refused(f"{format_place(name)}no piece of the index")
+            raise Refused(
+                f"{format_place(name)}its seed, rule, profile and soups are those of no piece"
+            )
         piece = haul.ranges[0]
         yield piece, compute_digest(haul) == index.pieces[piece]
 

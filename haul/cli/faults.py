@@ -6,6 +6,7 @@ import argparse
 
 from haul.formats.index import is_index
 from haul.formats.profile import STANDARD
+from haul.plurals import write_count
 
 
 def find_fault_of_search(asked: argparse.Namespace) -> str | None:
@@ -26,7 +27,7 @@ def find_fault_of_check(asked: argparse.Namespace) -> str | None:
     if asked.files and is_index(asked.files[0]):
         return find_fault_of_index_check(asked)
     if asked.random is not None and asked.random > len(asked.files):
-        return f"--random {asked.random} is more than there are files"
+        return f"--random {asked.random} is more than the {write_count(len(asked.files), 'file')}"
     return None
 
 

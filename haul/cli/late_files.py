@@ -14,6 +14,8 @@ from haul.formats.late_file import BadLate, Late, is_late_file, read_late
 from haul.formats.recognition import describe_other_form
 
 SUFFIX = ".late"
+# What can be done if a page can't show the file.
+INSTEAD = "; leave out --lives, or restore the file"
 
 
 def read_late_soups(name: str, streams: Streams, haul: Haul) -> Late:
@@ -25,17 +27,18 @@ def read_late_soups(name: str, streams: Streams, haul: Haul) -> Late:
             first = stream.readline()
             late = read_late(chain([first] if first else [], stream))
     except BadLate as bad:
-        raise Refused(f"{format_place(name)}{bad}{describe_other_form(first, 'late')}") from None
+        other = describe_other_form(first, "late") or INSTEAD
+        raise Refused(f"{format_place(name)}{bad}{other}") from None
     if late.job not in (None, haul.job):
-        raise Refused(f"{format_place(name)}other job")
+        raise Refused(f"{format_place(name)}of a census with another seed, rule or profile")
     late = late.choose(haul.ranges, late.generation)
     lost = late.find_lost_unsettled(haul)
     if lost is not None:
-        raise Refused(f"{format_place(name)}{lost}")
+        raise Refused(f"{format_place(name)}{lost}{INSTEAD}")
     uncovered = late.count_uncovered(haul)
     if uncovered:
         streams.terminal.complain(
-            f"{format_place(name)}covers {haul.size() - uncovered} of the {haul.size()} soups"
+            f"{format_place(name)}covers only {haul.size() - uncovered} of the {haul.size()} soups"
         )
     return late
 
@@ -45,13 +48,15 @@ def warn_of_lost_lines(name: str | None, streams: Streams) -> None:
     line announces, or if it doesn't fit the haul beside it."""
     if name is None or not os.path.isfile(name) or not is_late_file(name):
         return
+    # A search that is running replaces FILE.late before FILE. So if FILE is read first, FILE.late
+    # covers at least as many soups.
+    haul = read_haul_beside(name)
     try:
         with open(name, "rb") as stream:
             late = read_late(stream)
     except BadLate as bad:
         why: str | None = str(bad)
     else:
-        haul = read_haul_beside(name)
         why = late.find_misfit(haul) if haul is not None else None
     if why is not None:
         streams.terminal.complain(f"{format_place(name)}{why}, so soups may be missing")

@@ -35,6 +35,7 @@ from haul.views.why import FateTable
 
 # The most soups of a file that are explained, unless `--most` is given.
 USUAL_MOST = 20
+MORE_TIME = "--soup-seconds N gives a soup or a pattern more time, and 0 any time"
 # The most seconds that a soup may get, which are a day.
 MOST_SECONDS = 86_400
 
@@ -52,6 +53,8 @@ def run_why(asked: argparse.Namespace, streams: Streams) -> int:
     except TooLate as why:
         raise Refused(str(why)) from None
     streams.write_lines(table.csv() if asked.csv else table.json() if asked.json else table.text())
+    if any(fate.is_late() for _, fate in table.fates):
+        streams.terminal.complain(MORE_TIME)
     return DONE
 
 

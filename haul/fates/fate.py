@@ -6,6 +6,7 @@ from collections import Counter
 from dataclasses import dataclass
 from enum import Enum
 
+from haul.census.bounded import NO_ANSWER_IN
 from haul.fates.growth import GENERATIONS, MOST_CYCLE, Growth
 from haul.fates.rest import InPieces, Rest
 from haul.fates.sizes import MOST_GENERATIONS, Size
@@ -36,6 +37,10 @@ class Fate:
 
     kind: Kind
     why: str
+
+    def is_late(self) -> bool:
+        """Checks whether the fate isn't known because the time was up."""
+        return self.kind is Kind.UNDECIDED and self.why.startswith(NO_ANSWER_IN)
 
     def text(self) -> str:
         """Returns the fate as printed, such as `settled 1818` or

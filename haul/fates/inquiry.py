@@ -4,7 +4,7 @@ from __future__ import annotations
 
 import re
 from dataclasses import dataclass
-from functools import partial
+from functools import cached_property, partial
 
 from haul.census.bounded import BoundedCensus
 from haul.census.children import NoCensus
@@ -18,9 +18,9 @@ from haul.fates.fate import (
     tell_rest,
     tell_settled,
 )
-from haul.fates.growth import find_cycle_of_sizes, is_growing, name_engine
+from haul.fates.growth import Growth, find_cycle_of_sizes, is_growing, name_engine
 from haul.fates.rest import LONG_PERIOD, Rest, look_for_rest, look_longer_for_rest
-from haul.fates.sizes import Sizes
+from haul.fates.sizes import Size, Sizes
 from haul.formats.haul import Job
 from haul.life.field import pack
 from haul.life.generations import read_rule
@@ -45,24 +45,35 @@ class Inquiry:
         settled = self.find_checkpoint()
         if settled is not None:
             return tell_settled(settled)
-        first, *later = self.sizes().between(limit, limit + LONG_PERIOD)
-        periods = [period for period, size in enumerate(later, 1) if size == first]
+        first, *later = sizes = self.sizes().between(limit, limit + LONG_PERIOD)
         cells = self.list_cells(limit)
+        # The groups of a pattern that grows are many, and take long. Groups that recur don't grow.
+        if is_growing(count_all(sizes)) and self.growth and self.growth.cells > 0:
+            return tell_growth(self.growth, name_engine(self.growth, cells))
+        periods = [period for period, size in enumerate(later, 1) if size == first]
         rest = self.work(partial(look_for_rest, rule, cells, self.job.profile, periods))
         if rest is not None and rest.meeting is None:
             return tell_rest(rest, limit)
-        sizes = self.sizes().between(limit, limit + GENERATIONS_OF_SIZES)
-        populations = [size.cells for size in sizes]
-        growth = find_cycle_of_sizes(populations)
-        if growth is not None and growth.cells > 0:
-            return tell_growth(growth, name_engine(growth, cells))
-        if rest is None and growth is not None:
+        if self.growth and self.growth.cells > 0:
+            return tell_growth(self.growth, name_engine(self.growth, cells))
+        if rest is None and self.growth is not None:
             rest = self.work(partial(look_longer_for_rest, rule, cells, self.job.profile))
             if rest is not None and rest.meeting is None:
                 return tell_rest(rest, limit)
         if rest is not None and rest.meeting is not None:
             return tell_collision(limit + rest.meeting)
-        return tell_activity(first, limit, is_growing(populations))
+        return tell_activity(first, limit, is_growing(self.populations))
+
+    @cached_property
+    def populations(self) -> list[int]:
+        """The number of cells in each generation in which growth is looked for."""
+        limit = self.job.profile.limit
+        return count_all(self.sizes().between(limit, limit + GENERATIONS_OF_SIZES))
+
+    @cached_property
+    def growth(self) -> Growth | None:
+        """The linear growth of the pattern, which is 0 if its population recurs."""
+        return find_cycle_of_sizes(self.populations)
 
     def sizes(self) -> Sizes:
         return Sizes(self.census, self.job.rule, self.pattern)
@@ -94,3 +105,8 @@ class Inquiry:
                 raise NoCensus.at(self.census.census.path)
             cells.add(pack((int(found[1]), int(found[2]))))
         return cells
+
+
+def count_all(sizes: list[Size]) -> list[int]:
+    """Returns the numbers of cells."""
+    return [size.cells for size in sizes]

@@ -10,14 +10,19 @@ from __future__ import annotations
 
 from dataclasses import dataclass
 
+from haul.life import bitmaps, clusters, generations
 from haul.life.apgcodes import find_code, read_wechsler
-from haul.life.bitmaps import list_cells
-from haul.life.blocks import MOST_ISLANDS, Blocks, Run
-from haul.life.cells import Cells, move_to_corner
+from haul.life.cells import Cells, move, move_to_corner
 from haul.life.clusters import is_cluster
 from haul.life.generations import MOST_PERIOD, Recurrence, Rule, find_recurrence
-from haul.life.quick_parts import QuickSeparator
+from haul.life.quick_parts import run_quickly
+from haul.life.separations import Patterns, Separations
 from haul.patterns.codes import read_drawing, read_kind
+
+SETS = Patterns(
+    generations.advance, clusters.find_islands, clusters.is_cluster, generations.find_shift
+)
+BITS = Patterns(bitmaps.advance, bitmaps.find_islands, bitmaps.is_cluster, bitmaps.find_move)
 
 
 @dataclass(frozen=True)
@@ -39,63 +44,45 @@ class Separator:
 
     def __init__(self, rule: Rule) -> None:
         self.rule = rule
-        # The code of each known part. The key is the part's cells, moved to the corner.
-        self.known: dict[Cells, str] = {}
-        # The run of each known island. The key is the island's cells, moved to the corner. Many
-        # objects have the same islands.
-        self.runs: dict[Cells, Run] = {}
-        self.quick = QuickSeparator(rule)
-        # The codes of parts that `QuickSeparator` found, indexed by the bits of the part.
-        self.quickly_known: dict[int, str] = {}
+        # The code of each known part. The key is the part, moved to the corner, as a set of cells
+        # or as the bits of a number.
+        self.known: dict[Cells | int, str] = {}
 
-    def count_runs(self) -> int:
-        """Returns the number of remembered runs of islands."""
-        return len(self.runs) + len(self.quick.known)
+    def count_known(self) -> int:
+        """Returns the number of remembered parts."""
+        return len(self.known)
 
     def forget(self) -> None:
-        """Forgets all runs of islands, and all codes of parts."""
-        self.runs.clear()
+        """Forgets the codes of all parts."""
         self.known.clear()
-        self.quick.known.clear()
-        self.quickly_known.clear()
 
     def separate(self, code: str) -> Separation:
         return self.separate_quickly(code) or self.separate_by_definition(code)
 
     def separate_quickly(self, code: str) -> Separation | None:
-        """Returns the parts of an object, or `None` if `QuickSeparator` gives up on it."""
-        found = self.quick.separate(code)
-        return None if found is None else Separation(min(map(self.quick_codes, found)))
-
-    def quick_codes(self, parts: list[int]) -> tuple[str, ...]:
-        known = self.quickly_known
-        for part in parts:
-            if part not in known:
-                known[part] = self.code(list_cells(part))
-        return tuple(sorted([known[part] for part in parts]))
+        """Returns the parts of an object, or `None` if they can't be found with bits."""
+        run = run_quickly(self.rule, code)
+        found = Separations(BITS, self.rule, run).find_largest() if run is not None else None
+        if found is None:
+            return None
+        return choose([list(map(self.code_of_bits, parts)) for parts in found])
 
     def separate_by_definition(self, code: str) -> Separation:
         recurrence = read_object(self.rule, code)
         if recurrence is None:
             return Separation((code,), is_separated=False)
-        blocks = Blocks(self.rule, self.runs, recurrence)
-        parts = blocks.single_islands() or self.most_parts(blocks)
-        if parts is None:
+        phases = recurrence.phases
+        run = [*phases, move(phases[0], recurrence.shift)]
+        found = Separations(SETS, self.rule, run).find_largest()
+        if found is None:
             return Separation((code,), is_separated=False)
-        return Separation(self.codes(parts))
+        return choose([list(map(self.code, parts)) for parts in found])
 
-    def most_parts(self, blocks: Blocks) -> list[Cells] | None:
-        """Returns the parts of the separation with the most blocks, or `None` if there are too many
-        islands to try all separations. If several separations have the most blocks, the one whose
-        sorted codes come first in ASCII order is chosen."""
-        if len(blocks.islands) > MOST_ISLANDS:
-            return None
-        found = [*blocks.list_separations(), [blocks.object]]
-        most = max(map(len, found))
-        return min((parts for parts in found if len(parts) == most), key=self.codes)
-
-    def codes(self, parts: list[Cells]) -> tuple[str, ...]:
-        return tuple(sorted(map(self.code, parts)))
+    def code_of_bits(self, part: int) -> str:
+        shape = bitmaps.shift_to_corner(part)
+        if shape not in self.known:
+            self.known[shape] = self.code(bitmaps.list_cells(shape))
+        return self.known[shape]
 
     def code(self, part: Cells) -> str:
         shape = move_to_corner(part)
@@ -104,6 +91,11 @@ class Separator:
             assert recurrence is not None
             self.known[shape] = find_code(recurrence)
         return self.known[shape]
+
+
+def choose(found: list[list[str]]) -> Separation:
+    """Returns the separation whose sorted codes come first in ASCII order."""
+    return Separation(min(tuple(sorted(codes)) for codes in found))
 
 
 def is_counted(rule: Rule, code: str) -> bool:

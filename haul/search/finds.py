@@ -26,9 +26,9 @@ from haul.patterns.codes import Kind, read_kind
 from haul.patterns.rules import LIFE
 from haul.rarity.reference import SOUPS, find_occurrence, is_covered, load_reference
 
-# The separator remembers the islands that it has run. After this many islands, it forgets them and
-# the codes of parts to save memory, since a search may go on for weeks.
-MOST_RUNS = 20_000
+# The separator remembers the codes of parts. After this many parts, it forgets them to save memory,
+# since a search may go on for weeks.
+MOST_KNOWN = 20_000
 
 
 def format_time() -> str:
@@ -219,6 +219,6 @@ class Finder:
         return part in self.common
 
     def parts_of(self, code: str) -> tuple[str, ...]:
-        if self.separator.count_runs() > MOST_RUNS:
+        if self.separator.count_known() > MOST_KNOWN:
             self.separator.forget()
         return self.separator.separate(code).parts

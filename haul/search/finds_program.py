@@ -6,8 +6,8 @@ import time
 from collections import deque
 from collections.abc import Callable
 
-from haul.census.background import FIND, BackgroundProgram, StreamWaiter
-from haul.census.launcher import DONE
+from haul.census.background import BackgroundProgram, StreamWaiter
+from haul.census.launcher import DONE, FIND
 
 # A call that runs longer than this is killed.
 MOST_SECONDS = 60.0

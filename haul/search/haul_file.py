@@ -69,7 +69,10 @@ class HaulFile:
 
     def refuse_other_files(self) -> None:
         with suppress(FileNotFoundError):
-            if not stat.S_ISREG(os.stat(self.path).st_mode):
+            mode = os.stat(self.path).st_mode
+            if stat.S_ISDIR(mode):
+                raise CantUseFile(f"{self.name}: this is a folder; give the name of a file in it")
+            if not stat.S_ISREG(mode):
                 raise CantUseFile(f"{self.name}: not a regular file")
 
     def is_there(self) -> bool:

@@ -21,11 +21,11 @@ from typing import TextIO
 
 from haul.census.background import StreamWaiter
 from haul.census.client import FAILED, Census, Ended
-from haul.formats.haul import NUMBER_LIMIT
 from haul.hauls.join import Joining
 from haul.plurals import write_count
 from haul.search.batches import Batches, Plan, Taken
 from haul.search.finds import Finder, show_fields
+from haul.search.finds_file import FindsFile, NewOfBatch
 from haul.search.finds_program import FindsProgram
 from haul.search.haul_file import Beside, Displaced
 from haul.search.late_soups import list_late_finds
@@ -34,7 +34,6 @@ from haul.search.resume import SearchFiles
 from haul.search.stall import Stall
 from haul.search.status_line import Status, StatusLine, format_duration
 from haul.search.stopping import Stopping
-from haul.search.unreported import Unreported
 
 # At most a fiftieth of the running time is spent on writing the file. But if finished batches wait
 # to be written, the file is written at least every ten minutes.
@@ -46,12 +45,6 @@ SECONDS_AT_A_TIME, SECONDS_OF_FINDING = 0.5, 0.02
 LAST_SECONDS = 1.0
 # If finds are still being reported this long after the last batch, a line says so.
 SECONDS_WITHOUT_A_WORD = 5.0
-# The time between two removals of finds from FILE.finds.
-SECONDS_BETWEEN_FORGETTING = 1.0
-
-
-# The first soup of a batch, and the batch's new codes, each with its lowest soup.
-NewOfBatch = tuple[int, list[tuple[str, int]]]
 
 
 class Dropped(Exception):
@@ -88,13 +81,13 @@ class Search:
         self.calls = FindsProgram(self.waiter, plan.finds, self.terminal.complain)
         self.reporter = Reporter(output, self.terminal, self.calls, files.unreported.finds)
         self.reporter.show = self.calls.show = partial(show_fields, haul.job.rule)
+        self.finds_file = FindsFile(
+            files.finds_file, self.job, self.joining, self.finder, self.reporter
+        )
         self.line = StatusLine(self.terminal)
         self.stall = Stall(plan.soup_seconds)
         self.said_that_it_finishes = self.said_what_is_left = False
-        self.began = self.kept_at = self.forgot_at = time.monotonic()
-        # How many batches weren't examined, and how many finds weren't reported, when reported finds
-        # were last removed from FILE.finds.
-        self.left_in_file = 0, 0
+        self.began = self.kept_at = time.monotonic()
         # How long all writing together took, and how long the latest writing took, in seconds.
         self.writing = self.latest_writing = 0.0
 
@@ -103,7 +96,7 @@ class Search:
         Raises `Dropped` if a signal ends the search at once."""
         with ExitStack() as whatever_happens:
             # The last of these is done first, and each is done even if another one fails.
-            whatever_happens.callback(self.write_unreported)
+            whatever_happens.callback(self.finds_file.write)
             whatever_happens.callback(self.terminal.show_progress, "")
             whatever_happens.callback(self.report_rest)
             whatever_happens.callback(self.keep)
@@ -194,48 +187,8 @@ class Search:
         if self.late is not None:
             # Its first line says which soups it covers, so each batch changes it.
             beside.append(Beside(self.files.late_file, self.late.write, True))
-        unreported = self.list_unreported(self.unkept, self.unkept_late)
-        is_there = self.files.finds_file.known is not None
-        beside.append(
-            Beside(self.files.finds_file, unreported.write, is_there or not unreported.is_empty())
-        )
+        beside.append(self.finds_file.write_beside(self.unkept, self.unkept_late))
         self.haul_file.write(self.joining.result(), beside)
-
-    def list_unreported(self, batches: list[NewOfBatch], late: list[list[str]]) -> Unreported:
-        """Returns what the search hasn't reported yet, including these late soups and the possible
-        finds of these batches."""
-        since = [new.first for new in self.finder.queue]
-        told = batches[1:] if self.finder.is_silent else batches
-        since += [first for first, codes in told if codes]
-        return Unreported(
-            self.job,
-            self.joining.ranges,
-            min(since, default=NUMBER_LIMIT),
-            self.reporter.list_unreported() + late,
-        )
-
-    def forget_reported(self) -> None:
-        """Removes what has been reported from FILE.finds, so that little is reported twice if this
-        program is killed. Does this at most once per second, and again later if it fails."""
-        is_due = time.monotonic() - self.forgot_at >= SECONDS_BETWEEN_FORGETTING
-        if not is_due or self.files.finds_file.known is None:
-            return
-        left = len(self.finder.queue), self.reporter.count_unreported()
-        self.forgot_at = time.monotonic()
-        if left != self.left_in_file:
-            self.left_in_file = left
-            with suppress(OSError):
-                self.write_unreported()
-
-    def write_unreported(self) -> None:
-        """Writes FILE.finds, so that the next search reports what this one hasn't. Removes
-        FILE.finds if everything has been reported."""
-        unreported = self.list_unreported([], [])
-        if unreported.is_empty():
-            if self.files.finds_file.known is not None:
-                self.files.finds_file.remove()
-        elif self.haul_file.is_there():
-            self.files.finds_file.write(unreported.write())
 
     def look_at_kept(self) -> None:
         """Queues the late soups of the written batches to be reported, and their objects to be
@@ -246,6 +199,7 @@ class Search:
             self.finder.add(codes, first)
         self.unkept.clear()
         self.unkept_late.clear()
+        self.finds_file.note_written()
 
     # ---- What is done while batches run
 
@@ -261,7 +215,7 @@ class Search:
             if self.must_keep():
                 self.keep()
             self.calls.step()
-            self.forget_reported()
+            self.finds_file.forget_reported()
             if self.has_reported():
                 self.waiter.wait(min(SECONDS_AT_A_TIME, self.line.seconds_left()))
             else:

@@ -12,8 +12,9 @@ import tempfile
 import time
 import unittest
 from contextlib import suppress
+from dataclasses import replace
 from pathlib import Path
-from typing import TextIO
+from typing import Any, TextIO
 
 from haul.census.client import Census
 from haul.census.command_lines import list_take_arguments
@@ -26,11 +27,13 @@ from haul.search.search import Search
 from haul.search.side_file import SideFile
 from haul.search.stopping import Stopping
 from haul.search.unreported import Unreported
+from haul.terminal import Terminal
 from haul.tests.called import CENSUS, HAUL, as_haul, census
 
 # A soup of the empty seed that leaves a clock, and the code of the clock. The first 100,000 soups
 # leave two clocks.
 CLOCK_SOUP, CLOCK = 23473, "xp2_2a54"
+PLAN = Plan(next=0, until=None, batch_size=10, workers=1, finds=None, rarer=10_000)
 # A profile under which a soup takes hardly any time.
 QUICK = ["--period=1", "--horizon=1", "--stride=1", "--limit=0"]
 
@@ -38,19 +41,6 @@ QUICK = ["--period=1", "--horizon=1", "--stride=1", "--limit=0"]
 def of_take(haul: Haul) -> bytes:
     """Returns what `census take` prints for the soups of a haul."""
     return census(*list_take_arguments(haul.job, haul.ranges, 4, False))
-
-
-def make_search(
-    plan: Plan, haul: Haul, haul_file: HaulFile, client: Census, stopping: Stopping, output: TextIO
-) -> Search:
-    """Returns a search that continues with a haul, keeps no late soups, and has no finds of an
-    earlier search to report."""
-    late_file, finds_file = (
-        SideFile(haul_file.path, haul_file.name, suffix, client.terminal.complain)
-        for suffix in ("late", "finds")
-    )
-    files = SearchFiles(haul_file, haul, late_file, None, finds_file, Unreported(haul.job))
-    return Search(plan, files, client, stopping, output)
 
 
 class Searches(unittest.TestCase):
@@ -116,6 +106,26 @@ class Searches(unittest.TestCase):
         ) as running:
             output, errors = running.communicate(timeout=120)
         return running.returncode, output.decode(), errors.decode()
+
+    def make_search(
+        self,
+        haul: Haul,
+        stopping: Stopping | None = None,
+        output: TextIO = sys.stdout,
+        errors: TextIO | None = None,
+        **plan: Any,
+    ) -> Search:
+        """Returns a search in this process that continues with a haul, keeps no late soups, and has
+        no finds of an earlier search to report. `plan` has fields of its plan."""
+        haul_file = HaulFile(str(self.file))
+        self.addCleanup(os.close, haul_file.lock)
+        client = Census(CENSUS, Terminal(errors or sys.stderr))
+        late_file, finds_file = (
+            SideFile(haul_file.path, haul_file.name, suffix, client.terminal.complain)
+            for suffix in ("late", "finds")
+        )
+        files = SearchFiles(haul_file, haul, late_file, None, finds_file, Unreported(haul.job))
+        return Search(replace(PLAN, **plan), files, client, stopping or Stopping(), output)
 
     def stub(self, script: str, name: str = "stub") -> str:
         """Writes a shell script and returns the path of the script. In the script, `real` replaces

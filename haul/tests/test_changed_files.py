@@ -6,7 +6,9 @@ from __future__ import annotations
 import random
 import re
 from collections.abc import Iterator
+from unittest.mock import patch
 
+from haul.cli.late_files import read_haul_beside
 from haul.formats.haul import NUMBER_LIMIT, Haul
 from haul.formats.late_file import BadLate, read_late
 from haul.search.unreported import BadFinds, Unreported, read_unreported
@@ -146,6 +148,18 @@ class ReadLate(Searches):
         status, _, errors = run(*words, cwd=str(self.folder))
         return status, errors
 
+    def test_a_search_that_is_running(self) -> None:
+        """If the search goes on between the reading of FILE and of FILE.late, nothing is wrong."""
+
+        def read_and_go_on(name: str) -> Haul | None:
+            haul = read_haul_beside(name)
+            self.search("--until=60")
+            return haul
+
+        with patch("haul.cli.late_files.read_haul_beside", read_and_go_on):
+            self.assertEqual(self.complaint("soups", "mine.haul.late"), (0, ""))
+        self.assertEqual(self.soups(), 60)
+
     def test_lost_lines(self) -> None:
         self.late.write_bytes(self.text.rpartition(b"report ")[0])
         lost = f"haul: mine.haul.late: {self.count} lines announced, and {self.count - 1} there"
@@ -153,7 +167,8 @@ class ReadLate(Searches):
             self.complaint("soups", "mine.haul.late"), (0, f"{lost}, so soups may be missing\n")
         )
         self.assertEqual(
-            self.complaint("page", "--lives", "mine.haul.late", "mine.haul"), (3, f"{lost}\n")
+            self.complaint("page", "--lives", "mine.haul.late", "mine.haul"),
+            (3, f"{lost}; leave out --lives, or restore the file\n"),
         )
 
     def test_an_old_copy(self) -> None:
@@ -169,7 +184,7 @@ class ReadLate(Searches):
         )
         self.assertEqual(
             self.complaint("page", "--lives", "mine.haul.late", "mine.haul"),
-            (0, "haul: mine.haul.late: covers 40 of the 60 soups\n"),
+            (0, "haul: mine.haul.late: covers only 40 of the 60 soups\n"),
         )
 
     def test_nothing_is_wrong(self) -> None:

@@ -255,7 +255,7 @@ class Choices(unittest.TestCase):
 
     def test_words(self) -> None:
         for words, line in (
-            (["--random=3", "a", "b"], "--random 3 is more than there are files"),
+            (["--random=3", "a", "b"], "--random 3 is more than the 2 files"),
             (["--random=1"], "--random 1 is more"),
             (["--choice=x", "a"], "--choice needs --random"),
             (["--random=1", "--choice=", "a"], "no choice"),

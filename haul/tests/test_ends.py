@@ -18,9 +18,7 @@ from pathlib import Path
 from unittest.mock import patch
 
 from haul.census.children import NoThread
-from haul.formats.haul import Haul, Job
 from haul.formats.haul_reader import read_one_haul
-from haul.formats.profile import Profile
 from haul.tests.called import (
     CENSUS,
     HAUL,
@@ -33,6 +31,7 @@ from haul.tests.called import (
     taken,
 )
 from haul.tests.drawn import text_of
+from haul.tests.made import QUICK_JOB, make_haul
 from haul.tests.test_text import SMALL
 
 # A wrong haul with so many soups that its census takes much longer than the test.
@@ -45,13 +44,10 @@ LONG = (
 # An incorrect haul with so many sample soups that several calls of the census program run them.
 CODES = [f"xs4_{number}" for number in range(1000, 1600)]
 MANY = text_of(
-    Haul(
-        Job("", "b3s23", Profile(1, 1, 1, 0)),
-        ranges=[(0, 600)],
-        soups=600,
-        unsettled=0,
-        for_good=0,
-        totals={code: 1 for code in CODES},
+    make_haul(
+        {code: 1 for code in CODES},
+        [(0, 600)],
+        job=QUICK_JOB,
         samples={code: [k] for k, code in enumerate(CODES)},
     )
 )
@@ -183,17 +179,7 @@ class Progress(unittest.TestCase):
     def test_objects_that_are_separated(self) -> None:
         """Progress is shown after every five hundred objects."""
         codes = [f"xs4_{number}" for number in range(1000, 1600)]
-        text = text_of(
-            Haul(
-                Job("", "b3s23", Profile(1, 1, 1, 0)),
-                ranges=[(0, 1)],
-                soups=1,
-                unsettled=0,
-                for_good=0,
-                totals={code: 1 for code in codes},
-                samples={code: [0] for code in codes},
-            )
-        )
+        text = text_of(make_haul({code: 1 for code in codes}, job=QUICK_JOB))
         for words in (["table"], ["table", "--parts"], ["page", "--play", "0"]):
             self.assertEqual(
                 self.told(*words, text=text.encode())[:2],
@@ -205,13 +191,10 @@ class Progress(unittest.TestCase):
         shown after each call."""
         codes = [f"xs4_{number}" for number in range(1000, 1150)]
         text = text_of(
-            Haul(
-                Job("", "b3s23", Profile(1, 1, 1, 0)),
-                ranges=[(0, 150)],
-                soups=150,
-                unsettled=0,
-                for_good=0,
-                totals={code: 1 for code in codes},
+            make_haul(
+                {code: 1 for code in codes},
+                [(0, 150)],
+                job=QUICK_JOB,
                 samples={code: [k] for k, code in enumerate(codes)},
             )
         )
@@ -221,27 +204,14 @@ class Progress(unittest.TestCase):
         )
 
     def test_samples(self) -> None:
-        text = text_of(
-            Haul(
-                Job("", "b3s23", Profile(1, 1, 1, 0)),
-                ranges=[(0, 900)],
-                soups=900,
-                unsettled=900,
-                for_good=0,
-                totals={},
-                samples={},
-            )
-        )
+        text = text_of(make_haul(ranges=[(0, 900)], job=QUICK_JOB, unsettled=900))
         self.assertEqual(self.told("check", "--samples", text=text.encode()), [])
         codes = [f"xs4_{number}" for number in range(1000, 1600)]
         text = text_of(
-            Haul(
-                Job("", "b3s23", Profile(1, 1, 1, 0)),
-                ranges=[(0, 900)],
-                soups=900,
-                unsettled=0,
-                for_good=0,
-                totals={code: 1 for code in codes},
+            make_haul(
+                {code: 1 for code in codes},
+                [(0, 900)],
+                job=QUICK_JOB,
                 samples={code: [k] for k, code in enumerate(codes)},
             )
         )

@@ -18,26 +18,27 @@ from struct import pack
 from termios import TIOCSWINSZ
 from unittest.mock import Mock, patch
 
-from haul.census.background import FIND, StreamWaiter
-from haul.census.client import Census
+from haul.census.background import StreamWaiter
+from haul.census.children import list_starter_words
 from haul.census.command_lines import format_find_command
-from haul.census.starters import list_starter_words
+from haul.census.launcher import FIND
 from haul.formats.haul import Haul, Job
 from haul.formats.haul_reader import read_one_haul
 from haul.formats.profile import STANDARD, Profile
 from haul.life.generations import read_rule
 from haul.life.parts import Separator
 from haul.rarity.reference import SOUPS, find_occurrence, load_reference
-from haul.search.batches import Batch, Plan, Taken
+from haul.search.batches import Batch, Taken
 from haul.search.finds import Find, Finder, Unread, list_common_parts
 from haul.search.finds_program import FindsProgram
-from haul.search.haul_file import Beside, HaulFile
+from haul.search.haul_file import Beside
 from haul.search.search import Dropped
 from haul.search.status_line import Status, StatusLine, format_duration, format_short
 from haul.search.stopping import Stopping
 from haul.terminal import Terminal
-from haul.tests.called import CENSUS, HAUL, TOP, census, make_client
-from haul.tests.searching import CLOCK, CLOCK_SOUP, Searches, make_search
+from haul.tests.called import CENSUS, HAUL, TOP, census
+from haul.tests.made import make_haul
+from haul.tests.searching import CLOCK, CLOCK_SOUP, Searches
 
 LIFE, OTHER_RULE, OTHER_PROFILE = (
     Job("a", "b3s23", STANDARD),
@@ -51,13 +52,11 @@ BIPOLE, BLINKER, BLOCK, BI_BLOCK = "xp2_31ago", "xp2_7", "xs4_33", "xs8_rr"
 
 
 def haul_of(job: Job, *codes: str) -> Haul:
-    return Haul(
-        job,
-        ranges=[(0, 100)] if codes else [],
+    return make_haul(
+        {code: 1 for code in sorted(codes)},
+        [(0, 100)] if codes else [],
+        job=job,
         soups=100 if codes else 0,
-        unsettled=0,
-        for_good=0,
-        totals={code: 1 for code in sorted(codes)},
         samples={code: [0] for code in sorted(codes)},
     )
 
@@ -155,15 +154,7 @@ class Finds(unittest.TestCase):
             found(
                 Finder(
                     OTHER_PROFILE,
-                    Haul(
-                        OTHER_PROFILE,
-                        ranges=[(0, 9)],
-                        soups=9,
-                        unsettled=9,
-                        for_good=0,
-                        totals={},
-                        samples={},
-                    ),
+                    make_haul(ranges=[(0, 9)], job=OTHER_PROFILE, unsettled=9),
                     RARER,
                 ),
                 [(BIPOLE, 9)],
@@ -246,7 +237,7 @@ class Finds(unittest.TestCase):
         )
 
     def test_what_is_remembered_is_bounded(self) -> None:
-        with patch("haul.search.finds.MOST_RUNS", 3):
+        with patch("haul.search.finds.MOST_KNOWN", 3):
             finder = Finder(LIFE, haul_of(LIFE), RARER)
             self.assertEqual(
                 len(
@@ -261,8 +252,7 @@ class Finds(unittest.TestCase):
                 ),
                 2,
             )
-            self.assertLessEqual(finder.separator.count_runs(), 5)
-            self.assertLessEqual(len(finder.separator.quickly_known), 5)
+            self.assertLessEqual(finder.separator.count_known(), 6)
 
 
 class Fields(Searches):
@@ -555,22 +545,13 @@ class StatusLines(Searches):
     def test_a_search_that_goes_on(self) -> None:
         """The rate counts only the soups that this search has run."""
         with patch("time.monotonic", return_value=1000.0) as now:
-            haul_file = HaulFile(str(self.file))
-            search = make_search(
-                Plan(100, 200, 30, 1, None, RARER),
-                haul_of(LIFE, BLOCK, BIPOLE),
-                haul_file,
-                make_client(),
-                Stopping(),
-                sys.stdout,
+            search = self.make_search(
+                haul_of(LIFE, BLOCK, BIPOLE), next=100, until=200, batch_size=30
             )
-            haul = Haul(
-                LIFE,
-                ranges=[(100, 30)],
-                soups=30,
-                unsettled=0,
-                for_good=0,
-                totals={BLINKER: 7, BLOCK: 1},
+            haul = make_haul(
+                {BLINKER: 7, BLOCK: 1},
+                [(100, 30)],
+                job=LIFE,
                 samples={BLINKER: [100], BLOCK: [101]},
             )
             search.add(Taken(haul, None))
@@ -580,35 +561,17 @@ class StatusLines(Searches):
             self.assertEqual(search.status(), Status(140, 40, 10, 3, 0, 10.0, 60))
             search.batches.queue.clear()
             self.assertEqual(search.status(), Status(130, 30, 10, 3, 0, 10.0, 70))
-        os.close(haul_file.lock)
 
     def test_a_search_with_more_than_is_asked_for(self) -> None:
-        haul_file = HaulFile(str(self.file))
-        search = make_search(
-            Plan(100, 50, 30, 1, None, RARER),
-            haul_of(LIFE, BLOCK),
-            haul_file,
-            make_client(),
-            Stopping(),
-            sys.stdout,
-        )
+        search = self.make_search(haul_of(LIFE, BLOCK), next=100, until=50, batch_size=30)
         self.assertEqual(search.status().left, 0)
-        os.close(haul_file.lock)
 
     def test_when_the_batch_ends(self) -> None:
         """The time to the end of the batch is estimated from the rate of the search, unless the
         rate is 0."""
         said = io.StringIO()
         with patch("time.monotonic", return_value=1000.0) as now:
-            haul_file = HaulFile(str(self.file))
-            search = make_search(
-                Plan(0, None, 30, 1, None, RARER),
-                haul_of(LIFE),
-                haul_file,
-                Census(CENSUS, Terminal(said)),
-                Stopping(),
-                sys.stdout,
-            )
+            search = self.make_search(haul_of(LIFE), errors=said, batch_size=30)
             now.return_value = 1010.0
             for soups, when in ((0, ""), (1, ", in about 0:04:50"), (10, ", in about 0:00:20")):
                 running = Batch(0, 30, Mock(**{"soups.return_value": soups}), 1)
@@ -620,7 +583,6 @@ class StatusLines(Searches):
                     said.getvalue(),
                     f"haul: stops after this batch{when}; Ctrl-C again drops the batch\n",
                 )
-        os.close(haul_file.lock)
 
     def test_durations(self) -> None:
         for seconds, text in (
@@ -760,15 +722,7 @@ class Pace(Searches):
 
     def test_a_fiftieth_of_the_time(self) -> None:
         with patch("time.monotonic", return_value=1000.0) as now:
-            haul_file = HaulFile(str(self.file))
-            search = make_search(
-                Plan(0, None, 10, 1, None, RARER),
-                haul_of(LIFE),
-                haul_file,
-                make_client(),
-                Stopping(),
-                sys.stdout,
-            )
+            search = self.make_search(haul_of(LIFE))
             self.assertTrue(search.may_keep())
             search.writing, search.latest_writing = 1.0, 1.0
             for at, may in ((1099.0, False), (1100.0, True)):
@@ -782,27 +736,19 @@ class Pace(Searches):
                 self.assertEqual((search.must_keep(), search.may_keep()), (must, must))
             search.unkept = []
             self.assertFalse(search.must_keep())
-        os.close(haul_file.lock)
 
     def test_how_long_writing_took(self) -> None:
         """The times of all writings are added up. While the file is written, no signal ends the
         program."""
         with patch("time.monotonic", return_value=1000.0) as now:
-            haul_file, stopping = HaulFile(str(self.file)), Stopping()
-            search = make_search(
-                Plan(0, None, 10, 1, None, RARER),
-                haul_of(LIFE),
-                haul_file,
-                make_client(),
-                stopping,
-                sys.stdout,
-            )
+            stopping = Stopping()
+            search = self.make_search(haul_of(LIFE), stopping)
 
             def slow_write(_haul: Haul, _beside: object) -> None:
                 self.assertTrue(stopping.is_writing)
                 now.return_value += 2
 
-            with patch.object(haul_file, "write", slow_write):
+            with patch.object(search.haul_file, "write", slow_write):
                 for writing in (2.0, 4.0):
                     search.unkept = [(0, [])]
                     search.keep()
@@ -813,23 +759,21 @@ class Pace(Searches):
             for at, may in ((1299.0, False), (1300.0, True)):
                 now.return_value = at
                 self.assertEqual(search.may_keep(), may)
-            with patch.object(haul_file, "write", side_effect=OSError), self.assertRaises(OSError):
+            with patch.object(search.haul_file, "write", side_effect=OSError), self.assertRaises(
+                OSError
+            ):
                 search.unkept = [(0, [])]
                 search.keep()
             self.assertFalse(stopping.is_writing)
-        os.close(haul_file.lock)
 
     def test_how_long_it_waits(self) -> None:
         """The search waits for streams for up to half a second, or until the status is due if that
         is sooner. If there are objects to examine, the search examines them for a fiftieth of a
         second, and doesn't wait. After SIGTERM, it examines them for a second."""
-        haul_file, stopping = HaulFile(str(self.file)), Stopping()
+        stopping = Stopping()
         said, told = io.StringIO(), io.StringIO()
-        client = Census(CENSUS, Terminal(said))
         with patch("time.monotonic", return_value=1000.0) as now:
-            search = make_search(
-                Plan(0, None, 10, 1, None, RARER), haul_of(LIFE), haul_file, client, stopping, told
-            )
+            search = self.make_search(haul_of(LIFE), stopping, output=told, errors=said)
             with patch.object(search, "find_for") as find_for, patch.object(
                 search.waiter, "wait"
             ) as wait:
@@ -851,23 +795,14 @@ class Pace(Searches):
             search.find_for(0.001)
             self.assertIn(BIPOLE, told.getvalue())
             self.assertEqual(search.status().finds, 1)
-        os.close(haul_file.lock)
 
     def test_when_it_says_what_is_left(self) -> None:
         """If reporting the last finds takes five seconds, a single line says what remains to be
         done."""
-        haul_file = HaulFile(str(self.file))
         with patch("time.monotonic", return_value=1000.0) as now, redirect_stderr(
             io.StringIO()
         ) as said:
-            search = make_search(
-                Plan(0, None, 10, 1, None, RARER),
-                haul_of(LIFE),
-                haul_file,
-                make_client(),
-                Stopping(),
-                sys.stdout,
-            )
+            search = self.make_search(haul_of(LIFE))
             search.finder.add([(BIPOLE, 1), (CLOCK, 2)])
             looked: list[tuple[float, int]] = []
 
@@ -884,20 +819,12 @@ class Pace(Searches):
             said.getvalue(),
             "haul: finds are still told: 2 objects to look at; Ctrl-C twice stops that\n",
         )
-        os.close(haul_file.lock)
 
     def test_a_signal_while_batches_wait(self) -> None:
         """After SIGTERM, the batches that wait to be written are written, and the running batch is
         dropped."""
-        haul_file, stopping = HaulFile(str(self.file)), Stopping()
-        search = make_search(
-            Plan(0, None, 10, 1, None, RARER),
-            haul_of(LIFE),
-            haul_file,
-            make_client(),
-            stopping,
-            sys.stdout,
-        )
+        stopping = Stopping()
+        search = self.make_search(haul_of(LIFE), stopping)
         begin = search.batches.begin
 
         def begin_the_last(workers: int) -> bool:
@@ -912,33 +839,23 @@ class Pace(Searches):
         self.assertEqual(self.soups(), 30)
         self.assert_right()
         self.assert_nothing_runs()
-        os.close(haul_file.lock)
 
     def test_batches_that_wait_in_memory(self) -> None:
         """Batches that wait in memory are written together, at the latest when the search ends."""
-        haul_file = HaulFile(str(self.file))
-        search = make_search(
-            Plan(0, 60, 10, 2, None, RARER),
-            haul_of(LIFE),
-            haul_file,
-            make_client(),
-            Stopping(),
-            sys.stdout,
-        )
+        search = self.make_search(haul_of(LIFE), until=60, workers=2)
         written: list[int] = []
-        write = haul_file.write
+        write = search.haul_file.write
 
         def slow_write(haul: Haul, beside: list[Beside]) -> None:
             written.append(haul.soups)
             write(haul, beside)
             time.sleep(0.3)
 
-        with patch.object(haul_file, "write", slow_write):
+        with patch.object(search.haul_file, "write", slow_write):
             search.run()
         self.assertEqual((written[0], written[-1]), (10, 60))
         self.assertLessEqual(len(written), 3)
         self.assert_right()
-        os.close(haul_file.lock)
 
 
 if __name__ == "__main__":

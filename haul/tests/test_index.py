@@ -97,7 +97,8 @@ class Indexes(unittest.TestCase):
     def test_another_haul_is_refused(self) -> None:
         (self.folder / "other").write_bytes(census("take", "--first", "5", "--count", "4"))
         self.assertEqual(
-            self.refused("check", "index", "0.haul", "other"), "other: no piece of the index"
+            self.refused("check", "index", "0.haul", "other"),
+            "other: its seed, rule, profile and soups are those of no piece",
         )
 
     def test_a_choice(self) -> None:

@@ -135,13 +135,14 @@ class Pages(unittest.TestCase):
         self.assertNotIn("lifespans", output.partition("</style>")[2])
 
     def test_refused(self) -> None:
+        instead = "; leave out --lives, or restore the file"
         for line, header, why in (
-            ("x", "# late 1000 since 600 left-out 0", "line 2: bad line at 0"),
-            ("x", "# late", "line 1: not a header"),
+            ("x", "# late 1000 since 600 left-out 0", f"line 2: bad line at 0{instead}"),
+            ("x", "# late", f"line 1: not a header{instead}"),
             (
                 f"report 2 {NAME}b worker=1 soup=603 unsettled",
                 "# late 1000 since 600 left-out 0",
-                "other job",
+                "of a census with another seed, rule or profile",
             ),
         ):
             told = f"haul: {self.late}: {why}\n"

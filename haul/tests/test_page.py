@@ -6,6 +6,7 @@ from __future__ import annotations
 import base64
 import hashlib
 import io
+import json
 import re
 import subprocess
 import tempfile
@@ -31,6 +32,7 @@ from haul.statistics.intervals import find_dispersed_interval, find_interval
 from haul.terminal import Terminal
 from haul.tests.called import CENSUS, QUIET, TOP, census, run
 from haul.tests.drawn import text_of
+from haul.tests.made import QUICK_JOB, make_haul
 from haul.tests.pages import (
     RATES,
     Tags,
@@ -42,7 +44,7 @@ from haul.tests.pages import (
     table_of,
     without_rates,
 )
-from haul.tests.test_whole import cells_of, drawn, made
+from haul.tests.test_whole import cells_of, drawn
 
 PULSAR = "xp3_co9nas0san9oczgoldlo0oldlogz1047210127401"
 
@@ -64,17 +66,16 @@ def folds(text: str) -> dict[str, str]:
 def haul_of_nothing(size: int, soups: int) -> Haul:
     """Returns a haul of the soup numbers below `size` that counts `soups` soups, which left no
     object."""
-    return Haul(Job("", "b3s23", Profile(1, 1, 1, 0)), ranges=[(0, size)], soups=soups)
+    return make_haul(ranges=[(0, size)], job=QUICK_JOB, soups=soups)
 
 
 class Top(unittest.TestCase):
-    HAUL = Haul(
-        Job("a", "b36s23", STANDARD),
-        ranges=[(5, 7), (2048, 1)],
-        soups=8,
+    HAUL = make_haul(
+        {"xp2_7": 10, "xs4_33": 100, "xs4_y": 1, "xs8_rr": 2},
+        [(5, 7), (2048, 1)],
+        job=Job("a", "b36s23", STANDARD),
         unsettled=1,
         for_good=2,
-        totals={"xp2_7": 10, "xs4_33": 100, "xs4_y": 1, "xs8_rr": 2},
         samples={"xp2_7": [6], "xs4_33": [5, 2048], "xs4_y": [11], "xs8_rr": [5, 6]},
     )
 
@@ -122,15 +123,7 @@ and <code>haul check --samples all.haul</code> runs only the sample soups.</p>
 
     def test_no_soup(self) -> None:
         text = page(
-            Haul(
-                Job("", "b3s23", Profile(1, 1, 1, 0)),
-                ranges=[],
-                soups=0,
-                unsettled=0,
-                for_good=0,
-                totals={},
-                samples={},
-            ),
+            make_haul(ranges=[], job=QUICK_JOB),
             0,
         )
         self.assertEqual(dict(tiles(text))["objects per soup"], "–")
@@ -171,7 +164,7 @@ and <code>haul check --samples all.haul</code> runs only the sample soups.</p>
 
         def numbers(ranges: list[Range]) -> str:
             return "".join(
-                re.findall(r"\(numbers (.*?) of the", page(made({"xs4_33": 1}, ranges), 0))
+                re.findall(r"\(numbers (.*?) of the", page(make_haul({"xs4_33": 1}, ranges), 0))
             )
 
         self.assertEqual(numbers([(5, 2), (9, 1), (11, 3)]), "5 to 6, 9, 11 to 13")
@@ -194,13 +187,15 @@ and <code>haul check --samples all.haul</code> runs only the sample soups.</p>
             self.assertIn("within 1 generation, and for 2 generations no object", words)
             self.assertIn(
                 words,
-                folds(page(made({"xs4_33": 1}, [(5, 1)], profile), 0))["How objects are counted"],
+                folds(page(make_haul({"xs4_33": 1}, [(5, 1)], profile), 0))[
+                    "How objects are counted"
+                ],
             )
 
     def test_profiles_of_several_hauls(self) -> None:
         """If hauls have different profiles, the page says which hauls have each profile."""
         one, other = (
-            made({"xs4_33": 1}, [(5, 1)], profile)
+            make_haul({"xs4_33": 1}, [(5, 1)], profile)
             for profile in (Profile(64, 512, 101, 30300), Profile(4, 8, 10, 30))
         )
         self.assertEqual(
@@ -219,15 +214,7 @@ class Unsettled(unittest.TestCase):
     """Tests the command that lists unsettled soups."""
 
     def haul(self, ranges: list[Range], seed: str = "", rule: str = "b3s23") -> Haul:
-        return Haul(
-            Job(seed, rule, STANDARD),
-            ranges=ranges,
-            soups=sum(count for _, count in ranges),
-            unsettled=1,
-            for_good=0,
-            totals={},
-            samples={},
-        )
+        return make_haul(ranges=ranges, job=Job(seed, rule, STANDARD), unsettled=1)
 
     def test_one_call_for_each_range(self) -> None:
         self.assertEqual(
@@ -278,108 +265,26 @@ class Rows(unittest.TestCase):
     def test_each_cell(self) -> None:
         """The table counts parts, so an object of two blinkers counts as two blinkers. The profile
         of the haul isn't that of the reference, so the table has no rarity from the reference."""
-        haul = made(
-            {
-                "xs4_33": 1200,
-                "xp15_4r4z4r4": 40,
-                "xq4_153": 3,
-                "xp2_1110s": 1,
-                "ov_p123": 1,
-                "ov_s4000": 1,
-                "zz_1": 1,
-            },
+        haul = make_haul(
+            {"xs4_33": 1200, "xp15_4r4z4r4": 40, "xq4_153": 3}
+            | dict.fromkeys(("xp2_1110s", "ov_p123", "ov_s4000", "zz_1"), 1),
             [(5, 7)],
             Profile(64, 512, 101, 20200),
-            samples={
-                "xs4_33": [5, 6, 11],
-                "xp15_4r4z4r4": [7],
-                "xq4_153": [8],
-                "xp2_1110s": [9],
-                "ov_p123": [10],
-                "ov_s4000": [10],
-                "zz_1": [11],
-            },
+            samples={"xs4_33": [5, 6, 11], "xp15_4r4z4r4": [7], "xq4_153": [8]}
+            | {"xp2_1110s": [9], "ov_p123": [10], "ov_s4000": [10], "zz_1": [11]},
         )
         table = table_of(page(haul, 0))
         self.assertEqual(
-            table.heads,
-            [
-                "Picture",
-                "Name and code",
-                "What it is",
-                "Cells",
-                "Total",
-                "How often",
-                "Sample soups",
-            ],
-        )
-        self.assertEqual(
-            [row.cells for row in table.rows],
-            [
-                [
-                    "block: 2 by 2, 4 cells",
-                    "block xs4_33",
-                    "still life",
-                    "4",
-                    "1,200",
-                    "171 per soup",
-                    "5 6 11",
-                ],
-                [
-                    "pentadecathlon: 3 by 10, 12 cells",
-                    "pentadecathlon xp15_4r4z4r4",
-                    "oscillator of period 15",
-                    "12",
-                    "40",
-                    "5.71 per soup",
-                    "7",
-                ],
-                [
-                    "glider: 3 by 3, 5 cells",
-                    "glider xq4_153",
-                    "spaceship of period 4",
-                    "5",
-                    "3",
-                    "≤ 1 in 2 soups",
-                    "8",
-                ],
-                [
-                    "blinker: 1 by 3, 3 cells",
-                    "blinker xp2_7",
-                    "oscillator of period 2",
-                    "3",
-                    "2",
-                    "≤ 1 in 3 soups",
-                    "9",
-                ],
-                [
-                    "too large to draw",
-                    "not separated ov_p123",
-                    "oscillator of period 123",
-                    "",
-                    "1",
-                    "≤ 1 in 7 soups",
-                    "10",
-                ],
-                [
-                    "too large to draw",
-                    "not separated ov_s4000",
-                    "still life",
-                    "4000",
-                    "1",
-                    "≤ 1 in 7 soups",
-                    "10",
-                ],
-                [
-                    "can't be drawn",
-                    "not separated zz_1",
-                    "an object",
-                    "",
-                    "1",
-                    "≤ 1 in 7 soups",
-                    "11",
-                ],
-            ],
+            [" | ".join(cells) for cells in (table.heads, *(row.cells for row in table.rows))],
+            """\
+Picture | Name and code | What it is | Cells | Total | How often | Sample soups
+block: 2 by 2, 4 cells | block xs4_33 | still life | 4 | 1,200 | 171 per soup | 5 6 11
+pentadecathlon: 3 by 10, 12 cells | pentadecathlon xp15_4r4z4r4 | oscillator of period 15 | 12 | 40 | 5.71 per soup | 7
+glider: 3 by 3, 5 cells | glider xq4_153 | spaceship of period 4 | 5 | 3 | ≤ 1 in 2 soups | 8
+blinker: 1 by 3, 3 cells | blinker xp2_7 | oscillator of period 2 | 3 | 2 | ≤ 1 in 3 soups | 9
+too large to draw | not separated ov_p123 | oscillator of period 123 |  | 1 | ≤ 1 in 7 soups | 10
+too large to draw | not separated ov_s4000 | still life | 4000 | 1 | ≤ 1 in 7 soups | 10
+can't be drawn | not separated zz_1 | an object |  | 1 | ≤ 1 in 7 soups | 11""".splitlines(),
         )
         self.assertEqual(
             table.rows[0].links,
@@ -405,7 +310,7 @@ class Rows(unittest.TestCase):
             ("xs9_31ego", 12),
             ("xs10_178kk8", 4),
         ):
-            text = page(made({code: 1}, [(9, 1)]), 0)
+            text = page(make_haul({code: 1}, [(9, 1)]), 0)
             (path,) = table_of(text).rows[0].paths
             wanted = cells_of(census("show", "--", code).decode())
             self.assertEqual(drawn(path), wanted)
@@ -417,22 +322,14 @@ class Rows(unittest.TestCase):
 
     def test_addresses_of_soups(self) -> None:
         """Characters of a seed that have a meaning in an address are escaped."""
-        haul = Haul(
-            Job("a/b?#%", "b36s23", STANDARD),
-            ranges=[(5, 1)],
-            soups=1,
-            unsettled=0,
-            for_good=0,
-            totals={"xs4_33": 1},
-            samples={"xs4_33": [5]},
-        )
+        haul = make_haul({"xs4_33": 1}, [(5, 1)], job=Job("a/b?#%", "b36s23", STANDARD))
         self.assertEqual(
             table_of(page(haul, 0)).rows[0].links[1],
             "https://catagolue.hatsya.com/hashsoup/C1/a%2Fb%3F%23%255/b36s23",
         )
 
     def test_what_is_left_out(self) -> None:
-        haul = made({"xs4_33": 3, "xp2_7": 2, "xs5_253": 2}, [(0, 9)])
+        haul = make_haul({"xs4_33": 3, "xp2_7": 2, "xs5_253": 2}, [(0, 9)])
         counted = "the most frequent first. Parts are counted: a bi-block is two blocks."
         for least, said in (
             (2, f"3 of 3 kinds, {counted}<"),
@@ -443,7 +340,7 @@ class Rows(unittest.TestCase):
     def test_what_the_reference_says(self) -> None:
         """The numbers are from reference/parts.tsv, and the intervals are those of `haul
         rarity`."""
-        haul = made({"xs4_33": 9, "xp5_idiidiz01w1": 1, "xs4_y": 1}, [(0, 9)])
+        haul = make_haul({"xs4_33": 9, "xp5_idiidiz01w1": 1, "xs4_y": 1}, [(0, 9)])
         said = {
             "xs4_33": "one in 1.1095 %: 1.10 to 1.10",
             "xp5_idiidiz01w1": "one in 100,000,00095 %: 17,948,025 to 3,949,789,091",
@@ -456,7 +353,9 @@ class Rows(unittest.TestCase):
         self.assertEqual(table.heads[-1], "In the reference")
         self.assertEqual({row.cells[1].split()[-1]: row.cells[-1] for row in table.rows}, said)
         self.assertEqual(table.rows[0].cells[5], "1 per soup")
-        loafer = objects_of(page(made({"xq7_3nw17862z6952": 1}, [(0, 9)]), 0))["xq7_3nw17862z6952"]
+        loafer = objects_of(page(make_haul({"xq7_3nw17862z6952": 1}, [(0, 9)]), 0))[
+            "xq7_3nw17862z6952"
+        ]
         self.assertEqual(
             loafer["rarity"], ["none in 100,000,000", "95 %: less than one in 27,100,000", ""]
         )
@@ -465,7 +364,7 @@ class Rows(unittest.TestCase):
 class Data(unittest.TestCase):
     """Tests the data that the script of the page reads."""
 
-    HAUL = made(
+    HAUL = make_haul(
         {"xp2_1110s": 7, "xs10_25520oo": 3, "xs4_33": 2, "xs8_rr": 1, "ov_p3": 1},
         [(0, 9)],
         samples={
@@ -480,64 +379,22 @@ class Data(unittest.TestCase):
     def test_each_object(self) -> None:
         """There are 14 blinkers, all of them parts of larger objects; 3 + 2 + 2 blocks; and 3
         beehives."""
+        objects = map(without_rates, data_of(page(self.HAUL, 0))["objects"])
         self.assertEqual(
-            list(map(without_rates, data_of(page(self.HAUL, 0))["objects"])),
-            [
-                {
-                    "code": "xp2_1110s",
-                    "label": "2 blinkers",
-                    "made": [["xp2_7", "xp2_7"]],
-                    "objects": [[7, 4, 5]],
-                    "cells": 6,
-                },
-                {
-                    "code": "xs10_25520oo",
-                    "label": "block and beehive",
-                    "made": [["xs4_33", "xs6_696"]],
-                    "objects": [[3, 1, 8]],
-                    "cells": 10,
-                },
-                {
-                    "code": "xs4_33",
-                    "label": "block",
-                    "named": 1,
-                    "made": ["strict"],
-                    "objects": [[2, 2]],
-                    "parts": [[7, 1, 2, 7]],
-                    "cells": 4,
-                },
-                {
-                    "code": "ov_p3",
-                    "label": "",
-                    "made": ["not separated"],
-                    "objects": [[1, 0]],
-                    "parts": [[1, 0]],
-                },
-                {
-                    "code": "xs8_rr",
-                    "label": "bi-block",
-                    "named": 1,
-                    "made": [["xs4_33", "xs4_33"]],
-                    "objects": [[1, 7]],
-                    "cells": 8,
-                },
-                {
-                    "code": "xp2_7",
-                    "label": "blinker",
-                    "named": 1,
-                    "made": ["strict"],
-                    "parts": [[14, 4, 5]],
-                    "cells": 3,
-                },
-                {
-                    "code": "xs6_696",
-                    "label": "beehive",
-                    "named": 1,
-                    "made": ["strict"],
-                    "parts": [[3, 1, 8]],
-                    "cells": 6,
-                },
-            ],
+            list(objects),
+            list(
+                map(
+                    json.loads,
+                    """\
+{"code": "xp2_1110s", "label": "2 blinkers", "made": [["xp2_7", "xp2_7"]], "objects": [[7, 4, 5]], "cells": 6}
+{"code": "xs10_25520oo", "label": "block and beehive", "made": [["xs4_33", "xs6_696"]], "objects": [[3, 1, 8]], "cells": 10}
+{"code": "xs4_33", "label": "block", "named": 1, "made": ["strict"], "objects": [[2, 2]], "parts": [[7, 1, 2, 7]], "cells": 4}
+{"code": "ov_p3", "label": "", "made": ["not separated"], "objects": [[1, 0]], "parts": [[1, 0]]}
+{"code": "xs8_rr", "label": "bi-block", "named": 1, "made": [["xs4_33", "xs4_33"]], "objects": [[1, 7]], "cells": 8}
+{"code": "xp2_7", "label": "blinker", "named": 1, "made": ["strict"], "parts": [[14, 4, 5]], "cells": 3}
+{"code": "xs6_696", "label": "beehive", "named": 1, "made": ["strict"], "parts": [[3, 1, 8]], "cells": 6}""".splitlines(),
+                )
+            ),
         )
 
     def test_the_haul(self) -> None:
@@ -547,7 +404,7 @@ class Data(unittest.TestCase):
             {"least": 1, "play": 3, "kinds": 5, "kindsOfParts": 4, "intervals": {}},
         )
         self.assertEqual(data["reference"], 100_000_000)
-        other = made({"xs4_33": 1}, [(0, 9)], Profile(64, 512, 101, 20200))
+        other = make_haul({"xs4_33": 1}, [(0, 9)], Profile(64, 512, 101, 20200))
         self.assertEqual(data_of(page(other, 0))["reference"], 0)
         self.assertEqual(
             data["hauls"],
@@ -602,7 +459,9 @@ class Data(unittest.TestCase):
 
     def test_large_totals(self) -> None:
         """JavaScript loses digits of a number above 2^53, so such a number is given as a text."""
-        objects = objects_of(page(made({"xs4_33": 2**53, "xs5_253": 2**53 + 1}, [(0, 9)]), 0))
+        objects = objects_of(
+            page(make_haul({"xs4_33": 2**53, "xs5_253": 2**53 + 1}, [(0, 9)]), 0)
+        )
         self.assertEqual(
             [objects[code]["objects"][0][0] for code in ("xs4_33", "xs5_253")],
             [2**53, str(2**53 + 1)],
@@ -622,15 +481,7 @@ class Data(unittest.TestCase):
     def test_nothing_ends_the_script(self) -> None:
         seed = "</script><!--"
         text = page(
-            Haul(
-                Job(seed, "b3s23", STANDARD),
-                ranges=[(0, 1)],
-                soups=1,
-                unsettled=0,
-                for_good=0,
-                totals={"xs4_33": 1},
-                samples={"xs4_33": [0]},
-            ),
+            make_haul({"xs4_33": 1}, job=Job(seed, "b3s23", STANDARD)),
             0,
         )
         self.assertEqual(data_of(text)["hauls"][0]["seed"], seed)
@@ -670,7 +521,7 @@ class Foreign(unittest.TestCase):
     )
 
     def haul(self, text: str, code: str, symmetry: str) -> Haul:
-        haul = made({code: 2, "xs4_33": 1}, [(0, 9)])
+        haul = make_haul({code: 2, "xs4_33": 1}, [(0, 9)])
         return replace(haul, apgsearch=text, job=Job(text, "b3s23", STANDARD, symmetry))
 
     def test_words_are_texts(self) -> None:
@@ -713,14 +564,13 @@ class Foreign(unittest.TestCase):
 
 
 class Comparing(unittest.TestCase):
-    LIFE = made({"xs4_33": 1000, "xp2_7": 10, "xs12_raar": 4}, [(0, 100)])
-    OTHER = Haul(
-        Job("b", "bs123", STANDARD),
-        ranges=[(7, 50)],
-        soups=50,
+    LIFE = make_haul({"xs4_33": 1000, "xp2_7": 10, "xs12_raar": 4}, [(0, 100)])
+    OTHER = make_haul(
+        {"xs12_raar": 4, "xs4_33": 5},
+        [(7, 50)],
+        job=Job("b", "bs123", STANDARD),
         unsettled=3,
         for_good=4,
-        totals={"xs12_raar": 4, "xs4_33": 5},
         samples={"xs12_raar": [7], "xs4_33": [8, 9]},
     )
 
@@ -739,36 +589,15 @@ class Comparing(unittest.TestCase):
             '<tr><th scope="row">(.*?)</th>(.*?)</tr>',
             before_table(compared(self.LIFE, self.OTHER)),
         )
+        seed = '<code class="seed">{}</code>'
         self.assertEqual(
             [
                 [re.sub("<.*?>", "", head), *re.findall("<td>(.*?)</td>", cells)]
                 for head, cells in rows
             ],
             [
-                [
-                    "A B3/S23",
-                    "100",
-                    "1,014",
-                    "10.14",
-                    "3",
-                    "3",
-                    "0",
-                    "0",
-                    '<code class="seed">a</code>',
-                    "0 to 99",
-                ],
-                [
-                    "B B/S123",
-                    "50",
-                    "9",
-                    "0.18",
-                    "2",
-                    "1",
-                    "3",
-                    "4",
-                    '<code class="seed">b</code>',
-                    "7 to 56",
-                ],
+                ["A B3/S23", *"100 1,014 10.14 3 3 0 0".split(), seed.format("a"), "0 to 99"],
+                ["B B/S123", *"50 9 0.18 2 1 3 4".split(), seed.format("b"), "7 to 56"],
             ],
         )
 
@@ -812,7 +641,7 @@ class Comparing(unittest.TestCase):
     def test_rates_of_parts(self) -> None:
         """Each part has intervals and stars if hauls are compared, and its rarity under Life with
         the standard profile."""
-        many, few = (made({"xs4_33": total}, [(0, 1000)]) for total in (9000, 5000))
+        many, few = (make_haul({"xs4_33": total}, [(0, 1000)]) for total in (9000, 5000))
         block = objects_of(compared(many, few))["xs4_33"]
         self.assertEqual(block["stars"], [0, 1])
         low, high = find_dispersed_interval(5000, find_dispersion("xs4_33"))
@@ -957,7 +786,7 @@ class Ends(unittest.TestCase):
         """The page says only for the sample soups of the first `play` codes when they settle. The
         codes of parts come first, beginning with the most frequent part: 16 blinkers in pairs, 9
         blocks, and 7 objects that couldn't be separated."""
-        haul = made(
+        haul = make_haul(
             {"xp2_1110s": 8, "xs4_33": 7, "xs8_rr": 1, "ov_p3": 7},
             [(0, 9)],
             samples={"xp2_1110s": [0, 1], "xs4_33": [1, 2], "xs8_rr": [4], "ov_p3": [3]},
@@ -977,7 +806,7 @@ class Ends(unittest.TestCase):
 
     def test_a_soup_without_end(self) -> None:
         """`census` has run the soup, which doesn't settle, so its end on the page is 0."""
-        (end,) = data_of(page(made({"xs4_33": 8}, [(9, 1)], Profile(1, 1, 1, 0))))["soups"][
+        (end,) = data_of(page(make_haul({"xs4_33": 8}, [(9, 1)], Profile(1, 1, 1, 0))))["soups"][
             0
         ].values()
         self.assertEqual(end[1:], [0])

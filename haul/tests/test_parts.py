@@ -22,11 +22,12 @@ from haul.formats.profile import STANDARD
 from haul.formats.tables import BadTable
 from haul.hauls import by_parts
 from haul.hauls.by_parts import Objects
-from haul.life.blocks import MOST_ISLANDS, Blocks, Run
+from haul.life.bitmaps import read_bitmap
 from haul.life.clusters import is_cluster
 from haul.life.field import pack
 from haul.life.generations import read_rule
-from haul.life.parts import Separation, Separator, read_object
+from haul.life.parts import BITS, SETS, Separation, Separator, read_object
+from haul.life.separations import MOST_ISLANDS, Pattern, Patterns, Separations
 from haul.names.labels import describe_parts, find_label, make_plural, mark_label
 from haul.names.objects import find_code_of_name, load_names, parse_names
 from haul.tests import plain_parts
@@ -238,31 +239,39 @@ class Parts(unittest.TestCase):
                 )
 
     def test_each_condition_of_a_separation(self) -> None:
-        """Checks each condition of a separation with runs made by hand from the cells of a
-        bi-block."""
+        """Checks the conditions with a bi-block, as a set of cells and as bits."""
         found = read_object(read_rule("b3s23"), "xs8_rr")
         assert found is not None
-        blocks = Blocks(read_rule("b3s23"), {}, found)
-        left, right = blocks.islands
-        self.assertEqual((len(left), len(right), left | right), (4, 4, found.phases[0]))
-        one, other = [left, left], [right, right]
-        self.assertTrue(blocks.is_separation([one, other]))
-        # None of these is a separation: the left block with an added cell of the right block, and
-        # the right block (together they are the object, but they share that cell); the left block
-        # twice (together they have as many cells as the object); and only the left block.
-        shared = left | {min(right)}
-        self.assertFalse(blocks.is_separation([[shared, shared], other]))
-        self.assertFalse(blocks.is_separation([one, one]))
-        self.assertFalse(blocks.is_separation([one]))
-        # Only the first of these runs is accepted. The second is the other block after a period,
-        # the third isn't a cluster, and the fourth has a cell that the object doesn't have.
-        run = Run(read_rule("b3s23"), left)
-        self.assertEqual(blocks.checked(run, iter(one)), one)
-        self.assertIsNone(blocks.checked(run, iter([left, right])))
-        self.assertIsNone(
-            blocks.checked(Run(read_rule("b3s23"), frozenset([(0, 0), (9, 9)])), iter(one))
-        )
-        self.assertIsNone(blocks.checked(run, iter([left | {(9, 9)}] * 2)))
+        (cells,) = found.phases
+        self.assert_conditions(SETS, cells, frozenset([min(cells)]), frozenset([(9, 9)]))
+        bits = read_bitmap("rr") or 0
+        self.assert_conditions(BITS, bits, bits & -bits, 1 << 9)
+
+    def assert_conditions(
+        self, patterns: Patterns[Pattern], two: Pattern, corner: Pattern, far: Pattern
+    ) -> None:
+        """Checks which runs of the two blocks of `two` are accepted. `corner` is a cell of `two`,
+        and `far` is a cell elsewhere."""
+        life = read_rule("b3s23")
+        blocks = Separations(patterns, life, [two, two])
+        one, other = blocks.islands
+        self.assertEqual((one | other, one & other), (two, one & far))
+        # A block does the same by itself, and so do both blocks. If the object lacks one cell of a
+        # block, the other three cells become four, one of which isn't in the object.
+        for part in (one, other, two):
+            self.assertEqual(blocks.run_alone(part), [part, part])
+        three = one ^ corner if one & corner else other ^ corner
+        lacking = Separations(patterns, life, [two ^ corner, two ^ corner])
+        self.assertIsNone(lacking.run_alone(three))
+        # Two cells that die don't recur with the object, and two cells far apart, under a rule in
+        # which nothing changes, are no cluster.
+        self.assertIsNone(blocks.run_alone(corner | far))
+        still = read_rule(STILL)
+        self.assertIsNone(Separations(patterns, still, [two | far] * 2).run_alone(corner | far))
+        # In a separation, each cell of the object is in exactly one block.
+        self.assertTrue(blocks.is_separation([[one, one], [other, other]]))
+        for wrong in ([one], [one, one], [one | corner, other | corner], [one, other | far]):
+            self.assertFalse(blocks.is_separation([[block, block] for block in wrong]))
 
     def test_codes_that_are_not_canonical(self) -> None:
         """A part has its canonical code, whatever code the haul has. An object that isn't what its

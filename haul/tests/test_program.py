@@ -19,13 +19,14 @@ from haul.census.client import Census
 from haul.census.command_lines import format_soup_commands, list_take_arguments, split_ranges
 from haul.census.locate import find_beside
 from haul.formats.field_reader import BadHaul
-from haul.formats.haul import Haul, Job, Range
+from haul.formats.haul import Job, Range
 from haul.formats.haul_reader import read_one_haul
 from haul.formats.profile import Profile
 from haul.hauls.by_parts import Objects
 from haul.hauls.check import list_differences, retake
 from haul.tests import plain_parts
 from haul.tests.called import CENSUS, QUIET, census, run
+from haul.tests.made import QUICK_JOB, make_haul
 from haul.tests.pages import before_table, data_of, page, table_of
 from haul.views.compare import Comparison
 
@@ -297,15 +298,7 @@ class Comparing(unittest.TestCase):
                 "haul: /dev/null: bad haul at line 1 column 1: this looks like an empty text\n",
             ),
         )
-        haul = Haul(
-            Job("", "b3s23", Profile(1, 1, 1, 0)),
-            ranges=[(0, 1)],
-            soups=1,
-            unsettled=0,
-            for_good=0,
-            totals={"xs4_33": 1},
-            samples={"xs4_33": [0]},
-        )
+        haul = make_haul({"xs4_33": 1}, job=QUICK_JOB)
         self.assertEqual(
             list(Comparison([haul, haul], [Objects(haul, QUIET)] * 2, ["xs4_33"]).text(None))[1],
             "A: 1 soup, 0 unsettled, 0 for good, 1 object",
@@ -446,14 +439,8 @@ class Pages(unittest.TestCase):
         """A haul may be valid although some of its codes can't be drawn. The page has a row for
         each of these codes, too."""
         codes = ["xs4_33", "xs4_y", "yl3_1", "zz_"]
-        haul = Haul(
-            Job("", "b3s23", Profile(64, 512, 101, 30300)),
-            ranges=[(0, 1)],
-            soups=1,
-            unsettled=0,
-            for_good=0,
-            totals={code: 1 for code in codes},
-            samples={code: [0] for code in codes},
+        haul = make_haul(
+            {code: 1 for code in codes}, job=Job("", "b3s23", Profile(64, 512, 101, 30300))
         )
         self.assertEqual(
             [row.cells[0] for row in table_of(page(haul)).rows],

@@ -12,10 +12,10 @@ from fractions import Fraction
 from haul.census.client import Census
 from haul.formats.haul import Haul, Job
 from haul.formats.haul_reader import read_one_haul
-from haul.formats.profile import Profile
 from haul.hauls.check import find_wrong_samples, list_differences
 from haul.tests.called import CENSUS, QUIET, census
 from haul.tests.drawn import any_haul
+from haul.tests.made import QUICK_JOB, make_haul
 from haul.tests.pages import compared, objects_of, page, table_of
 
 
@@ -225,15 +225,7 @@ class Shown(unittest.TestCase):
     def test_four_thousand(self) -> None:
         """The table has the thousand most frequent parts."""
         codes = [f"ov_s{number:04}" for number in range(4000)]
-        haul = Haul(
-            Job("", "b3s23", Profile(1, 1, 1, 0)),
-            ranges=[(0, 1)],
-            soups=1,
-            unsettled=0,
-            for_good=0,
-            totals={code: 1 + k for k, code in enumerate(codes)},
-            samples={code: [0] for code in codes},
-        )
+        haul = make_haul({code: 1 + k for k, code in enumerate(codes)}, job=QUICK_JOB)
         self.assertEqual(
             [row.cells[1].split()[-1] for row in table_of(page(haul, 0)).rows],
             codes[:-1001:-1],

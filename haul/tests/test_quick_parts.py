@@ -21,8 +21,9 @@ from haul.life.bitmaps import (
 )
 from haul.life.cells import Cells, find_corner, move, move_to_corner
 from haul.life.generations import read_rule
-from haul.life.parts import Separation, Separator
-from haul.life.quick_parts import QuickBlocks, QuickSeparator, is_separation
+from haul.life.parts import BITS, Separation, Separator
+from haul.life.quick_parts import run_in_room, run_quickly
+from haul.life.separations import Separations
 from haul.names.objects import find_code_of_name
 from haul.tests.test_life import RULES, STILL, example
 
@@ -158,9 +159,8 @@ class Quick(unittest.TestCase):
         # A glider moves by one column and one row in four generations, so after twelve generations
         # it is still in its room.
         bits = read_bitmap("153") or 0
-        quick = QuickSeparator(LIFE)
-        self.assertIsNotNone(quick.run(bits, 12))
-        self.assertIsNone(quick.run(bits, 16))
+        self.assertIsNotNone(run_in_room(LIFE, bits, 12))
+        self.assertIsNone(run_in_room(LIFE, bits, 16))
         # This object, which has two codes here, is two blocks far apart in the same two rows.
         for code in ("xs8_33yy33", "xs8_33yy33z0"):
             self.assertEqual(
@@ -193,34 +193,13 @@ class Quick(unittest.TestCase):
     def test_clusters_in_some_phases(self) -> None:
         """A blocker is a cluster in two of its eight phases. It is a part whichever phase is the
         first. Coe's p8 is several clusters in each phase, so it isn't a part."""
-        quick = QuickSeparator(LIFE)
-        self.assertIsNotNone(quick.run_part(read_bitmap("33") or 0, 1))
-        bits = read_bitmap("g3jgz1ut") or 0
-        for phase in (quick.run(bits, 8) or [])[:-1]:
-            self.assertIsNotNone(quick.run_part(bitmaps.shift_to_corner(phase), 8))
-        code = find_code_of_name("Coe's p8") or ""
-        bits = read_bitmap(code.partition("_")[2]) or 0
-        self.assertIsNotNone(quick.run(bits, 8))
-        self.assertIsNone(quick.run_part(bits, 8))
-
-    def test_each_condition_of_a_block(self) -> None:
-        """Each island of a bi-block meets the conditions, and so do both islands together. If the
-        object lacks one cell of an island, the other three don't meet the conditions, since they
-        become four cells, one of which isn't in the object. Two cells that die don't recur with the
-        object."""
-        two = read_bitmap("rr") or 0
-        blocks = QuickBlocks(LIFE, [two, two], bitmaps.find_islands([two]))
-        one = blocks.islands[0]
-        self.assertEqual(blocks.run_alone(one), [one, one])
-        self.assertEqual(blocks.run_alone(two), [two, two])
-        corner = one & -one
-        less = QuickBlocks(LIFE, [two & ~corner, two & ~corner], [])
-        self.assertIsNone(less.run_alone(one & ~corner))
-        self.assertIsNone(QuickBlocks(LIFE, [one, one << 1], []).run_alone(one & two << 1))
-        # In a separation, each cell of the object is in exactly one block.
-        self.assertTrue(is_separation([two], [[one], [two & ~one]]))
-        for wrong in ([[one], [two]], [[one]], [[one], [one]], [[one | corner << 9], [two & ~one]]):
-            self.assertFalse(is_separation([two], wrong))
+        blocker = run_in_room(LIFE, read_bitmap("g3jgz1ut") or 0, 8) or []
+        for phase in blocker[:-1]:
+            run = run_in_room(LIFE, bitmaps.shift_to_corner(phase), 8) or []
+            self.assertEqual(Separations(BITS, LIFE, run).run_alone(run[0]), run)
+        run = run_quickly(LIFE, find_code_of_name("Coe's p8") or "") or []
+        self.assertEqual(len(run), 9)
+        self.assertIsNone(Separations(BITS, LIFE, run).run_alone(run[0]))
 
     def test_moved_islands(self) -> None:
         """Two gliders in a row are parts. A glider and its mirror image don't recur together, so

@@ -421,12 +421,9 @@ class Golly(unittest.TestCase):
         self.assertGreater(tried, 20)
 
     def test_objects(self) -> None:
-        for code in (
-            "xs4_33",
-            "xq4_153",
-            "xp15_4r4z4r4",
-            "xp3_co9nas0san9oczgoldlo0oldlogz1047210127401",
-        ):
+        for (
+            code
+        ) in "xs4_33 xq4_153 xp15_4r4z4r4 xp3_co9nas0san9oczgoldlo0oldlogz1047210127401".split():
             shown = census("show", code)
             written = run("rle", text=shown)[1]
             self.assertEqual(

@@ -18,7 +18,7 @@ from unittest.mock import patch
 
 from haul.census.background import BackgroundProgram, BackgroundTake, StreamWaiter
 from haul.census.client import count_processors
-from haul.census.starters import LAUNCH_CENSUS
+from haul.census.launcher import CENSUS as LAUNCH_CENSUS
 from haul.cli.parser import parse_arguments
 from haul.formats.haul import NUMBER_LIMIT, Haul
 from haul.formats.haul_reader import read_one_haul
@@ -47,14 +47,7 @@ class Soups(Searches):
         self.assertEqual(self.search("--seed", "", "--first", "7", "--until", "30"), (0, "", ""))
         self.assertEqual(self.file.read_bytes(), census("take", "--first", "7", "--count", "30"))
         self.file.unlink()
-        words = [
-            "--seed=-a",
-            "--rule=b36s23",
-            "--period=3",
-            "--horizon=20",
-            "--stride=50",
-            "--limit=500",
-        ]
+        words = "--seed=-a --rule=b36s23 --period=3 --horizon=20 --stride=50 --limit=500".split()
         self.assertEqual(
             self.search(*words, "--until", "30", "--batch", "11", "--workers", "2")[0], 0
         )
@@ -216,8 +209,9 @@ class Refusals(Searches):
 
     def test_no_regular_file(self) -> None:
         os.mkfifo(self.folder / "pipe")
-        for name in ("/dev/null", "pipe", "."):
+        for name in ("/dev/null", "pipe"):
             self.refused(3, f"{name}: not a regular file", file=name)
+        self.refused(3, ".: this is a folder; give the name of a file in it", file=".")
         self.assert_left("pipe")
         self.refused(5, "none/mine.haul.lock: No such file or directory", file="none/mine.haul")
         self.assertFalse(os.path.exists("/dev/null.lock"))

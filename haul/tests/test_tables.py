@@ -18,13 +18,12 @@ from types import FrameType
 from typing import Any
 from unittest.mock import patch
 
-from haul.formats.haul import Haul, Job
-from haul.formats.profile import Profile
 from haul.rarity.reference import find_dispersion
 from haul.statistics.equal_rates import compute_p_value
 from haul.statistics.incomplete_functions import compute_gamma_tail
 from haul.statistics.intervals import find_dispersed_interval, find_interval
 from haul.tests.called import call, read_terminal, run
+from haul.tests.made import QUICK_JOB, make_haul
 from haul.views.compare import letter_hauls
 from haul.views.layout import format_figure
 from haul.views.rates import compute_rate
@@ -463,48 +462,18 @@ in A alone: xq4_153 xs8_rr; in B alone: xp15_4r4z4r4
                 str.split, self.printed("compare", "--intervals", "a", "b").splitlines()[4:-2]
             )
         }
-        self.assertEqual(
-            rows["code"],
-            [
+        for code, row in (
+            (
                 "code",
-                "total_a",
-                "per_million_a",
-                "interval_a",
-                "total_b",
-                "per_million_b",
-                "interval_b",
-                "b_to_a",
-                "name",
-            ],
-        )
-        self.assertEqual(
-            rows["xp2_7"],
-            [
+                "code total_a per_million_a interval_a total_b per_million_b interval_b b_to_a name",
+            ),
+            (
                 "xp2_7",
-                "20",
-                "20000.00",
-                "~12216.52..30888.38",
-                "2",
-                "4000.00",
-                "~484.42..14449.38",
-                "0.20",
-                "blinker",
-            ],
-        )
-        self.assertEqual(
-            rows["xq4_153"],
-            [
-                "xq4_153",
-                "3",
-                "3000.00",
-                "~618.67..8767.27",
-                "0",
-                "0.00",
-                "~0.00..7377.76",
-                "0.00",
-                "glider",
-            ],
-        )
+                "xp2_7 20 20000.00 ~12216.52..30888.38 2 4000.00 ~484.42..14449.38 0.20 blinker",
+            ),
+            ("xq4_153", "xq4_153 3 3000.00 ~618.67..8767.27 0 0.00 ~0.00..7377.76 0.00 glider"),
+        ):
+            self.assertEqual(rows[code], row.split())
         self.assertEqual([code for code, row in rows.items() if row[6].endswith("*")], [])
 
     def test_stars(self) -> None:
@@ -686,17 +655,7 @@ in A alone: xq4_153 xs8_rr; in B alone: xp15_4r4z4r4
         self.assertEqual(
             [
                 block[head]
-                for head in (
-                    "name",
-                    "rule_b",
-                    "soups_b",
-                    "total_b",
-                    "per_million_b",
-                    "ratio_b",
-                    "differs_b",
-                    "differs_c",
-                    "ratio_a",
-                )
+                for head in "name rule_b soups_b total_b per_million_b ratio_b differs_b differs_c ratio_a".split()
             ],
             ["block", "b36s23", "500", "1000", "2000000.0", "4.0", "", "", ""],
         )
@@ -708,33 +667,11 @@ in A alone: xq4_153 xs8_rr; in B alone: xp15_4r4z4r4
             ("a", ["x", "b3s23", "64,512,101,30300", "1000", "1", "2", "524"]),
             ("b", ["x", "b36s23", "64,512,101,30300", "500", "1", "2", "1006"]),
         ):
+            names = "seed rule profile soups unsettled for_good objects".split()
             for row in rows.values():
-                self.assertEqual(
-                    [
-                        row[f"{name}_{letter}"]
-                        for name in (
-                            "seed",
-                            "rule",
-                            "profile",
-                            "soups",
-                            "unsettled",
-                            "for_good",
-                            "objects",
-                        )
-                    ],
-                    facts,
-                )
-        self.assertEqual(
-            {code: row["alone"] for code, row in rows.items()},
-            {
-                "xs4_33": "",
-                "xp2_7": "",
-                "xq4_153": "A",
-                "xs8_rr": "A",
-                "xp15_4r4z4r4": "B",
-                "ov_p123": "C",
-            },
-        )
+                self.assertEqual([row[f"{name}_{letter}"] for name in names], facts)
+        alone = dict(xq4_153="A", xs8_rr="A", xp15_4r4z4r4="B", ov_p123="C")
+        self.assertEqual({code: row["alone"] for code, row in rows.items() if row["alone"]}, alone)
 
     def test_json(self) -> None:
         told = json.loads(self.printed("compare", "--json", "a", "b", "c"))
@@ -772,15 +709,7 @@ in A alone: xq4_153 xs8_rr; in B alone: xp15_4r4z4r4
 
     def test_none_vanishes(self) -> None:
         """Sixteen hauls have sixteen letters. There is no letter for a seventeenth haul."""
-        none = Haul(
-            Job("", "b3s23", Profile(1, 1, 1, 0)),
-            ranges=[],
-            soups=0,
-            unsettled=0,
-            for_good=0,
-            totals={},
-            samples={},
-        )
+        none = make_haul(ranges=[], job=QUICK_JOB)
         self.assertEqual(
             "".join(letter for letter, _ in letter_hauls([none] * 16)), "ABCDEFGHIJKLMNOP"
         )

@@ -8,11 +8,14 @@ import subprocess
 import sys
 import time
 from pathlib import Path
-from unittest.mock import patch
+from unittest.mock import Mock, patch
 
+from haul.hauls.join import Joining
 from haul.search import unreported
+from haul.search.finds_file import FindsFile
+from haul.search.side_file import SideFile
 from haul.tests.called import CENSUS, HAUL, census
-from haul.tests.searching import CLOCK, CLOCK_SOUP, Searches
+from haul.tests.searching import CLOCK, CLOCK_SOUP, QUICK, Searches
 
 # The 700 soups from 23000 on leave three finds. The second find is a clock.
 WORDS = ["--seed=", "--first=23000", "--rarer=10000"]
@@ -163,6 +166,47 @@ class AfterAKill(UnreportedFinds):
         told |= set(self.told(self.search(*WORDS[:2], "--rarer=10000", "--until=1000")[1]))
         self.assertEqual(told, {"xs12_330f96", CLOCK, "xs20_3lkkl3z32w23"})
         self.assert_right()
+
+
+class Forgetting(UnreportedFinds):
+    def test_what_is_reported_later(self) -> None:
+        """A find that is reported is removed within a second, even if as many others were reported
+        before and came in between."""
+        self.file.write_bytes(census("take", "--count=1", *QUICK))
+        haul = self.haul()
+        joining = Joining()
+        joining.add(haul)
+        finds = [["t", f"code{soup}", "-", str(soup), "command", "-"] for soup in range(4)]
+        finder, reporter = Mock(queue=[], is_silent=False), Mock()
+        file = FindsFile(
+            SideFile(str(self.file), "mine.haul", "finds", self.fail),
+            *(haul.job, joining, finder, reporter),
+        )
+
+        def left(*soups: int) -> None:
+            reporter.list_unreported.return_value = [finds[soup] for soup in soups]
+            reporter.count_unreported.return_value = len(soups)
+
+        with patch("time.monotonic", return_value=100.0) as now:
+            left(0, 1)
+            file.write()
+            file.note_written()
+            left(1)
+            now.return_value = 101.0
+            file.forget_reported()
+            # A late soup comes, and is in the file when the next batch is.
+            left(1, 2)
+            file.file.write(file.write_beside([], []).write())
+            file.note_written()
+            left(2)
+            now.return_value = 101.9
+            file.forget_reported()
+            self.assertEqual(
+                self.told(self.finds.read_text().partition("\n")[2]), ["code1", "code2"]
+            )
+            now.return_value = 102.0
+            file.forget_reported()
+        self.assertEqual(self.told(self.finds.read_text().partition("\n")[2]), ["code2"])
 
 
 class Launcher(Searches):

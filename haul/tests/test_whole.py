@@ -12,34 +12,16 @@ import unittest
 from pathlib import Path
 
 from haul.census.command_lines import split_ranges
-from haul.formats.haul import Haul, Job, Range
+from haul.formats.haul import Haul, Range
 from haul.formats.haul_reader import read_one_haul
-from haul.formats.profile import STANDARD, Profile
 from haul.hauls.by_parts import Objects
 from haul.tests.called import QUIET, census, run
 from haul.tests.drawn import any_haul, text_of
+from haul.tests.made import make_haul
 from haul.tests.pages import page, table_of
 from haul.views.compare import Comparison, rank_codes
 
 NOTES = '#!/bin/sh\necho "$@" >> asked\nexit 4\n'
-
-
-def made(
-    totals: dict[str, int],
-    ranges: list[Range],
-    profile: Profile = STANDARD,
-    samples: dict[str, list[int]] | None = None,
-) -> Haul:
-    soups = sum(count for _, count in ranges)
-    return Haul(
-        Job("a", "b3s23", profile),
-        ranges=ranges,
-        soups=soups,
-        unsettled=0,
-        for_good=0,
-        totals=dict(sorted(totals.items())),
-        samples=samples or {code: [ranges[0][0]] for code in sorted(totals)},
-    )
 
 
 def drawn(path: str) -> set[tuple[int, int]]:
@@ -75,14 +57,14 @@ class Codes(unittest.TestCase):
         for length in (1, 2, 99, 100, 101, 255, 256, 299, 300, 301, 399, 400):
             with self.subTest(length=length):
                 code = "x" * length
-                text = text_of(made({code: 3}, [(2**40 - 3, 3)], samples={code: numbers}))
+                text = text_of(make_haul({code: 3}, [(2**40 - 3, 3)], samples={code: numbers}))
                 self.assertEqual(run("join", text=text.encode()), (0, text, ""))
                 # The second haul also has a large total and a second range.
                 text = text_of(
-                    made({code: 2**63}, [(0, 1), (2**40 - 3, 3)], samples={code: numbers})
+                    make_haul({code: 2**63}, [(0, 1), (2**40 - 3, 3)], samples={code: numbers})
                 )
                 self.assertEqual(run("join", text=text.encode()), (0, text, ""))
-        text = text_of(made({"x" * 401: 3}, [(0, 3)]))
+        text = text_of(make_haul({"x" * 401: 3}, [(0, 3)]))
         self.assertEqual(
             run("join", text=text.encode()), (3, "", "haul: bad haul at line 13 column 1\n")
         )
@@ -102,7 +84,7 @@ class Codes(unittest.TestCase):
                 known = {code: 2 + k for k, code in enumerate(codes)}
                 rows = table_of(
                     page(
-                        made(
+                        make_haul(
                             known,
                             [(0, 300)],
                             samples={code: [k] for k, code in enumerate(sorted(codes))},
@@ -185,7 +167,7 @@ class Checks(unittest.TestCase):
             (("--workers=16",), 16),
         ):
             self.assertEqual(
-                self.asked(made({"xs4_33": 1}, [(5, 7)]), *words),
+                self.asked(make_haul({"xs4_33": 1}, [(5, 7)]), *words),
                 [
                     f"take --seed=a --rule=b3s23 --period=64 --horizon=512 --stride=101 --limit=30300 --first=5 --count=7 --workers={workers}"
                 ],
@@ -194,7 +176,7 @@ class Checks(unittest.TestCase):
     def test_no_call_is_too_large(self) -> None:
         """A call of `census take` has at most 2^24 soups and 2,000 ranges."""
         self.assertIn(
-            "--first=5 --count=16777216 ", self.asked(made({"xs4_33": 1}, [(5, 2**25)]))[0]
+            "--first=5 --count=16777216 ", self.asked(make_haul({"xs4_33": 1}, [(5, 2**25)]))[0]
         )
         self.assertEqual(
             [len(piece) for piece in split_ranges([(3 * k, 1) for k in range(4001)])],
@@ -207,31 +189,25 @@ class Checks(unittest.TestCase):
 
 class Joins(unittest.TestCase):
     def test_each_number(self) -> None:
-        one = Haul(
-            Job("a", "b3s23", STANDARD),
-            ranges=[(0, 10)],
-            soups=10,
+        one = make_haul(
+            {"xs4_33": 5, "xs5_253": 7},
+            [(0, 10)],
             unsettled=2,
             for_good=3,
-            totals={"xs4_33": 5, "xs5_253": 7},
             samples={"xs4_33": [1, 4, 9], "xs5_253": [2]},
         )
-        other = Haul(
-            Job("a", "b3s23", STANDARD),
-            ranges=[(20, 10)],
-            soups=10,
+        other = make_haul(
+            {"xp2_7": 1, "xs5_253": 8},
+            [(20, 10)],
             unsettled=4,
             for_good=5,
-            totals={"xp2_7": 1, "xs5_253": 8},
             samples={"xp2_7": [20], "xs5_253": [21, 22, 29]},
         )
-        both = Haul(
-            Job("a", "b3s23", STANDARD),
-            ranges=[(0, 10), (20, 10)],
-            soups=20,
+        both = make_haul(
+            {"xp2_7": 1, "xs4_33": 5, "xs5_253": 15},
+            [(0, 10), (20, 10)],
             unsettled=6,
             for_good=8,
-            totals={"xp2_7": 1, "xs4_33": 5, "xs5_253": 15},
             samples={"xp2_7": [20], "xs4_33": [1, 4, 9], "xs5_253": [2, 21, 22]},
         )
         for parts in ((one, other), (other, one)):
@@ -244,15 +220,7 @@ class Joins(unittest.TestCase):
         them."""
 
         def part(ranges: list[Range], numbers: list[int]) -> Haul:
-            return Haul(
-                Job("a", "b3s23", STANDARD),
-                ranges=ranges,
-                soups=sum(count for _, count in ranges),
-                unsettled=0,
-                for_good=0,
-                totals={"xs4_33": 9},
-                samples={"xs4_33": numbers},
-            )
+            return make_haul({"xs4_33": 9}, ranges, samples={"xs4_33": numbers})
 
         for number, least in ((6, [1, 4, 6]), (7, [1, 4, 7]), (15, [1, 4, 12])):
             parts = [part([(0, 5), (10, 5)], [1, 4, 12]), part([(6, 2), (15, 1)], [number])]
@@ -263,7 +231,7 @@ class Joins(unittest.TestCase):
     def test_the_first_of_several_bad_files(self) -> None:
         with tempfile.TemporaryDirectory() as folder:
             good, bad, worse = (os.path.join(folder, name) for name in ("good", "bad", "worse"))
-            Path(good).write_text(text_of(made({"xs4_33": 1}, [(5, 7)])))
+            Path(good).write_text(text_of(make_haul({"xs4_33": 1}, [(5, 7)])))
             Path(bad).write_text("@VERSION 2\n@ROOT sed=\n")
             Path(worse).write_text("@VERSION 1\n")
             self.assertEqual(
@@ -318,8 +286,8 @@ class Compares(unittest.TestCase):
     def test_order(self) -> None:
         """Codes are ordered by the higher of their two rates. In a haul without the code, the rate
         is 0. Codes with equal rates are in ASCII order."""
-        one = made({"xs4_33": 5, "xs5_253": 1, "xq4_153": 1}, [(0, 10)])
-        other = made({"xs4_33": 30, "xp2_7": 4, "xs6_696": 3, "xs8_rr": 99}, [(0, 1000)])
+        one = make_haul({"xs4_33": 5, "xs5_253": 1, "xq4_153": 1}, [(0, 10)])
+        other = make_haul({"xs4_33": 30, "xp2_7": 4, "xs6_696": 3, "xs8_rr": 99}, [(0, 1000)])
         for pair in ([one, other], [other, one]):
             # The rates are 5 in 10, then 1 in 10 twice, 99 in 1,000, 4 in 1,000, and 3 in 1,000.
             self.assertEqual(
@@ -333,8 +301,8 @@ class Compares(unittest.TestCase):
     def test_more_soups_than_a_thousand(self) -> None:
         with tempfile.TemporaryDirectory() as folder:
             names = [os.path.join(folder, name) for name in "ab"]
-            Path(names[0]).write_text(text_of(made({"xs4_33": 2, "xp2_7": 50}, [(0, 4000)])))
-            Path(names[1]).write_text(text_of(made({"xs4_33": 3, "xp2_7": 5}, [(0, 1001)])))
+            Path(names[0]).write_text(text_of(make_haul({"xs4_33": 2, "xp2_7": 50}, [(0, 4000)])))
+            Path(names[1]).write_text(text_of(make_haul({"xs4_33": 3, "xp2_7": 5}, [(0, 1001)])))
             rows = [
                 line.split() for line in run("compare", "--whole", *names)[1].splitlines()[5:-1]
             ]

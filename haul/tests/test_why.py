@@ -323,6 +323,12 @@ class Told(unittest.TestCase):
             else:
                 self.assertEqual(found, told)
 
+    def test_a_pattern_that_grows_is_not_taken_apart(self) -> None:
+        with patch("haul.fates.inquiry.look_for_rest") as looked:
+            told = why_pattern(GUN, "--limit=1010")
+        self.assertEqual(told, "linear growth: +5 cells in 30 generations (Gosper glider gun)")
+        looked.assert_not_called()
+
     def test_it_settles_after_the_limit(self) -> None:
         """A blocker is one cluster in two of its eight phases, and two clusters in the others. With
         a limit of 0, it settles in generation 0 if it begins in one of those two phases, otherwise

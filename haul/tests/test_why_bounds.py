@@ -13,6 +13,7 @@ from unittest.mock import patch
 
 from haul.census.bounded import BoundedCensus, Bounds, Undecided
 from haul.census.children import children
+from haul.cli.why_command import MORE_TIME
 from haul.fates import inquiry, sizes
 from haul.fates.sizes import Size, Sizes
 from haul.tests.called import CENSUS, census_of, make_client, run
@@ -48,7 +49,8 @@ class Time(WithStub):
             begin = time.monotonic()
             status, output, errors = why_three("--soup-seconds=1", census=self.stub(script))
             self.assertEqual(
-                (status, output, errors), (0, "- not decided: no answer in 1 second\n", "")
+                (status, output, errors),
+                (0, "- not decided: no answer in 1 second\n", f"haul: {MORE_TIME}\n"),
             )
             self.assertLess(time.monotonic() - begin, 10)
             self.assertEqual(children.running, [])
