@@ -197,9 +197,12 @@ class Forgetting(UnreportedFinds):
         with patch("time.monotonic", side_effect=[100.0, 100.02]):
             file.forget_reported()
         self.assertEqual(kept(), ["code1"])
-        # A late soup comes, and is in the file when the next batch is.
+        # The next batch has a late soup. The file has it before it is reported, and says that the
+        # batch hasn't been examined.
+        file.file.write(file.write_beside([(7, [("xs4_33", 8)])], [finds[2]]).write())
+        self.assertEqual(kept(), ["code1", "code2"])
+        self.assertIn("# finds 2 since 7 ", self.finds.read_text())
         left(1, 2)
-        file.file.write(file.write_beside([], []).write())
         file.note_written()
         left(2)
         for now, codes in ((100.39, ["code1", "code2"]), (100.4, ["code2"])):
