@@ -134,15 +134,21 @@ def check_apgsearch_haul(
         )
     try:
         check = ApgsearchCheck(Census(asked.census, streams.terminal, asked.workers), haul)
+        began = time.monotonic()
         if asked.totals:
-            return shorten(check.find_other_totals(asked.first or 0)) or [RIGHT]
-        for reason, codes in check.list_unchecked().items():
-            streams.terminal.complain(
-                f"{format_place(name)}not checked, since {reason}: {' '.join(codes)}"
-            )
-        return shorten(check.find_wrong_samples()) or [RIGHT]
+            wrong = shorten(check.find_other_totals(asked.first or 0))
+            soups = write_count(haul.soups, "soup")
+        else:
+            for reason, codes in check.list_unchecked().items():
+                streams.terminal.complain(
+                    f"{format_place(name)}not checked, since {reason}: {' '.join(codes)}"
+                )
+            wrong = shorten(check.find_wrong_samples())
+            soups = write_count(count_samples(check.choose_known()), "sample soup")
     except CantCheck as why:
         raise Refused(f"{format_place(name)}{why}") from None
+    streams.terminal.complain(f"{format_place(name)}{describe_run(soups, haul.job, began)}")
+    return wrong or [RIGHT]
 
 
 def run_index(asked: argparse.Namespace, streams: Streams) -> int:
@@ -166,8 +172,12 @@ def run_index_check(asked: argparse.Namespace, streams: Streams) -> int:
         except BadHaul as bad:
             raise Refused(f"{format_place(name)}{bad}") from None
     if hauls:
+        began = time.monotonic()
         # All hauls are read before the first line is printed.
-        return report(list(compare_hauls(streams, index, hauls)), streams)
+        compared = list(compare_hauls(streams, index, hauls))
+        what = f"{write_count(len(hauls), 'haul')} compared with the index, and no soup"
+        streams.terminal.complain(describe_run(what, index.job, began))
+        return report(compared, streams)
     pieces = list(index.pieces)
     if asked.random is not None:
         if asked.random > len(pieces):

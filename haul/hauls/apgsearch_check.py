@@ -48,19 +48,24 @@ class ApgsearchCheck:
     def find_wrong_samples(self) -> Iterator[str]:
         """Yields a message for each sample whose soup leaves no part with the sample's code. Skips
         the codes that `list_unchecked` returns."""
-        samples = {
-            code: numbers for code, numbers in self.haul.samples.items() if self.is_known(code)
-        }
-        left = find_codes_left(self.census, replace(self.haul, samples=samples))
+        known = self.choose_known()
+        left = find_codes_left(self.census, known)
         separator = Separator(self.rule)
         parts = {
             number: {part for code in codes for part in separator.separate(code).parts}
             for number, codes in left.items()
         }
-        for code, numbers in samples.items():
+        for code, numbers in known.samples.items():
             for number in numbers:
                 if code not in parts[number]:
                     yield f"{code}: soup {number} leaves no such part"
+
+    def choose_known(self) -> Haul:
+        """Returns the haul with only the samples that can be checked."""
+        samples = {
+            code: numbers for code, numbers in self.haul.samples.items() if self.is_known(code)
+        }
+        return replace(self.haul, samples=samples)
 
     def list_unchecked(self) -> dict[str, list[str]]:
         """Returns the codes whose samples aren't checked, by the reason."""

@@ -15,8 +15,9 @@ from haul.search.reporter import Reporter
 from haul.search.side_file import SideFile
 from haul.search.unreported import Unreported
 
-# The time between two removals of finds from FILE.finds.
-SECONDS_BETWEEN_FORGETTING = 1.0
+# At most a twentieth of the time is spent on removing finds from FILE.finds. But they are removed
+# at least every second.
+SHARE_OF_FORGETTING, MOST_SECONDS_UNTIL_FORGOTTEN = 20, 1.0
 # The first soup of a batch, and the batch's new codes, each with its lowest soup.
 NewOfBatch = tuple[int, list[tuple[str, int]]]
 
@@ -29,7 +30,8 @@ class FindsFile:
     ) -> None:
         self.file, self.job, self.joining = file, job, joining
         self.finder, self.reporter = finder, reporter
-        self.written_at = time.monotonic()
+        # When reported finds may be removed again.
+        self.due = 0.0
         # What was left to report when the file was last written.
         self.left_in_file = 0, 0
 
@@ -56,20 +58,22 @@ class FindsFile:
 
     def note_written(self) -> None:
         """Notes that the file says what is left to report now."""
-        self.left_in_file = len(self.finder.queue), self.reporter.count_unreported()
-        self.written_at = time.monotonic()
+        self.left_in_file = self.count_left()
+
+    def count_left(self) -> tuple[int, int]:
+        return len(self.finder.queue), self.reporter.count_unreported()
 
     def forget_reported(self) -> None:
         """Removes what has been reported from the file, so that little is reported twice if this
-        program is killed. Does this at most once per second, and again later if it fails."""
-        if (
-            self.file.known is not None
-            and time.monotonic() - self.written_at >= SECONDS_BETWEEN_FORGETTING
-            and self.left_in_file != (len(self.finder.queue), self.reporter.count_unreported())
-        ):
-            self.note_written()
-            with suppress(OSError):
-                self.write()
+        program is killed. Does this again later if it fails."""
+        began = time.monotonic()
+        if self.file.known is None or self.left_in_file == self.count_left() or began < self.due:
+            return
+        self.note_written()
+        with suppress(OSError):
+            self.write()
+        took = time.monotonic() - began
+        self.due = began + min(took * SHARE_OF_FORGETTING, MOST_SECONDS_UNTIL_FORGOTTEN)
 
     def write(self) -> None:
         """Writes the file beside FILE, or removes it if everything has been reported."""

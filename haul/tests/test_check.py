@@ -18,6 +18,7 @@ from haul.cli.parser import parse_arguments
 from haul.hauls.file_choice import FileChoice, compute_chance_to_miss, count_wrong_files
 from haul.tests.called import CENSUS, HAUL, census, drop_summaries, run
 from haul.tests.searching import QUICK
+from haul.tests.test_killed import APGSEARCH
 
 MISSING = "haul with missing soups, which can't be taken again; --samples runs its sample soups"
 
@@ -47,6 +48,23 @@ class WhatIsSaid(unittest.TestCase):
         status, output, errors = self.check(text, "--samples")
         self.assertEqual((status, output), (0, ["right"]))
         self.assertRegex(errors, r"^haul: [0-9]+ sample soups run under b36s23 in [0-9.]+ s\n$")
+
+    def test_what_was_run_of_other_hauls(self) -> None:
+        """A haul of apgsearch, and a haul that is compared with an index."""
+        text = census("take", "--count=8").decode()
+        index = run("index", text=text.encode())[1]
+        with tempfile.TemporaryDirectory() as folder:
+            for name, some in (("haul", text), ("index", index), ("apgsearch", APGSEARCH)):
+                Path(folder, name).write_text(some)
+            for words, told in (
+                (["--samples", f"{folder}/apgsearch"], "3 sample soups"),
+                (["--totals", f"{folder}/apgsearch"], "10 soups"),
+                (
+                    [f"{folder}/index", f"{folder}/haul"],
+                    "1 haul compared with the index, and no soup",
+                ),
+            ):
+                self.assertIn(f"{told} run under b3s23 in ", self.check("", *words)[2])
 
     def test_workers(self) -> None:
         """Without `--workers`, there are as many as processors. A census has at most sixteen."""

@@ -187,26 +187,28 @@ class Forgetting(UnreportedFinds):
             reporter.list_unreported.return_value = [finds[soup] for soup in soups]
             reporter.count_unreported.return_value = len(soups)
 
-        with patch("time.monotonic", return_value=100.0) as now:
-            left(0, 1)
-            file.write()
-            file.note_written()
-            left(1)
-            now.return_value = 101.0
+        def kept() -> list[str]:
+            return self.told(self.finds.read_text().partition("\n")[2])
+
+        left(0, 1)
+        file.write()
+        file.note_written()
+        left(1)
+        with patch("time.monotonic", side_effect=[100.0, 100.02]):
             file.forget_reported()
-            # A late soup comes, and is in the file when the next batch is.
-            left(1, 2)
-            file.file.write(file.write_beside([], []).write())
-            file.note_written()
-            left(2)
-            now.return_value = 101.9
-            file.forget_reported()
-            self.assertEqual(
-                self.told(self.finds.read_text().partition("\n")[2]), ["code1", "code2"]
-            )
-            now.return_value = 102.0
-            file.forget_reported()
-        self.assertEqual(self.told(self.finds.read_text().partition("\n")[2]), ["code2"])
+        self.assertEqual(kept(), ["code1"])
+        # The next batch has a late soup. The file has it before it is reported, and says that the
+        # batch hasn't been examined.
+        file.file.write(file.write_beside([(7, [("xs4_33", 8)])], [finds[2]]).write())
+        self.assertEqual(kept(), ["code1", "code2"])
+        self.assertIn("# finds 2 since 7 ", self.finds.read_text())
+        left(1, 2)
+        file.note_written()
+        left(2)
+        for now, codes in ((100.39, ["code1", "code2"]), (100.4, ["code2"])):
+            with patch("time.monotonic", return_value=now):
+                file.forget_reported()
+            self.assertEqual(kept(), codes)
 
 
 class Launcher(Searches):
