@@ -13,6 +13,7 @@ from haul.cli.statuses import DONE, USAGE
 from haul.cli.streams import Refused, Streams, format_place
 from haul.cli.values import describe_unknown, find_code
 from haul.fates.explain import TooLate
+from haul.fates.reference import find_fate_name
 from haul.fates.rows import FateRow, count_kept_fates, is_missing
 from haul.formats.field_reader import BadHaul
 from haul.formats.haul import Haul
@@ -40,7 +41,7 @@ from haul.search.stopping import Stopping
 from haul.terminal import Terminal, find_output_width
 from haul.views.compare import Comparison, rank_codes
 from haul.views.fate_rows import format_compared_fates, format_fate_rows, list_fate_facts
-from haul.views.rarity import describe_rarity
+from haul.views.rarity import describe_fate, describe_rarity
 from haul.views.settling import Settling
 from haul.views.soup_lists import Leaving, Longest, SoupList, Unsettled
 from haul.views.table import (
@@ -153,13 +154,16 @@ def run_rarity(asked: argparse.Namespace, streams: Streams) -> int:
     status = DONE
     for text in asked.objects:
         code, famous = find_code_of_name(text) or find_code(text), find_famous(text)
+        fate = find_fate_name(text)
         if famous is not None:
             streams.write_lines([f"{famous.name}: {famous.describe()}"])
-        elif code is None:
+        elif code is None and fate is None:
             streams.terminal.complain(describe_unknown(text))
             status = USAGE
-        else:
+        elif code is not None:
             streams.write_lines(describe_rarity(separator, code))
+        if fate is not None:
+            streams.write_lines([describe_fate(fate)])
     return status
 
 
