@@ -11,7 +11,7 @@ _haul() {
     # After an option that takes a value, only its values are proposed.
     case $before in
         =) return ;;
-        --until | --batch | --workers | --soup-seconds | --late | --rarer | --want | --seed | --first | --rule | --period | --horizon | --stride | --limit | --random | --choice | --least | --top | --kind | --add | --remove | --symmetry | --play | --lives | --separate | --longest | --code | --pattern | --most) return ;;
+        --until | --batch | --workers | --soup-seconds | --late | --rarer | --want | --seed | --first | --rule | --period | --horizon | --stride | --limit | --random | --choice | --least | --lives | --top | --kind | --add | --remove | --symmetry | --play | --separate | --longest | --code | --pattern | --keep | --most) return ;;
         --per)
             mapfile -t COMPREPLY < <(compgen -W 'million soup' -- "$word")
             return
@@ -26,15 +26,15 @@ _haul() {
         check) options='--workers --samples --totals --first --random --choice --census --help' ;;
         index) options='--help' ;;
         join) options='--help' ;;
-        compare) options='--least --intervals --per --rare --parts --whole --csv --json --no-data --help' ;;
-        table) options='--top --rare --kind --period --want --strict --parts --whole --csv --json --no-data --help' ;;
+        compare) options='--least --intervals --per --rare --lives --parts --whole --csv --json --no-data --help' ;;
+        table) options='--top --rare --kind --period --want --lives --strict --parts --whole --csv --json --no-data --help' ;;
         rarity) options='--no-data --help' ;;
         names) options='--add --remove --list --verbose --workers --census --help' ;;
         known) options='--add --remove --list --rule --symmetry --help' ;;
         page) options='--least --play --lives --workers --census --no-data --help' ;;
         soup) options='--rle --separate --help' ;;
         soups) options='--longest --unsettled --code --why --exact --csv --json --workers --census --no-data --help' ;;
-        why) options='--seed --rule --period --horizon --stride --limit --pattern --plane --most --soup-seconds --csv --json --workers --census --help' ;;
+        why) options='--seed --rule --period --horizon --stride --limit --pattern --plane --keep --kinds --most --soup-seconds --csv --json --workers --census --help' ;;
         cells) options='--plane --no-data --help' ;;
         rle) options='--rule --no-data --help' ;;
     esac

@@ -107,7 +107,7 @@ def try_telephone(driver: Driver, two: Path) -> None:
 
 def try_columns(driver: Driver, path: Path) -> None:
     """Checks that the dialog has one column at up to 800 points. At 1,400 points, it has two, with
-    the player in the right-hand column.
+    the player below both, so that the picture and the facts stay side by side.
     """
     sides = "return [...document.querySelectorAll('.columns > div')].map(one => one.offsetLeft)"
     for width, columns in ((390, 1), (641, 1), (700, 1), (800, 1), (1400, 2)):
@@ -121,9 +121,10 @@ def try_columns(driver: Driver, path: Path) -> None:
         )
         count.holds(f"which has no more than its width: {width}", browser.is_narrow(driver))
     count.holds(
-        "the player is in the right column",
+        "the player is below both columns, and as wide as both",
         driver.execute_script(
-            "return document.querySelector('.player').getBoundingClientRect().left > document.querySelector('.frame').getBoundingClientRect().right"
+            "const [player, frame, facts] = ['.player', '.frame', '.facts'].map(one => document.querySelector(one).getBoundingClientRect());"
+            "return player.top >= Math.max(frame.bottom, facts.bottom) && player.width > frame.width + facts.width"
         ),
     )
 

@@ -3,6 +3,7 @@
 from __future__ import annotations
 
 import argparse
+import shlex
 from contextlib import suppress
 
 from haul.census.children import children
@@ -12,10 +13,13 @@ from haul.cli.statuses import DONE, USAGE
 from haul.cli.streams import Refused, Streams, format_place
 from haul.cli.values import describe_unknown, find_code
 from haul.fates.explain import TooLate
+from haul.fates.reference import find_fate_name
+from haul.fates.rows import FateRow, count_kept_fates, is_missing
 from haul.formats.field_reader import BadHaul
 from haul.formats.haul import Haul
 from haul.formats.haul_reader import read_hauls
 from haul.formats.haul_writer import format_haul
+from haul.formats.late_file import Late
 from haul.formats.report_files import Reports
 from haul.hauls.by_parts import Objects
 from haul.hauls.join import CantJoin, Joining
@@ -27,6 +31,7 @@ from haul.names.objects import find_code_of_name, load_names
 from haul.page.document import make_page
 from haul.page.lives import Lives, find_lives
 from haul.patterns.rules import LIFE
+from haul.plurals import pluralize, write_count
 from haul.rarity.reference import is_covered
 from haul.search.batches import Plan
 from haul.search.haul_file import CantUseFile
@@ -35,7 +40,8 @@ from haul.search.search import Dropped, Search
 from haul.search.stopping import Stopping
 from haul.terminal import Terminal, find_output_width
 from haul.views.compare import Comparison, rank_codes
-from haul.views.rarity import describe_rarity
+from haul.views.fate_rows import format_compared_fates, format_fate_rows, list_fate_facts
+from haul.views.rarity import describe_fate, describe_rarity
 from haul.views.settling import Settling
 from haul.views.soup_lists import Leaving, Longest, SoupList, Unsettled
 from haul.views.table import (
@@ -81,13 +87,20 @@ def run_compare(asked: argparse.Namespace, streams: Streams) -> int:
     codes = rank_codes(hauls, asked.least, asked.rare)
     has_intervals = len(hauls) > 2 or asked.intervals or asked.per is not None or asked.rare
     comparison = Comparison(hauls, objects, codes, by_parts, asked.per or "million", has_intervals)
+    fates = [
+        count_kept_fates(read_late_soups(name, streams, one.haul), one.haul.unsettled)
+        for name, one in zip(asked.lives or [], objects)
+    ]
+    width, soups = find_output_width(streams.stdout), [haul.soups for haul in hauls]
     streams.write_lines(
         comparison.csv()
         if asked.csv
-        else comparison.json()
+        else comparison.json([list_fate_facts(*one) for one in zip(fates, soups)])
         if asked.json
-        else comparison.text(find_output_width(streams.stdout))
+        else comparison.text(width)
     )
+    if fates and not asked.json:
+        streams.write_lines(format_compared_fates(fates, hauls, width))
     return DONE
 
 
@@ -119,13 +132,20 @@ def run_table(asked: argparse.Namespace, streams: Streams) -> int:
         has_rarity,
     )
     by_parts = objects if counts_parts else None
+    width = find_output_width(streams.stdout)
+    fates: list[FateRow] = []
+    if asked.lives is not None:
+        late = read_late_soups(asked.lives, streams, objects.haul)
+        fates = count_kept_fates(late, haul.unsettled)
     streams.write_lines(
         format_table_csv(lines, has_rarity, counts_parts)
         if asked.csv
-        else format_table_json(haul, lines, by_parts)
+        else format_table_json(haul, lines, by_parts, fates if asked.lives else None)
         if asked.json
-        else format_table_text(lines, has_rarity, find_output_width(streams.stdout))
+        else format_table_text(lines, has_rarity, width)
     )
+    if fates and not asked.json:
+        streams.write_lines(format_fate_rows(fates, haul.soups, width))
     return DONE
 
 
@@ -134,13 +154,16 @@ def run_rarity(asked: argparse.Namespace, streams: Streams) -> int:
     status = DONE
     for text in asked.objects:
         code, famous = find_code_of_name(text) or find_code(text), find_famous(text)
+        fate = find_fate_name(text)
         if famous is not None:
             streams.write_lines([f"{famous.name}: {famous.describe()}"])
-        elif code is None:
+        elif code is None and fate is None:
             streams.terminal.complain(describe_unknown(text))
             status = USAGE
-        else:
+        elif code is not None:
             streams.write_lines(describe_rarity(separator, code))
+        if fate is not None:
+            streams.write_lines([describe_fate(fate)])
     return status
 
 
@@ -196,6 +219,17 @@ def choose_soup_list(asked: argparse.Namespace, terminal: Terminal) -> SoupList:
     return Leaving(asked.code) if asked.code is not None else SoupList()
 
 
+def tell_missing_fates(late: Late, name: str, streams: Streams) -> None:
+    """Says how many unsettled soups have no fate yet, and how it is found."""
+    missing = sum(map(is_missing, late.lines))
+    if missing:
+        soups = write_count(missing, "unsettled soup")
+        verb = pluralize(missing, "has", "have")
+        streams.terminal.complain(
+            f"{soups} {verb} no fate yet; to find out: haul why --keep {shlex.quote(name)}"
+        )
+
+
 def run_search(asked: argparse.Namespace, streams: Streams) -> int:
     try:
         files = open_files(asked, streams.terminal.complain)
@@ -225,6 +259,8 @@ def run_search(asked: argparse.Namespace, streams: Streams) -> int:
         children.heed(stopping)
         with suppress(Dropped):
             search.run()
+        if files.late is not None:
+            tell_missing_fates(files.late, f"{asked.file}.late", streams)
     except (CantUseFile, Disagrees, CantJoin) as why:
         raise Refused(str(why)) from None
     return DONE

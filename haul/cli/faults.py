@@ -40,6 +40,22 @@ def find_fault_of_index_check(asked: argparse.Namespace) -> str | None:
     return None
 
 
+def find_fault_of_compare(asked: argparse.Namespace) -> str | None:
+    if asked.lives and len(asked.lives) != len((asked.a, asked.b, *asked.more)):
+        return "--lives is given once for each haul, or not at all"
+    if asked.lives and asked.csv:
+        return "--lives doesn't go with --csv, whose rows are objects; `haul why --kinds --csv` has the fates"
+    return None
+
+
+def find_fault_of_table(asked: argparse.Namespace) -> str | None:
+    if asked.lives is not None and asked.csv:
+        return "--lives doesn't go with --csv, whose rows are objects; `haul why --kinds --csv` has the fates"
+    if asked.lives == "-" and asked.file in (None, "-"):
+        return "the haul and --lives can't both be standard input"
+    return None
+
+
 def find_fault_of_page(asked: argparse.Namespace) -> str | None:
     if asked.lives is not None and len(asked.files) > 1:
         return "--lives needs one haul"
@@ -59,7 +75,14 @@ def find_fault_of_why(asked: argparse.Namespace) -> str | None:
     job = [asked.seed, asked.rule, *(getattr(asked, name) for name in STANDARD._fields)]
     has_job = any(value is not None for value in job)
     faults = {
-        "a soup, a FILE or --pattern is needed": not asked.soups and asked.pattern is None,
+        "a soup, a FILE, --pattern or --keep is needed": not asked.soups
+        and asked.pattern is None
+        and asked.keep is None,
+        "--keep FILE.late goes with --soup-seconds, --csv, --json, --workers and --census only": (
+            asked.keep is not None
+            and (bool(asked.soups) or has_job or (asked.pattern, asked.most) != (None, None))
+        ),
+        "--kinds doesn't go with --pattern": asked.kinds and asked.pattern is not None,
         "--pattern doesn't go with soups or a FILE": bool(asked.soups)
         and asked.pattern is not None,
         "--plane needs --pattern": asked.plane and asked.pattern is None,

@@ -3,11 +3,13 @@
 from __future__ import annotations
 
 import argparse
+import os
 from collections.abc import Iterator
+from contextlib import suppress
 
 from haul.census.bounded import SOUP_SECONDS
 from haul.census.client import Census
-from haul.cli.arguments import Argument, Command, option
+from haul.cli.arguments import Argument, Command, flag, option
 from haul.cli.faults import find_fault_of_why
 from haul.cli.late_files import warn_of_lost_lines
 from haul.cli.shared_options import CENSUS, FORMS, PLANE, WORKERS, list_profile_options
@@ -22,8 +24,10 @@ from haul.cli.values import (
     read_within,
 )
 from haul.fates.explain import Fates, TooLate
-from haul.fates.fate import Kind, describe_wrong_line
+from haul.fates.fate import Fate, Kind, describe_wrong_line
+from haul.fates.rows import count_fates, count_kept_fates, find_kept_fate
 from haul.formats.haul import Job
+from haul.formats.late_file import BadLate, is_late_file, read_late
 from haul.formats.profile import STANDARD, Profile
 from haul.formats.recognition import describe_other_form
 from haul.formats.report_files import Reports
@@ -31,7 +35,9 @@ from haul.patterns.coordinates import BadCoordinates, is_coordinates, read_coord
 from haul.patterns.plaintext import SIDE, BadPlaintext, Rows, is_plaintext, read_plaintext
 from haul.patterns.rle import WITHOUT_HISTORY, BadRle, read_rle
 from haul.patterns.rules import LIFE, parse_rule
-from haul.views.why import FateTable
+from haul.search.fate_keeper import FateKeeper
+from haul.search.haul_file import CantUseFile
+from haul.views.why import FateTable, KindTable
 
 # The most soups of a file that are explained, unless `--most` is given.
 USUAL_MOST = 20
@@ -42,6 +48,8 @@ MOST_SECONDS = 86_400
 
 def run_why(asked: argparse.Namespace, streams: Streams) -> int:
     census = Census(asked.census, streams.terminal, asked.workers)
+    if asked.keep is not None:
+        return keep_fates(asked, streams, census)
     try:
         table = (
             explain_pattern(asked, streams, census)
@@ -52,10 +60,38 @@ def run_why(asked: argparse.Namespace, streams: Streams) -> int:
         )
     except TooLate as why:
         raise Refused(str(why)) from None
-    streams.write_lines(table.csv() if asked.csv else table.json() if asked.json else table.text())
+    kinds = KindTable(count_fates((fate for _, fate in table.fates), len(table.fates)))
+    write_table(kinds if asked.kinds else table, asked, streams)
     if any(fate.is_late() for _, fate in table.fates):
         streams.terminal.complain(MORE_TIME)
     return DONE
+
+
+def keep_fates(asked: argparse.Namespace, streams: Streams, census: Census) -> int:
+    """Finds the fates that a FILE.late doesn't have, keeps them there, and counts all of them."""
+    try:
+        keeper = FateKeeper(asked.keep, streams.terminal.complain)
+    except (CantUseFile, BadLate) as why:
+        place = "" if str(why).startswith(asked.keep[: -len(".late")]) else format_place(asked.keep)
+        raise Refused(f"{place}{why}") from None
+    late = keeper.late
+    try:
+        if late.job is not None:
+            for soup, fate in keeper.find_missing(Fates(census, late.job, asked.soup_seconds)):
+                if fate.kind is Kind.SETTLED:
+                    wrong = describe_wrong_line(soup)
+                    streams.terminal.complain(f"{format_place(asked.keep)}{wrong}")
+    except TooLate as why:
+        raise Refused(str(why)) from None
+    finally:
+        keeper.end()
+    rows = count_kept_fates(late, late.count_unsettled())
+    write_table(KindTable(rows), asked, streams)
+    return DONE
+
+
+def write_table(table: FateTable | KindTable, asked: argparse.Namespace, streams: Streams) -> None:
+    streams.write_lines(table.csv() if asked.csv else table.json() if asked.json else table.text())
 
 
 def explain_soups(asked: argparse.Namespace, census: Census) -> FateTable:
@@ -75,13 +111,27 @@ def explain_file(asked: argparse.Namespace, streams: Streams, census: Census) ->
     reports.tell_skipped()
     if reports.job is None:
         return FateTable(None, [])
-    soups = sorted(unsettled)[: USUAL_MOST if asked.most is None else asked.most]
-    fates = Fates(census, reports.job, asked.soup_seconds)
-    found = list(zip(soups, fates.find_all(soups), strict=True))
+    usual = None if asked.kinds else USUAL_MOST
+    soups = sorted(unsettled)[: usual if asked.most is None else asked.most]
+    kept = read_kept_fates(name)
+    missing = [soup for soup in soups if soup not in kept]
+    fates = Fates(census, reports.job, asked.soup_seconds).find_all(missing)
+    kept.update(zip(missing, fates, strict=True))
+    found = [(soup, kept[soup]) for soup in soups]
     for soup, fate in found:
         if fate.kind is Kind.SETTLED:
             streams.terminal.complain(f"{format_place(name)}{describe_wrong_line(soup)}")
     return FateTable(reports.job, found)
+
+
+def read_kept_fates(name: str) -> dict[int, Fate]:
+    """Returns the fates that a FILE.late has. Any other file has none."""
+    if not os.path.isfile(name) or not is_late_file(name):
+        return {}
+    with suppress(BadLate), open(name, "rb") as stream:
+        lines = [(line.soup, find_kept_fate(line)) for line in read_late(stream).lines]
+        return {soup: fate for soup, fate in lines if fate is not None}
+    return {}
 
 
 def explain_pattern(asked: argparse.Namespace, streams: Streams, census: Census) -> FateTable:
@@ -150,6 +200,14 @@ WHY = Command(
             read_path,
         ),
         PLANE,
+        option(
+            "--keep",
+            "FILE.late",
+            "find what became of all unsettled soups in FILE.late, which `haul search` keeps, and "
+            "keep it there; then count the kinds",
+            read_path,
+        ),
+        flag("--kinds", "count the kinds of fates of all soups instead of listing the soups"),
         option(
             "--most",
             "N",

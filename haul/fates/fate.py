@@ -10,7 +10,7 @@ from haul.census.bounded import NO_ANSWER_IN
 from haul.fates.growth import GENERATIONS, MOST_CYCLE, Growth
 from haul.fates.rest import InPieces, Rest
 from haul.fates.sizes import MOST_GENERATIONS, Size
-from haul.names.objects import find_name
+from haul.names.objects import find_own_name
 from haul.plurals import write_count
 
 # Linear growth is looked for in this many generations after the limit.
@@ -77,7 +77,7 @@ def name_period(period: int) -> str:
 def name_object(one: InPieces, count: int) -> str:
     """Returns the code and the name of an object, with the count if there are several."""
     several = f"{count} " if count > 1 else ""
-    name = one.shuttle or find_name(one.code)
+    name = one.shuttle or find_own_name(one.code)
     return f"{several}{one.code}" + (f" ({name})" if name else "")
 
 

@@ -47,8 +47,9 @@ class Inquiry:
             return tell_settled(settled)
         first, *later = sizes = self.sizes().between(limit, limit + LONG_PERIOD)
         cells = self.list_cells(limit)
-        # The groups of a pattern that grows are many, and take long. Groups that recur don't grow.
-        if is_growing(count_all(sizes)) and self.growth and self.growth.cells > 0:
+        # The groups of a pattern that grows are many, and take long. Groups that recur don't grow, so
+        # the order of these two tests doesn't change the answer.
+        if sizes[-1].cells > first.cells and self.growth and self.growth.cells > 0:
             return tell_growth(self.growth, name_engine(self.growth, cells))
         periods = [period for period, size in enumerate(later, 1) if size == first]
         rest = self.work(partial(look_for_rest, rule, cells, self.job.profile, periods))

@@ -13,7 +13,7 @@ from haul.life.cells import read_rle_cells
 from haul.life.field import pack, unpack_all
 from haul.life.generations import Rule, find_recurrence
 from haul.life.groups import split_clusters
-from haul.names.objects import find_name
+from haul.names.objects import find_own_name
 from haul.plurals import pluralize
 
 # A cluster of live cells.
@@ -113,7 +113,7 @@ def name_still_lifes(rule: Rule, clusters: set[Cluster]) -> str:
 
 
 def name_several(code: str, count: int) -> str:
-    name = find_name(code) or code
+    name = find_own_name(code) or code
     if count == 1:
         return f"{'an' if name[0] in 'aeiou' else 'a'} {name}"
     return pluralize(count, name)

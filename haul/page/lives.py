@@ -11,12 +11,15 @@ from haul.census.client import Census
 from haul.census.soup_runs import draw_soup, find_exact_generation
 from haul.fates.explain import Fates
 from haul.fates.fate import Fate, Kind
+from haul.fates.rows import FateRow, count_fates, find_kept_fate
 from haul.formats.haul import Haul, Job
 from haul.formats.late_file import ONLY_UNSETTLED, Late, LateLine
 from haul.formats.report_lines import read_report_line
 from haul.life.drawing import draw_path
 from haul.life.soups import SOUP_SIDE, make_soup
 from haul.plurals import pluralize, write_count
+from haul.rarity.occurrence import Occurrence
+from haul.views.rarity import list_rarity_words
 
 # At most this many of the longest-lived soups are listed, and at most this many unsettled soups.
 MOST_SHOWN = 20
@@ -56,6 +59,9 @@ class Lives:
     late: Late
     longest: list[LongLife] = field(default_factory=list)
     unsettled: list[tuple[int, Fate]] = field(default_factory=list)
+    # The unsettled soups by their fates, and the number of soups of the haul.
+    rows: list[FateRow] = field(default_factory=list)
+    census_soups: int = 0
 
     def soups(self) -> list[int]:
         """Returns the soups that can be played, in the order in which they are listed."""
@@ -90,7 +96,13 @@ def find_lives(census: Census, haul: Haul, late: Late) -> tuple[Lives, list[str]
     fates = Fates(census, haul.job)
     wrong = list(find_exact_ends(fates, lives.longest))
     lives.longest.sort(key=lambda life: (-(life.generation or life.checkpoint), life.soup))
-    lives.unsettled = list(zip(unsettled, fates.find_all(unsettled), strict=True))
+    kept = {line.soup: find_kept_fate(line) for line in late.lines}
+    missing = [soup for soup in unsettled if kept[soup] is None]
+    found = dict(zip(missing, fates.find_all(missing), strict=True))
+    lives.unsettled = [(soup, kept[soup] or found[soup]) for soup in unsettled]
+    known = (kept[line.soup] or found.get(line.soup) for line in late.lines)
+    lives.rows = count_fates(known, haul.unsettled)
+    lives.census_soups = haul.soups
     wrong += [
         f"soup {soup} isn't unsettled: its line is wrong"
         for soup, fate in lives.unsettled
@@ -157,6 +169,8 @@ def write_lives(lives: Lives) -> Iterator[str]:
     """Yields the section, piece by piece."""
     yield '<section id="lives" aria-labelledby="lives-title"><h2 id="lives-title">Long lives</h2>\n'
     yield f"<p>{write_summary(lives)}</p>\n"
+    if lives.rows:
+        yield from write_fate_rows(lives)
     if lives.checkpoints():
         yield from write_chart(lives.checkpoints())
     if lives.longest:
@@ -189,6 +203,23 @@ def write_summary(lives: Lives) -> str:
         were = pluralize(late.left_out, "was", "were")
         text += f" {write_count(late.left_out, 'further soup')} of both kinds {were} left out."
     return text + " What unsettled soups leave isn’t counted among the objects below."
+
+
+def write_fate_rows(lives: Lives) -> Iterator[str]:
+    """Yields a table of the unsettled soups by their fates."""
+    yield (
+        '<table class="fates"><caption>What became of the unsettled soups</caption><thead><tr>'
+        '<th scope="col">Soups</th><th scope="col">One soup in</th><th scope="col">Fate</th></tr>'
+        "</thead><tbody>\n"
+    )
+    for row in lives.rows:
+        occurrence = Occurrence(row.soups, lives.census_soups)
+        often, low, high = list_rarity_words(occurrence)
+        yield (
+            f"<tr><td>{row.soups:,}</td><td>{often}<small>95 %: {low} to {high}</small></td>"
+            f'<th scope="row">{escape(row.name)}</th></tr>\n'
+        )
+    yield "</tbody></table>\n"
 
 
 def caption(life: LongLife) -> str:

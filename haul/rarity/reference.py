@@ -57,12 +57,12 @@ def load_reference() -> Reference:
     return parse_reference(read_reference())
 
 
-def read_reference() -> bytes:
-    """Reads the table from the package if `haul` is packed, otherwise from the checkout."""
-    packed = files("haul").joinpath("reference").joinpath(FILE)
+def read_reference(name: str = FILE) -> bytes:
+    """Reads a table from the package if `haul` is packed, otherwise from the checkout."""
+    packed = files("haul").joinpath("reference").joinpath(name)
     if packed.is_file():
         return packed.read_bytes()
-    return (Path(__file__).resolve().parents[2] / "reference" / FILE).read_bytes()
+    return (Path(__file__).resolve().parents[2] / "reference" / name).read_bytes()
 
 
 def parse_reference(text: bytes) -> Reference:

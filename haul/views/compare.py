@@ -2,7 +2,7 @@
 
 from __future__ import annotations
 
-from collections.abc import Iterable, Iterator
+from collections.abc import Iterable, Iterator, Sequence
 from dataclasses import dataclass
 from itertools import chain
 
@@ -284,8 +284,9 @@ class Comparison:
         rarity = list_rarity_values(self.occurrence(code)) if self.has_rarity() else []
         return [*row, format_truth(self.by_parts), *p_values, *rarity]
 
-    def json(self) -> Iterator[str]:
-        """Yields the lines of a JSON object that contains a JSON object for each code."""
+    def json(self, fates: Sequence[list[dict[str, object]]] = ()) -> Iterator[str]:
+        """Yields the lines of a JSON object that contains a JSON object for each code. `fates` has
+        the fates of the unsettled soups of each haul, or nothing."""
         hauls: list[dict[str, object]] = [
             {
                 "haul": letter,
@@ -295,6 +296,8 @@ class Comparison:
             }
             for (letter, haul), objects in zip(letter_hauls(self.hauls), self.objects, strict=True)
         ]
+        for facts, rows in zip(hauls, fates):
+            facts["fates"] = rows
         return format_json(
             {"per": self.per, "by_parts": self.by_parts, "hauls": hauls},
             map(self.json_object, self.codes),

@@ -64,7 +64,8 @@ def format_json(
 ) -> Iterator[str]:
     """Yields the lines of a JSON object that has the facts, and the objects as a list called
     `name`. Each object is on its own line."""
-    yield f'{json.dumps(facts)[:-1]}, "{name}": ['
+    comma = ", " if facts else ""
+    yield f'{json.dumps(facts)[:-1]}{comma}"{name}": ['
     before: str | None = None
     for one in objects:
         if before is not None:

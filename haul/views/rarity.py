@@ -6,12 +6,13 @@ from __future__ import annotations
 from collections import Counter
 from collections.abc import Iterator
 
+from haul.fates.reference import count_fates_with
 from haul.known.lookup import load_known
 from haul.life.parts import Separator
 from haul.names.labels import NOT_SEPARATED, describe_parts
 from haul.names.objects import find_name
 from haul.patterns.rules import LIFE
-from haul.plurals import pluralize
+from haul.plurals import pluralize, write_count
 from haul.rarity.code_faults import find_code_fault
 from haul.rarity.counted import find_occurrence_of_counted
 from haul.rarity.occurrence import Occurrence, format_one_in
@@ -38,6 +39,18 @@ def describe_rarity(separator: Separator, code: str) -> Iterator[str]:
     yield f"{name_object(code)}: a pseudo-object, made of {describe_parts(separation.parts, LIFE)}"
     for part in Counter(separation.parts):
         yield f"  {name_object(part)}: {describe_part(part)}"
+
+
+def describe_fate(name: str) -> str:
+    """Returns a line that says how many soups of the reference are unsettled because of what has
+    this name."""
+    occurrence = count_fates_with(name)
+    soups = f"{write_count(occurrence.having, 'unsettled soup')} of {SOUPS}"
+    low, high = occurrence.one_in_low(), occurrence.one_in_high()
+    if high is None:
+        return f"{name}: {soups}; less than one soup in {round_down(low)} (95 %)"
+    interval = f"{format_one_in(low)} to {format_one_in(high)}"
+    return f"{name}: {soups}, {occurrence.describe()} (95 %: {interval})"
 
 
 def name_object(code: str) -> str:

@@ -5,6 +5,7 @@ from __future__ import annotations
 from collections.abc import Iterator
 from dataclasses import dataclass, field
 
+from haul.fates.rows import FateRow
 from haul.formats.haul import Haul
 from haul.hauls.by_parts import Objects
 from haul.known.lookup import describe_known, load_known
@@ -15,6 +16,7 @@ from haul.patterns.codes import read_kind
 from haul.patterns.rules import LIFE
 from haul.rarity.counted import find_occurrence_of_counted
 from haul.rarity.occurrence import Occurrence
+from haul.views.fate_rows import list_fate_facts
 from haul.views.haul_facts import list_haul_facts, list_part_facts
 from haul.views.layout import (
     align_columns,
@@ -216,10 +218,14 @@ def format_table_csv(lines: list[TableRow], has_rarity: bool, by_parts: bool) ->
     )
 
 
-def format_table_json(haul: Haul, lines: list[TableRow], by_parts: Objects | None) -> Iterator[str]:
+def format_table_json(
+    haul: Haul, lines: list[TableRow], by_parts: Objects | None, fates: list[FateRow] | None
+) -> Iterator[str]:
     """Yields the lines of a JSON object. If totals are by parts, it also has the parts of each
-    object of the haul."""
+    object of the haul. If `fates` is given, it also has the fates of unsettled soups."""
     facts = list_haul_facts(haul) | {"by_parts": by_parts is not None}
+    if fates is not None:
+        facts["fates"] = list_fate_facts(fates, haul.soups)
     return format_json(
         facts | list_part_facts(by_parts) if by_parts else facts,
         (line.json_object() for line in lines),

@@ -6,9 +6,31 @@ from collections.abc import Iterator, Sequence
 from dataclasses import dataclass
 
 from haul.fates.fate import Fate
+from haul.fates.rows import FateRow
 from haul.formats.haul import Job
 from haul.terminal import escape_controls
 from haul.views.layout import format_csv, format_json
+
+
+@dataclass(frozen=True)
+class KindTable:
+    """The number of soups with each fate."""
+
+    rows: Sequence[FateRow]
+
+    def text(self) -> Iterator[str]:
+        for row in self.rows:
+            yield f"{row.soups} {row.name}"
+
+    def csv(self) -> Iterator[str]:
+        yield from format_csv(
+            [["soups", "fate"], *([str(row.soups), row.name] for row in self.rows)]
+        )
+
+    def json(self) -> Iterator[str]:
+        return format_json(
+            {}, ({"fate": row.name, "soups": row.soups} for row in self.rows), "fates"
+        )
 
 
 @dataclass(frozen=True)

@@ -6,7 +6,7 @@ from dataclasses import replace
 
 from haul.cli import commands
 from haul.cli.arguments import Argument, Command, Exclusive, flag, option
-from haul.cli.faults import find_fault_of_page
+from haul.cli.faults import find_fault_of_compare, find_fault_of_page, find_fault_of_table
 from haul.cli.shared_options import CENSUS, FORMS, NO_DATA, WANT, WORKERS
 from haul.cli.values import read_count, read_kinds, read_object, read_path, read_periods
 from haul.page.sides import MOST_SIDES
@@ -39,6 +39,14 @@ COMPARE = Command(
             choices=("million", "soup"),
         ),
         flag("--rare", "begin with the rarest code, and leave out codes that all hauls have"),
+        Argument(
+            "--lives",
+            "also count the unsettled soups by what became of them; once for each haul, in the same "
+            "order, and not with --csv",
+            "FILE.late",
+            read_path,
+            is_list=True,
+        ),
         Exclusive(
             (
                 flag(
@@ -63,6 +71,7 @@ COMPARE = Command(
         ),
     ),
     commands.run_compare,
+    find_fault_of_compare,
 )
 
 
@@ -92,6 +101,13 @@ TABLE = Command(
             read_periods,
         ),
         replace(WANT, help=f"print only these objects: {WANT.help}"),
+        option(
+            "--lives",
+            "FILE.late",
+            "also count the unsettled soups by what became of them, as FILE.late has it from "
+            "`haul why --keep`; not with --csv",
+            read_path,
+        ),
         Exclusive(
             (
                 flag(
@@ -108,6 +124,7 @@ TABLE = Command(
         Argument("file", "the haul (default: standard input)", repeats="?"),
     ),
     commands.run_table,
+    find_fault_of_table,
 )
 
 
