@@ -74,7 +74,7 @@ if (document.querySelectorAll('main').length !== 1 || document.querySelectorAll(
 // to the right of the previous control, or into another column.
 const CONTROLS = 'a[href], button, input, select, textarea, summary', boxOf = one => (one.closest('label') ?? one).getBoundingClientRect();
 const stops = all(`${CONTROLS}, [tabindex="0"]`).filter(one => isSeen(one) && !one.disabled);
-const columnOf = one => one.closest('.columns > div, figure, li, .card');
+const columnOf = one => one.closest('.columns > div, .whole > div, figure, li, .card');
 stops.slice(1).forEach((one, at) => {
   const before = boxOf(stops[at]), now = boxOf(one);
   const shared = Math.min(before.bottom, now.bottom) - Math.max(before.top, now.top), isInRow = shared > Math.min(before.height, now.height) / 2;

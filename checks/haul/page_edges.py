@@ -106,10 +106,10 @@ def try_telephone(driver: Driver, two: Path) -> None:
 
 
 def try_columns(driver: Driver, path: Path) -> None:
-    """Checks that the dialog has one column at up to 800 points. At 1,400 points, it has two, with
-    the player below both, so that the picture and the facts stay side by side.
+    """Checks that the dialog has one column at up to 800 points. At 1,400 points, it has two, and the
+    facts stay beside the player.
     """
-    sides = "return [...document.querySelectorAll('.columns > div')].map(one => one.offsetLeft)"
+    sides = "return [...document.querySelectorAll('.whole > div')].map(one => one.offsetLeft)"
     for width, columns in ((390, 1), (641, 1), (700, 1), (800, 1), (1400, 2)):
         look_like(driver, width)
         opened(driver, path, "#xs4_33&soup=A1")
@@ -121,10 +121,10 @@ def try_columns(driver: Driver, path: Path) -> None:
         )
         count.holds(f"which has no more than its width: {width}", browser.is_narrow(driver))
     count.holds(
-        "the player is below both columns, and as wide as both",
+        "the facts are beside the player, and in view",
         driver.execute_script(
-            "const [player, frame, facts] = ['.player', '.frame', '.facts'].map(one => document.querySelector(one).getBoundingClientRect());"
-            "return player.top >= Math.max(frame.bottom, facts.bottom) && player.width > frame.width + facts.width"
+            "const [player, facts] = ['.player', '.facts'].map(one => document.querySelector(one).getBoundingClientRect());"
+            "return facts.left > player.right && facts.top > 0 && facts.bottom < innerHeight"
         ),
     )
 

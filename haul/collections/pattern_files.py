@@ -101,8 +101,14 @@ def list_zip(path: str) -> Iterator[tuple[str, IO[bytes]]]:
 
 
 def list_tar(path: str) -> Iterator[tuple[str, IO[bytes]]]:
+    """Yields the files of an archive. Raises `TarError` at a member that is too large, since it would
+    have to be unpacked to find the next one."""
+    size = 0
     with tarfile.open(path) as archive:
         for member in archive:
+            size += member.size
+            if size > MOST_UNPACKED:
+                raise tarfile.TarError("the archive is too large, so its other files aren't read")
             file = archive.extractfile(member) if member.isreg() else None
             if file is not None:
                 yield member.name, file

@@ -3,6 +3,7 @@
 from __future__ import annotations
 
 import json
+import random
 import signal
 import subprocess
 import sys
@@ -13,9 +14,10 @@ from tempfile import TemporaryDirectory
 from unittest.mock import patch
 
 from haul.fates.fate import Fate, Kind
+from haul.fates.reference import find_fate_name, load_fates
 from haul.fates.rows import FateRow, count_fates, name_fate, read_fate
 from haul.formats.late_file import Late, read_late
-from haul.tests.called import CENSUS, HAUL, census, run
+from haul.tests.called import CENSUS, HAUL, TOP, census, run
 
 # Soups of the empty seed that are unsettled, with their fates: both kinds of switch engines.
 UNSETTLED = {33569: "+59 cells in 384 generations (glider-producing switch engine)"}
@@ -54,6 +56,31 @@ class Rows(unittest.TestCase):
         self.assertEqual(count_fates(fates, 3), rows)
         self.assertEqual(count_fates([*fates, None], 5), [*rows, FateRow("not found yet", 2)])
         self.assertEqual(count_fates([], 0), [])
+
+
+class OfTheReference(unittest.TestCase):
+    def test_each_unsettled_soup_has_a_fate(self) -> None:
+        late = (TOP / "reference" / "late.tsv").read_text().splitlines()[1:]
+        unsettled = [int(line.split()[0]) for line in late if line.endswith("unsettled")]
+        self.assertEqual(list(load_fates()), unsettled)
+        self.assertEqual(len(unsettled), 1177)
+
+    def test_drawn_fates_are_found_again(self) -> None:
+        drawn = random.Random("fates").sample(sorted(load_fates()), 4)
+        _, output, _ = run("why", "--census", CENSUS, *map(str, drawn))
+        self.assertEqual(output.splitlines(), [f"{soup} {load_fates()[soup]}" for soup in drawn])
+
+    def test_what_rarity_says(self) -> None:
+        fates = load_fates().values()
+        for name in ("queen bee shuttle", "switch engine", "Gosper glider gun"):
+            count = sum(name in fate for fate in fates)
+            line = run("rarity", name.upper())[1].splitlines()[-1]
+            soups = "soup" if count == 1 else "soups"
+            self.assertTrue(
+                line.startswith(f"{name}: {count} unsettled {soups} of 100000000"), line
+            )
+        self.assertEqual(find_fate_name("Block-laying switch-engine"), "block-laying switch engine")
+        self.assertIsNone(find_fate_name("block"))
 
 
 class Kept(unittest.TestCase):

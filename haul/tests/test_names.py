@@ -159,6 +159,9 @@ class Added(UserData):
         with zipfile.ZipFile(bomb, "w", zipfile.ZIP_DEFLATED) as file:
             file.writestr("big", b"!Name: big\n" + b"." * 2**25)
         self.write("bomb.zip", bomb.getvalue())
+        head = tarfile.TarInfo("huge")
+        head.size = 2**40
+        self.write("huge.tar", head.tobuf() + bytes(2**20))
         self.write("cut.zip", bomb.getvalue()[:-9])
         self.write("cut.tar.gz", gzip.compress(b"x" * 600)[:-9])
         self.write("line.cells", b"!Name: long\n" + b"." * 10**7)
@@ -170,7 +173,7 @@ class Added(UserData):
         (self.files / "dead").symlink_to("nothing")
         os.mkfifo(self.files / "pipe")
         output, _ = self.add(str(self.files))
-        self.assertEqual(output.partition(": ")[2], "1 name; 9 files or lines passed over\n")
+        self.assertEqual(output.partition(": ")[2], "1 name; 10 files or lines passed over\n")
         self.assertEqual(find_other_names("xs4_33"), ("<b onclick=alert(1)>",))
 
     def test_a_table_that_was_edited_wrongly(self) -> None:

@@ -140,8 +140,8 @@ const sectionOf = ({ large, facts, some }) => element('section', { class: 'phase
   columns(large, facts));
 
 /**
- * Makes two columns, if there is room: the picture at the left and the facts at the right. The sample soups, one of
- * which may play, are below both, so that picture and facts stay side by side.
+ * Makes two columns, if there is room: the picture and the sample soups at the left, and the facts at the right, where
+ * they stay beside a soup that plays.
  * @type {(object: LifeObject) => any}
  */
 export const objectBody = object => {
@@ -149,6 +149,9 @@ export const objectBody = object => {
   const [first, ...others] = blocksOf(object);
   const contents = others.length
     ? [[first, ...others].map(sectionOf), columns([below, ratesOf(object)], sampleList(object))]
-    : [columns([first.large, below], [first.facts, ratesOf(object)]), sampleList(object)];
+    : element('div', { class: 'whole' },
+      element('div', {}, first.large, below),
+      element('div', {}, first.facts, ratesOf(object)),
+      element('div', {}, sampleList(object)));
   return element('div', { class: 'body' }, contents);
 };
