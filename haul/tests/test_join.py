@@ -72,6 +72,18 @@ class Joined(unittest.TestCase):
             refusal(FULL + "".join(later).replace("b3s23", "b36s23")), "other job at line 15"
         )
 
+    def test_ranges_that_share_one_soup(self) -> None:
+        for range_, is_added in (
+            ((6, 5), False),
+            ((14, 3), False),
+            ((12, 1), False),
+            ((5, 5), True),
+        ):
+            joining = Joining()
+            self.assertTrue(joining.put((10, 5)))
+            self.assertEqual(joining.put(range_), is_added, range_)
+        self.assertEqual(joining.ranges, [(5, 10)])
+
     def test_totals_too_large(self) -> None:
         most = 2**63
         text = LARGER.replace("OBJECTS 6", f"OBJECTS {most}").replace(

@@ -22,7 +22,8 @@ from haul.census.launcher import CENSUS as LAUNCH_CENSUS
 from haul.cli.parser import parse_arguments
 from haul.formats.haul import NUMBER_LIMIT, Haul
 from haul.formats.haul_reader import read_one_haul
-from haul.search.haul_file import CantUseFile, HaulFile
+from haul.search.haul_file import Beside, CantUseFile, Displaced, HaulFile
+from haul.search.side_file import SideFile
 from haul.search.stopping import Stopping
 from haul.tests.called import CENSUS, TOP, census, run
 from haul.tests.searching import QUICK, Searches
@@ -616,6 +617,22 @@ class Keeping(Searches):
         self.assertEqual(steps, ["mine.haul.new", "replace", self.folder.name])
         self.assertEqual(self.file.read_bytes(), census("take", "--count", "3"))
         os.close(haul_file.lock)
+
+    def test_a_change_while_the_file_is_written(self) -> None:
+        """If another program changes FILE while the new text is written, FILE is left as it is."""
+        haul_file = HaulFile(str(self.file))
+        self.addCleanup(os.close, haul_file.lock)
+        haul_file.write(haul_of_three())
+        late = SideFile(haul_file.path, haul_file.name, "late", self.fail)
+
+        def change() -> list[bytes]:
+            self.file.write_text("other")
+            return [b"late\n"]
+
+        with self.assertRaises(Displaced):
+            haul_file.write(haul_of_three(), [Beside(late, change, True)])
+        self.assertEqual(self.file.read_text(), "other")
+        self.assertFalse((self.folder / "mine.haul.new").exists())
 
     def test_rights_of_a_new_file(self) -> None:
         """Everyone may read and write a new file, unless the mask says otherwise."""

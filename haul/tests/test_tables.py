@@ -509,6 +509,11 @@ in A alone: xq4_153 xs8_rr; in B alone: xp15_4r4z4r4
         self.assertFalse(row[3].startswith("~"))
         self.assertTrue(row[6].startswith("~"))
 
+    def test_no_star_is_explained_if_there_is_none(self) -> None:
+        """Rates are compared with those of A, so there is no star if A is under another rule."""
+        lines = self.printed("compare", "--parts", "--intervals", "b", "a").splitlines()
+        self.assertEqual(lines[-1], "intervals: 95 %; ~: as if objects came singly")
+
     def test_parts_are_the_default(self) -> None:
         forms: list[list[str]] = [[], ["--csv"], ["--json"]]
         for words in (["table", "a"], ["compare", "a", "c"]):
