@@ -41,8 +41,8 @@ def find_fault_of_index_check(asked: argparse.Namespace) -> str | None:
 
 
 def find_fault_of_compare(asked: argparse.Namespace) -> str | None:
-    if asked.lives and len(asked.lives) != len((asked.a, asked.b, *asked.more)):
-        return "--lives is given once for each haul, or not at all"
+    if asked.lives and len(asked.lives) > len((asked.a, asked.b, *asked.more)):
+        return "--lives is given at most once for each haul"
     if asked.lives and asked.csv:
         return "--lives doesn't go with --csv, whose rows are objects; `haul why --kinds --csv` has the fates"
     return None

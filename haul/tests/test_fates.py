@@ -150,7 +150,7 @@ class Kept(unittest.TestCase):
             self.keep(*words, status=2)
         table = ["table", "--csv", "--lives", str(self.late), str(self.file)]
         self.call(*table, status=2)
-        self.call("compare", "--lives", "x", "a", "b", status=2)
+        self.call("compare", *["--lives", "x"] * 3, "a", "b", status=2)
 
     def test_a_call_that_is_killed_loses_nothing(self) -> None:
         """At any time, FILE.late is whole. The next call finds what is missing."""

@@ -47,6 +47,8 @@ FREQUENT = {
     "xs10_25520oo": "block and beehive",
 }
 LIGHT = "xp2_s01110szw222"
+# What objects without a name are labelled with.
+NAMELESS, UNSURE = "still life of 12 cells", "oscillator of period 12, not separated"
 PULSAR = "xp3_co9nas0san9oczgoldlo0oldlogz1047210127401"
 FOLDER = Path(__file__).resolve().parent
 
@@ -364,7 +366,7 @@ class Labels(unittest.TestCase):
                 "2 blinkers, pentadecathlon and glider",
             ),
         ):
-            self.assertEqual(describe_parts(codes), words)
+            self.assertEqual(describe_parts(codes, "b3s23"), words)
 
     def test_what_is_not_separated_is_marked(self) -> None:
         self.assertEqual(
@@ -427,8 +429,8 @@ class Tables(unittest.TestCase):
                 ("xs8_330oo", "2 blocks"),
                 ("xp2_70ggg07", "3 blinkers"),
                 ("xp2_7", "blinker"),
-                ("xs12_256o8a6", "-"),
-                ("ov_p12", "not separated"),
+                ("xs12_256o8a6", "still life of 12 cells"),
+                ("ov_p12", "oscillator of period 12, not separated"),
             ],
         )
 
@@ -438,8 +440,8 @@ class Tables(unittest.TestCase):
         strict = [
             ["1", "xs4_33", "block"],
             ["5", "xp2_7", "blinker"],
-            ["6", "xs12_256o8a6", "-"],
-            ["7", "ov_p12", "not separated"],
+            ["6", "xs12_256o8a6", "still life of 12 cells"],
+            ["7", "ov_p12", "oscillator of period 12, not separated"],
         ]
         self.assertEqual([[row[0], row[1], row[6]] for row in self.rows("--strict")], strict)
         self.assertEqual(
@@ -458,8 +460,8 @@ class Tables(unittest.TestCase):
             [
                 ["1", "xs4_33", "84", "840000.00", "1.10", "1.10", "1.10", "3,4,7", "block"],
                 ["2", "xp2_7", "15", "150000.00", "1.20", "1.20", "1.20", "0,1,2", "blinker"],
-                ["3", "xs12_256o8a6", "2", "20000.00", "390625", "345594", "443266", "5", "-"],
-                ["4", "ov_p12", "1", "10000.00", "none", "27108504", "none", "6", "not separated"],
+                ["3", "xs12_256o8a6", "2", "20000.00", "390625", "345594", "443266", "5", NAMELESS],
+                ["4", "ov_p12", "1", "10000.00", "none", "27108504", "none", "6", UNSURE],
             ],
         )
         self.assertEqual(
@@ -477,8 +479,8 @@ class Tables(unittest.TestCase):
                     ["xs8_330oo", "2 blocks", "xs4_33 xs4_33", "no", "yes", "no"],
                     ["xp2_70ggg07", "3 blinkers", "xp2_7 xp2_7 xp2_7", "no", "yes", "no"],
                     ["xp2_7", "blinker", "xp2_7", "yes", "yes", "no"],
-                    ["xs12_256o8a6", "", "xs12_256o8a6", "yes", "yes", "no"],
-                    ["ov_p12", "", "ov_p12", "no", "no", "no"],
+                    ["xs12_256o8a6", NAMELESS, "xs12_256o8a6", "yes", "yes", "no"],
+                    ["ov_p12", "oscillator of period 12", "ov_p12", "no", "no", "no"],
                 ],
             ),
             (["--csv", "--parts", "--top=1"], [["xs4_33", "block", "xs4_33", "yes", "yes", "yes"]]),
@@ -500,8 +502,8 @@ class Tables(unittest.TestCase):
                 "xs8_330oo": ("2 blocks", ["xs4_33"] * 2, False, True),
                 "xp2_70ggg07": ("3 blinkers", ["xp2_7"] * 3, False, True),
                 "xp2_7": ("blinker", ["xp2_7"], True, True),
-                "xs12_256o8a6": (None, ["xs12_256o8a6"], True, True),
-                "ov_p12": (None, ["ov_p12"], False, False),
+                "xs12_256o8a6": (NAMELESS, ["xs12_256o8a6"], True, True),
+                "ov_p12": ("oscillator of period 12", ["ov_p12"], False, False),
             },
         )
         told = json.loads(run("table", "--json", "--parts", text=self.TEXT)[1])
@@ -602,7 +604,7 @@ class SideBySide(unittest.TestCase):
             [
                 ["xs4_33", "84", "11", "block"],
                 ["xp2_7", "15", "0", "blinker"],
-                ["xs12_256o8a6", "2", "0", "-"],
+                ["xs12_256o8a6", "2", "0", NAMELESS],
                 ["ov_p12", "1", "0", "not separated"],
             ],
         )
@@ -634,7 +636,7 @@ class SideBySide(unittest.TestCase):
                 ["xs8_330oo", "2 blocks"],
                 ["xp2_70ggg07", "3 blinkers"],
                 ["xp2_7", "blinker"],
-                ["xs12_256o8a6", "-"],
+                ["xs12_256o8a6", NAMELESS],
                 ["ov_p12", "not separated"],
             ],
         )

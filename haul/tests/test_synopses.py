@@ -17,7 +17,7 @@ from haul.tests.called import TOP
 # A value for each placeholder of an option.
 VALUES = {"SEED": "a", "RULE": "b3s23", "R": "b3s23", "S": "a", "KINDS": "s", "CODE": "xs4_33"}
 VALUES |= {"N": "1", "W": "1", "GENERATION": "1", "UNIT": "soup", "PATH": "x", "PROGRAM": "x"}
-VALUES |= {"FILE": "x", "FILE.late": "x", "FOLDER": "x"}
+VALUES |= {"FILE": "x", "FILE.late": "x", "FOLDER": "x", "WHAT": "p3+", "SYMMETRY": "C1"}
 RANGE = re.compile(r"\b(from the period|[0-9]+) to ([0-9]+)\b")
 # The positional arguments with which a command accepts each of its options.
 POSITIONAL = {
@@ -80,7 +80,7 @@ class Synopses(unittest.TestCase):
     def positional(self, synopsis: str) -> list[str]:
         """Returns values for the arguments that a synopsis names outside of brackets."""
         bare = re.sub(r"\[[^\[\]]*\]", "", re.sub(r"\[[^\[\]]*\]", "", synopsis))
-        words = re.sub(r"--[\w-]+ [A-Z]+", "", bare).split()
+        words = re.sub(r"--[\w-]+ [A-Z]+(?:\.late)?", "", bare).split()
         given = {"NAME|CODE": "block", "ID": "C1/a0", "SOUP": "5"}
         named = [given.get(word, "x") for word in words if word != ".."]
         return named + ["x"] * ("[FILE" in synopsis)
@@ -107,12 +107,20 @@ class Synopses(unittest.TestCase):
                         self.assertTrue(is_accepted([*words, *after]), words)
 
     def test_each_option_is_on_the_page(self) -> None:
-        """The synopses of a command name each of its options, except `--census`, the numbers of a
+        """The synopses of a command name each of its options, except `--census`, `--no-data`, the numbers of a
         profile and, in `search`, those of a table."""
         named: dict[str, set[str]] = {}
         for command, synopsis in list_synopses():
             named.setdefault(command, set()).update(re.findall(r"--[\w-]+", synopsis))
-        left_out = {"--census", "--workers", "--period", "--horizon", "--stride", "--limit"}
+        left_out = {
+            "--census",
+            "--workers",
+            "--no-data",
+            "--period",
+            "--horizon",
+            "--stride",
+            "--limit",
+        }
         for one in COMMANDS:
             if one.name != "search":
                 known = {*self.options_of(one.name)}

@@ -382,7 +382,7 @@ rank  code     total  per_million  one_in_at_most  samples  label
             list(csv.DictReader(self.printed("table", "--csv", "--kind", "p", "c").splitlines()))[
                 1
             ]["label"],
-            "",
+            "oscillator of period 123",
         )
 
     def test_json(self) -> None:
@@ -694,7 +694,7 @@ in A alone: xq4_153 xs8_rr; in B alone: xp15_4r4z4r4
                 for one in told["objects"]
                 if one["code"] in ("xp2_7", "ov_p123")
             },
-            {"xp2_7": "blinker", "ov_p123": None},
+            {"xp2_7": "blinker", "ov_p123": "oscillator of period 123"},
         )
         block = told["objects"][0]
         self.assertEqual(

@@ -9,7 +9,7 @@ from itertools import chain
 from haul.formats.haul import Haul
 from haul.hauls.by_parts import Objects
 from haul.life.parts import Separation
-from haul.names.labels import find_label, mark_label
+from haul.names.labels import describe_kind, find_name_or_parts, mark_label
 from haul.rarity.counted import find_occurrence_of_counted
 from haul.rarity.occurrence import Occurrence
 from haul.rarity.reference import find_dispersion, is_covered
@@ -191,9 +191,11 @@ class Comparison:
             [str(cell.total), format_figure(cell.rate), format_interval(cell)] for cell in cells
         ]
         ratios = [f"{cell.ratio:.2f}" if cell.ratio is not None else "-" for cell in cells[1:]]
-        label = self.label(code) or mark_label("", self.separate(code)) or "-"
+        label = (
+            self.name_or_parts(code) or mark_label("", self.separate(code)) or describe_kind(code)
+        )
         rarity = list_rarity_words(self.occurrence(code)) if self.has_rarity() else []
-        return [code, *self.arranged(shown), *ratios, *rarity, label]
+        return [code, *self.arranged(shown), *ratios, *rarity, label or "-"]
 
     def occurrence(self, code: str) -> Occurrence | None:
         """Returns how often a code occurs in the reference, or `None` if `census` doesn't count
@@ -201,8 +203,11 @@ class Comparison:
         return find_occurrence_of_counted(code)
 
     def label(self, code: str) -> str:
+        return self.name_or_parts(code) or describe_kind(code)
+
+    def name_or_parts(self, code: str) -> str:
         objects = self.first_with(code)
-        return find_label(code, objects.separate(code), objects.haul.job.rule)
+        return find_name_or_parts(code, objects.separate(code), objects.haul.job.rule)
 
     def separate(self, code: str) -> Separation:
         """Returns the parts of an object under the rule of the first haul that has the object."""

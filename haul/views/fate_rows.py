@@ -30,15 +30,18 @@ def format_fate_rows(rows: list[FateRow], soups: int, width: int | None) -> Iter
 def format_compared_fates(
     fates: list[list[FateRow]], hauls: list[Haul], width: int | None
 ) -> Iterator[str]:
-    """Yields the rows of several hauls for a reader: the number of soups with a fate in each haul,
+    """Yields the rows of the first hauls for a reader: the number of soups with a fate in each haul,
     and one soup in how many that is."""
     counts = [{row.name: row.soups for row in rows} for rows in fates]
     names = dict.fromkeys(row.name for rows in fates for row in rows)
-    letters = [letter.lower() for letter, _ in letter_hauls(hauls)]
+    letters = [letter.lower() for letter, _ in letter_hauls(hauls[: len(fates)])]
     heads = [head for letter in letters for head in (f"soups_{letter}", f"one_in_{letter}")]
     words: list[list[str]] = []
     for name in names:
-        had = [Occurrence(count.get(name, 0), haul.soups) for count, haul in zip(counts, hauls)]
+        had = [
+            Occurrence(count.get(name, 0), haul.soups)
+            for count, haul in zip(counts, hauls, strict=False)
+        ]
         words.append([word for one in had for word in (str(one.having), list_rarity_words(one)[0])])
         words[-1].append(name)
     yield ""

@@ -41,8 +41,8 @@ COMPARE = Command(
         flag("--rare", "begin with the rarest code, and leave out codes that all hauls have"),
         Argument(
             "--lives",
-            "also count the unsettled soups by what became of them; once for each haul, in the same "
-            "order, and not with --csv",
+            "also count the unsettled soups by what became of them; at most once for each haul, in "
+            "the same order, and not with --csv",
             "FILE.late",
             read_path,
             is_list=True,
