@@ -49,7 +49,10 @@ class Copies:
             for place in (9, size // 2, size - 1):
                 change_byte(self.add(name, "(it|.* (is|has|should)) ") / name, place)
         repack_archive(trial, self.add(trial.archive_name, ".*/bin/haul has another content"))
-        provenance = self.add("PROVENANCE.txt", "the line 'program x.*' should not be there") / "PROVENANCE.txt"
+        provenance = (
+            self.add("PROVENANCE.txt", "the line 'program x.*' should not be there")
+            / "PROVENANCE.txt"
+        )
         text = provenance.read_text()
         provenance.write_text(re.sub(r"^program .", "program x", text, flags=re.MULTILINE))
         other = "gokzerd-9.9.9-x86_64-linux.tar.gz"
