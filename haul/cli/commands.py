@@ -220,9 +220,9 @@ def choose_soup_list(asked: argparse.Namespace, terminal: Terminal) -> SoupList:
 
 
 def tell_missing_fates(late: Late, name: str, streams: Streams) -> None:
-    """Says how many unsettled soups have no fate yet, and how it is found."""
+    """Says on a terminal how many unsettled soups have no fate yet, and how it is found."""
     missing = sum(map(is_missing, late.lines))
-    if missing:
+    if missing and streams.terminal.is_interactive():
         soups = write_count(missing, "unsettled soup")
         verb = pluralize(missing, "has", "have")
         streams.terminal.complain(

@@ -64,7 +64,8 @@ def show_fields(rule: str, fields: list[str]) -> list[str]:
     if "_" not in code:
         # The line is about a late or an unsettled soup.
         return fields if known is None else [*fields, "-"]
-    shown = [*fields[:2], find_name(code, rule) or fields[2], *fields[3:]]
+    added = None if find_own_name(code) else find_name(code, rule)
+    shown = [*fields[:2], added or fields[2], *fields[3:]]
     return shown if known is None else [*shown, known.describe(code)]
 
 
