@@ -14,6 +14,7 @@ from haul.cli.streams import Refused, Streams
 from haul.collections.naming import Namings, find_namings
 from haul.collections.pattern_files import PassedOver, read_collection
 from haul.names.objects import load_names
+from haul.names.spelling import simplify
 from haul.names.user_names import ENDING, Naming, find_tables, read_namings, write_namings
 from haul.plurals import pluralize, write_count
 from haul.terminal import escape_controls
@@ -120,7 +121,7 @@ def count_names() -> Iterator[str]:
         yield f"{write_count(number, 'name')} under {rule} from {escape_controls(file)}"
     objects: dict[tuple[str, str], set[str]] = {}
     for rule, naming in list_namings():
-        objects.setdefault((rule, naming.name), set()).add(naming.code)
+        objects.setdefault((rule, simplify(naming.name)), set()).add(naming.code)
     ambiguous = sum(len(codes) > 1 for codes in objects.values())
     if ambiguous:
         verb = pluralize(ambiguous, "belongs", "belong")
