@@ -20,7 +20,7 @@ from haul.plurals import pluralize, write_count
 from haul.terminal import escape_controls
 from haul.user_data import find_folder, locked
 
-NO_FOLDER = "there is no folder for names, since HAUL_DATA is empty or --no-data is given"
+NO_FOLDER = "there is no folder for names, since HAUL_DATA is empty"
 
 
 def find_fault_of_names(asked: argparse.Namespace) -> str | None:
@@ -64,7 +64,7 @@ def add_names(asked: argparse.Namespace, streams: Streams) -> Iterator[str]:
                 table = folder / "names" / f"{rule}{ENDING}"
                 before = read_namings(table) if table.exists() else []
                 write_namings(table, [*before, *found])
-        names = sum(map(len, namings.found.values()))
+        names = sum(len(set(found)) for found in namings.found.values())
         over = write_count(namings.passed_over, "file or line", "files or lines")
         more = "" if asked.verbose or not namings.passed_over else " (--verbose lists them)"
         yield f"{escape_controls(path)}: {write_count(names, 'name')}; {over} passed over{more}"

@@ -102,7 +102,8 @@ class Known(UserData):
         self.assertEqual(show_fields("b3s23", late), [*late, "-"])
 
     def test_a_list_without_counts(self) -> None:
-        self.known("--add", self.write("codes", b"xs4_33\n"))
+        # Some programs write a byte order mark.
+        self.known("--add", self.write("codes", b"\xef\xbb\xbfxs4_33\n"))
         self.assertIn("; in codes\n", self.haul("rarity", "block")[0])
         lines = self.haul("table", "--top", "1", self.write("haul", taken(40)))[0].splitlines()
         self.assertEqual([line.split()[7] for line in lines], ["known", "yes"])

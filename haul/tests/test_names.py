@@ -139,7 +139,8 @@ class Added(UserData):
                 file.writestr(f"{k}.cells", BLOCK)
         with patch("haul.collections.pattern_files.MOST_UNPACKED", 2 * len(BLOCK)):
             output, errors = self.add(self.write("all.zip", zipped.getvalue()))
-        self.assertEqual(output.partition(": ")[2], "2 names; 1 file or line passed over\n")
+        # Both files give the block the same name.
+        self.assertEqual(output.partition(": ")[2], "1 name; 1 file or line passed over\n")
         self.assertIn("2.cells: the archive is too large", errors)
 
     def test_a_folder_with_the_ending_of_an_archive(self) -> None:
@@ -165,6 +166,10 @@ class Added(UserData):
             output, errors = self.add(str(self.files))
         self.assertEqual(output.partition(": ")[2], "0 names; 1 file or line passed over\n")
         self.assertEqual(errors, f"haul: {refused}: Permission denied\n")
+
+    def test_a_name_that_is_there_twice(self) -> None:
+        output, _ = self.add(self.write("table", b"xs4_33\tFour\nxs4_33\tFour\n"))
+        self.assertEqual(output.partition(": ")[2], "1 name; 0 files or lines passed over\n")
 
     def test_a_file_whose_name_begins_another(self) -> None:
         """A file that is added again replaces only its own names."""
