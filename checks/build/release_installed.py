@@ -12,6 +12,7 @@ from checks.build.trial import SOUPS, Trial
 from checks.lib.commands import Ended, run, write_script
 from checks.lib.program import TOP
 
+RIGHT = re.compile(rb"\A(9\+31: )?right\n\Z")
 COMPARED = re.compile(rb"^xq4_153 +91 +91 .* glider$", re.MULTILINE)
 LISTED = re.compile(rb"^ +[0-9]+ +xq4_153 +91 .* glider$", re.MULTILINE)
 RARE = re.compile(rb"^xq7_3nw17862z6952 \(loafer\): none in 100000000 soups", re.MULTILINE)
@@ -21,7 +22,7 @@ GROWING, GROWTH = "223932", re.compile(rb"^223932 linear growth: \+16 cells in 1
 GLIDER = b"OOO\n..O\n.O.\n"
 # The first soup of a search of ten soups, and the code of the object that the search finds.
 FIRST, FIND = "23285", "xs12_330f96"
-FIND_FIELDS = [FIND, "-", "23290"]
+FIND_FIELDS = [FIND, "block and cap", "23290"]
 # A script that appends its second argument to a file.
 TELL = '#!/bin/sh\necho "$2" >> "%s"\n'
 
@@ -68,7 +69,7 @@ class Installed:
         self.equal("census --version", self.census("--version"), f"census {version}\n".encode())
         self.equal("census take", self.census("take", "--count", SOUPS), haul)
         self.equal("haul --version", self.haul("--version"), f"haul {version}\n".encode())
-        self.equal("haul check", self.haul("check", file), b"right\n")
+        self.finds("haul check", self.haul("check", file), RIGHT)
 
     def try_views(self) -> None:
         file = self.trial.haul_file
@@ -79,7 +80,7 @@ class Installed:
         self.equal("haul join", self.haul("join", *parts), self.trial.haul)
         index = self.trial.room / "index"
         index.write_bytes(self.haul("index", *parts).output)
-        self.equal("haul index", self.haul("check", index, parts[1]), b"9+31: right\n")
+        self.finds("haul index", self.haul("check", index, parts[1]), RIGHT)
         self.finds("haul compare", self.haul("compare", "--whole", file, file), COMPARED)
         self.finds("haul page", self.haul("page", file), re.compile(rb"xq4_153"))
         self.finds("haul rarity", self.haul("rarity", "loafer"), RARE)
@@ -127,7 +128,7 @@ class Installed:
         shutil.copytree(self.prefix, copy, symlinks=True)
         write_script(copy / "bin/census", "#!/bin/sh\nexit 9\n")
         checked = self.trial.away(copy / "bin/haul", "check", self.trial.haul_file)
-        self.equal("haul calls the program itself", checked, b"right\n")
+        self.finds("haul calls the program itself", checked, RIGHT)
         shutil.rmtree(copy)
 
     # ---- Manuals and recipes
