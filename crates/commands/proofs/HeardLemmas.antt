@@ -15,7 +15,7 @@ use Rattle.crew.specs.Takes.{HasHeardCrew, times_reported}
 use Rattle.requests.specs.declared.plan.Plan.{Plan}
 use Rattle.commands.specs.LateReports.{PutsReports}
 use Rattle.commands.specs.Reporting.{AreReportsOf}
-use Rattle.commands.specs.TakeSteps.{IsOpenedFor}
+use Rattle.line_commands.specs.Opening.{IsOpenedFor}
 use Rattle.commands.proofs.TakeLemmas.{in_set}
 use native.Mathlib.Decide.{dec_le}
 

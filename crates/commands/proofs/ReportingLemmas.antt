@@ -19,16 +19,17 @@ use Rattle.pattern_commands.specs.Ends.{Ends, status_after}
 use Rattle.pattern_commands.specs.Reached.{Outcome, Reaches}
 use Rattle.pattern_commands.specs.Streams.{Stream, Has, IsUntouched, stream}
 use Rattle.requests.specs.declared.plan.Plan.{Plan}
-use Rattle.commands.specs.Finish.{Finishes, IsCensusOf}
+use Rattle.line_commands.specs.Finish.{Finishes, IsCensusOf}
 use Rattle.commands.specs.LateReports.{late_lines}
 use Rattle.commands.specs.ReportSteps.{HasPutBy, HasReportedBy, StopsReporting}
 use Rattle.commands.specs.Reporting.{TellsAllLate, TellsLate, reporting_behaviour}
-use Rattle.commands.specs.SoupSets.{IsRightForSet}
+use Rattle.line_commands.specs.SoupSets.{IsRightForSet}
 use Rattle.commands.specs.Take.{PrintsCensus, TellsAll, take_right}
-use Rattle.commands.specs.TakeSteps.{IsOpenedFor, Stops}
+use Rattle.line_commands.specs.Opening.{IsOpenedFor, Stops}
 use Rattle.commands.proofs.GrownLemmas.{grown_by_added}
 use Rattle.commands.proofs.HeardLemmas.{reports_of_plan, reports_on_all}
-use Rattle.commands.proofs.TakeLemmas.{Stops_memory, complete_right, not_done, prints_right, right_given}
+use Rattle.commands.proofs.TakeLemmas.{Stops_memory, complete_right, not_done, prints_right}
+use Rattle.line_commands.proofs.OpeningLemmas.{right_given}
 
 -- if a complaint stops the command before a haul is open, and nothing was written to either stream, the complaint is a
 -- correct end of the command

@@ -11,7 +11,7 @@ use Rattle.requests.specs.declared.plan.Plan.{Plan}
 use Rattle.pattern_commands.specs.Behaviours.{Behaviour, Makes}
 use Rattle.pattern_commands.specs.Streams.{Stream, HasPrefix}
 use Rattle.commands.specs.LateReports.{late_lines}
-use Rattle.commands.specs.SoupSets.{AreRangesOf, job_named}
+use Rattle.line_commands.specs.SoupSets.{AreRangesOf, job_named}
 use Rattle.commands.specs.Take.{take_right}
 
 -- right reports by these workers on a plan's soups, at most one on each soup

@@ -21,13 +21,13 @@ ghost use Rattle.commands.specs.ReportSteps.{HasPutBy, HasReportedBy, StopsRepor
 ghost use Rattle.commands.specs.Reporting.{reporting_behaviour};
 ghost use Rattle.commands.specs.Take.{PrintsCensus};
 
-use crate::finish::finish_unless;
 use crate::machine::Machine;
-use crate::opening::open_haul;
 use crate::report_sink::{FaultGate, ReportSink};
 use crew::progress_observer::ProgressObserver;
 use crew::take::{CrewError, take};
 use haul_core::book::haul::Haul;
+use line_commands::finish::finish_unless;
+use line_commands::opening::open_haul;
 use pattern_commands::ending::complaint::Complaint;
 use pattern_commands::ending::end_command;
 use pattern_commands::ending::status::Status;

@@ -19,13 +19,13 @@ ghost use Rattle.pattern_commands.specs.Streams.{Stream, Has, stream, IsUntouche
 ghost use Rattle.commands.specs.Take.{PrintsCensus, take_behaviour};
 ghost use Rattle.commands.specs.TakeSteps.{EndsCrew, HasLetIn, HasTakenMore};
 
-use crate::finish::finish_unless;
 use crate::machine::Machine;
-use crate::opening::open_haul;
 use crew::gate::{Gate, OpenGate};
 use crew::progress_observer::ProgressObserver;
 use crew::take::{CrewError, take};
 use haul_core::book::haul::Haul;
+use line_commands::finish::finish_unless;
+use line_commands::opening::open_haul;
 use pattern_commands::ending::complaint::Complaint;
 use pattern_commands::ending::end_command;
 use pattern_commands::ending::status::Status;

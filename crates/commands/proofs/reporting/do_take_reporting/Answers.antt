@@ -1,6 +1,6 @@
 use Rattle.std.proofs.Common.{◌∙◌, None, [], refl, sym}
 use Rattle.pattern_commands.specs.Streams.{stream}
-use Rattle.commands.proofs.EndLemmas.{if_memory, if_refused}
+use Rattle.line_commands.proofs.EndLemmas.{if_memory, if_refused}
 use Rattle.commands.proofs.ReportingLemmas.{fine_if_done, reporting_prints}
 use Rattle.commands.proofs.reporting.do_take_reporting.Goals as goal
 

@@ -3,8 +3,8 @@ use Rattle.std.proofs.KnownBytes.{Appends-nil}
 use Rattle.commands.specs.Take.{TellsAll}
 use Rattle.pattern_commands.proofs.AnswerLemmas.{err_of}
 use Rattle.commands.proofs.ReportingLemmas.{not_refused, reporting_ends, reporting_stops}
-use Rattle.commands.proofs.StillLemmas.{never_refused}
-use Rattle.commands.proofs.TakeLemmas.{Stops_opening}
+use Rattle.line_commands.proofs.StillLemmas.{never_refused}
+use Rattle.line_commands.proofs.OpeningLemmas.{Stops_opening}
 use Rattle.commands.proofs.reporting.print_reporting.Goals as goal
 
 pub returns-in_err-haul-clause-reached : goal.returns-in_err-haul-clause-reached

@@ -1,7 +1,7 @@
 use Rattle.std.proofs.Common.{◌∙◌, refl, sym}
 use Rattle.std.proofs.KnownBytes.{Appends-nil}
 use Rattle.pattern_commands.specs.Streams.{Stream, stream}
-use Rattle.commands.proofs.EndLemmas.{if_memory, if_refused}
+use Rattle.line_commands.proofs.EndLemmas.{if_memory, if_refused}
 use Rattle.commands.proofs.take.do_take_with.Goals as goal
 
 pub returns-clause-ends : goal.returns-clause-ends

@@ -2,8 +2,9 @@ use Rattle.std.proofs.Common.{◌≡◌, arith, refl}
 use Rattle.std.proofs.KnownBytes.{Appends-nil}
 use Rattle.commands.specs.Take.{TellsAll}
 use Rattle.pattern_commands.proofs.AnswerLemmas.{err_of}
-use Rattle.commands.proofs.StillLemmas.{never_refused}
-use Rattle.commands.proofs.TakeLemmas.{Stops_opening, memory_accepted, take_ends, take_stops}
+use Rattle.line_commands.proofs.StillLemmas.{never_refused}
+use Rattle.commands.proofs.TakeLemmas.{memory_accepted, take_ends, take_stops}
+use Rattle.line_commands.proofs.OpeningLemmas.{Stops_opening}
 use Rattle.commands.proofs.take.print_haul.Goals as goal
 
 pub returns-in_err-haul-clause-reached : goal.returns-in_err-haul-clause-reached
