@@ -56,7 +56,7 @@ in_set ranges normal taken n form missing =
     (All-filter (λ m. not (is_taken taken m)) (λ m. is_in normal m ≡ true) (numbers_of normal) (numbers_within normal)) missing
 
 -- the census of a haul has the job and the ranges for which the haul was opened
-counted_by : {workers : ℕ} (job : Job) (set : SoupSet) (opened held : Held) (census : Census) → IsOpened job set workers opened
+pub counted_by : {workers : ℕ} (job : Job) (set : SoupSet) (opened held : Held) (census : Census) → IsOpened job set workers opened
     → HasTakenMore opened held → IsCensus held.terms.job held.terms.ranges (numbers_in held.taken) census
     → IsCensus job opened.terms.ranges (numbers_in held.taken) census
 counted_by job set opened held census open_ h is =

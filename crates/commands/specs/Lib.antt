@@ -1,4 +1,6 @@
 pub mod LateReports
+pub mod Observed
+pub mod Passing
 pub mod Progress
 pub mod PutLaws
 pub mod ReportSteps
