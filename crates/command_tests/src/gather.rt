@@ -4,7 +4,7 @@ use crate::setup::plan_of;
 use crate::streams::{
     FaultyReader, FaultyWriter, Left, quick_writer, reader, reader_by, slow_writer,
 };
-use commands::gather::do_gather;
+use line_commands::gather::do_gather;
 use pattern_commands::ending::status::Status;
 use plane_core::output::Out;
 use std::alloc::Global;
