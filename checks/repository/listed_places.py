@@ -78,7 +78,9 @@ WITNESS_FILES = ("plane_core/output.rt", "pattern_commands/read_error.rt", "memo
 
 
 def witnesses_in(file: File) -> Iterator[Token]:
-    """Yields the tokens at which a witness is made: its fields are given, or a call returns it."""
+    """Yields the tokens at which a witness is made: its fields are given, or a call returns it. The
+    error that a write took no byte counts as a witness, too.
+    """
     for place, token in enumerate(file.code):
         before, after = file.code[max(place - 2, 0) : place], file.code[place + 1 : place + 3]
         is_witness = token in MADE or token == "Self" and file.name in WITNESS_FILES
@@ -86,6 +88,8 @@ def witnesses_in(file: File) -> Iterator[Token]:
             if before != ["-", ">"] and before[-1:] not in (["struct"], ["impl"], ["for"]):
                 yield token
         elif token in MADE and after[:1] == ["::"] or token == "no_room" and before[-1:] != ["fn"]:
+            yield token
+        elif token == "WriteZero":
             yield token
 
 
