@@ -3,7 +3,7 @@ places.md.
 
 A contract says what a call returns, but not that it ends soon, that it leaks nothing, or that a
 sleeping thread is woken. So these places are listed, each with a reason: loops that may not end and
-numbers of 2^32 or more, which could be the bound of a loop; the code that makes a witness of a
+numbers of 2^16 or more, which could be the bound of a loop; the code that makes a witness of a
 failure, such as an `OutOfMemory`; the steps on memory that threads share, in the order of the
 source; the fields that a hand-written `drop` doesn't drop; and the lines of `main`.
 """
@@ -30,8 +30,9 @@ DROPS = "Fields that a written `drop` leaves"
 MAIN = "The lines of `main`"
 HEADINGS = [LOOPS, WITNESSES, STEPS, DROPS, MAIN]
 
-# The smallest number that counts as large.
-LARGE = 2**32
+# The smallest number that counts as large. Two loops in one another, each with fewer turns, take
+# seconds at most.
+LARGE = 2**16
 
 
 class Place(NamedTuple):
@@ -52,7 +53,7 @@ def value_of(token: str) -> int | None:
 
 
 def is_large(code: Code, place: int) -> bool:
-    """Checks whether the token at `place` begins a number of 2^32 or more, or is the `MAX` or the
+    """Checks whether the token at `place` begins a number of 2^16 or more, or is the `MAX` or the
     `BITS` of a type of more than 16 bits."""
     if code[place] in ("MAX", "BITS") and code[place - 1] == "::":
         return code[place - 2] not in ("u8", "i8", "u16", "i16")
