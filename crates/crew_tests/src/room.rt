@@ -31,6 +31,7 @@ impl Gate for Counting<'_> {
 }
 
 /// An observer that is busy with the first report until `BEGUN` soups are begun, and notes whether that happened.
+#[derive(Drop)]
 struct Busy<'a> {
     begun: &'a Patience,
     is_first: bool,

@@ -153,11 +153,17 @@ fn tells_why_hauls_arent_joined(rt: HostRuntime) -> Result<(), Fail> {
 
 /// Returns a closed haul of the soups in a range for this many workers, which has taken the last worker's report on one
 /// of them.
-fn haul_by(alloc: Global, soups: Range, workers: u8, number: u32) -> Result<Haul, Fail> {
-    let job = quick_job("")?;
-    let report = Report::make(alloc, &job, workers, u64::from(number))?;
-    let mut haul = Haul::open(alloc, job, &[soups], workers)?;
-    let _ = haul.offer(report);
+fn haul_by(
+    alloc: Global,
+    job: &Job,
+    soups: Range,
+    workers: u8,
+    number: u32,
+) -> Result<Haul, OpenError> {
+    let mut haul = Haul::open(alloc, *job, &[soups], workers)?;
+    if let Ok(report) = Report::make(alloc, job, workers, u64::from(number)) {
+        let _ = haul.offer(report);
+    }
     Ok(closed(haul))
 }
 
@@ -181,8 +187,9 @@ fn has_both(alloc: Global, haul: &mut Haul) -> Result<bool, Fail> {
 
 #[test]
 fn joins_what_two_hauls_have(rt: HostRuntime) -> Result<(), Fail> {
-    let first = haul_by(rt.alloc(), range(0, 1), 1, 0).expect(&rt, "a haul");
-    let second = haul_by(rt.alloc(), range(2, 2), 2, 3).expect(&rt, "a haul");
+    let job = quick_job("")?;
+    let first = haul_by(rt.alloc(), &job, range(0, 1), 1, 0).expect(&rt, "a haul");
+    let second = haul_by(rt.alloc(), &job, range(2, 2), 2, 3).expect(&rt, "a haul");
     let mut joined = first.join(second).ok().expect(&rt, "a joined haul");
     let has = has_both(rt.alloc(), &mut joined);
     drop(joined);
