@@ -143,3 +143,15 @@ fn tells_an_interrupted_read(rt: HostRuntime) {
         );
     }
 }
+
+// The program has memory, whatever a reader says about its own.
+#[test]
+fn tells_a_read_for_which_the_reader_had_no_memory(rt: HostRuntime) {
+    for bad in [1, 2, 69, 204] {
+        let left = left_by_reads(rt.alloc(), bad, ErrorKind::OutOfMemory);
+        assert!(rt;
+            left.is(Status::Failed, b"", b"census: read failed\n"),
+            "read {bad}"
+        );
+    }
+}

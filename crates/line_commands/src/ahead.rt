@@ -9,8 +9,9 @@
 //! This replaces std's `BufReader`, because contracts don't say what becomes of a reader that was lent to a
 //! `BufReader`. Here, the reader is lent anew for each read.
 
-ghost use Rattle.std.specs.Prelude.{◌≡◌, ◌≢◌, ◌≤◌, ◌^◌, [], Err, IfOk, OnErr, OnOk, drop, length};
+ghost use Rattle.std.specs.Prelude.{◌≡◌, ◌≢◌, ◌≤◌, ◌^◌, [], Err, IfErr, IfOk, OnErr, OnOk, drop, length};
 ghost use Rattle.std.specs.Io.KnownBytes.{IsAtEnd, Keeps, prepend_known};
+ghost use Rattle.pattern_commands.specs.Inputs.{IsUnreadable};
 ghost use Rattle.pattern_commands.specs.declared.input.InputError.TheVariants.{TooLong};
 
 use memory::OutOfMemory;
@@ -61,12 +62,13 @@ impl Ahead {
     ///
     /// # Errors
     ///
-    /// `Memory` if the read fails because memory ran out, and `Unreadable` if it fails for any other reason.
+    /// `Unreadable` if the read fails, for whatever reason.
     pub(crate) fn fill<R: Read>(&mut self, input: &mut R) -> Result<(), InputError>
         ensures bytes { Keeps (prepend_known self.old (R.remaining input.old))
             (prepend_known self.new (R.remaining input.new)) }
         ensures end { OnOk result (self.new ≡ [] → IsAtEnd (R.remaining input.new)) }
         ensures short { result ≢ Err TooLong }
+        ensures failed { IfErr result IsUnreadable }
         ensures none { OnErr result (self.new ≡ []) }
         ensures few { length self.new ≤ 2 ^ 16 }
     {

@@ -91,8 +91,8 @@ impl Lines {
     ///
     /// # Errors
     ///
-    /// `TooLong` if the line has more than `room` bytes including its line feed; `Memory` if memory runs out; and
-    /// `Unreadable` if a read fails for any other reason.
+    /// `TooLong` if the line has more than `room` bytes including its line feed; `Unreadable` if a read fails; and
+    /// `Memory` if memory runs out for the line.
     pub(crate) fn next<R: Read>(&mut self, input: &mut R, room: u64) -> Result<LineRead, InputError>
         requires { room ≤ 2 ^ 32 }
         ensures read { IfOk result (HasReadLine room (prepend_known self.old.ahead (R.remaining input.old))
