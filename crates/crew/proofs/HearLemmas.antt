@@ -5,14 +5,14 @@ use Rattle.haul_core.specs.Books.{Held, entry}
 use Rattle.haul_core.specs.Reports.{Reported}
 use Rattle.handover.specs.Belts.{GotOne, Received}
 use Rattle.crew.specs.Crews.{HasAdded, HasHeard, IsHearing, report_in, reports_in}
-use Rattle.crew.specs.Events.{Begun, Counted, Event, Follows, Over, Paused, Resumed, Returned, Sent, Started, report_of, reports_among}
+use Rattle.crew.specs.Events.{Begun, Counted, Event, FollowsEvents, Over, Paused, Resumed, Returned, Sent, Started, report_of, reports_among}
 use Rattle.crew.specs.declared.note.Note.{Note}
 use Rattle.crew.specs.declared.note.Note.TheVariants.{Done, Report}
 use Rattle.crew.proofs.CrewLemmas.{reports_push}
 
 -- the counts of two lists of events joined are right if those of each list are
-pub follows_more : (xs ys : List Event) (before mid after : List (ℕ × ℕ)) → Follows before xs mid → Follows mid ys after → Follows before (xs ++ ys) after
-follows_more [] ys before mid after first more = subst (λ (l : List (ℕ × ℕ)). Follows l ys after) first more
+pub follows_more : (xs ys : List Event) (before mid after : List (ℕ × ℕ)) → FollowsEvents before xs mid → FollowsEvents mid ys after → FollowsEvents before (xs ++ ys) after
+follows_more [] ys before mid after first more = subst (λ (l : List (ℕ × ℕ)). FollowsEvents l ys after) first more
 follows_more (Sent r ∷ xs) ys before mid after (inl same) more = inl (follows_more xs ys before mid after same more)
 follows_more (Sent r ∷ xs) ys before mid after (inr took) more = inr (follows_more xs ys (before ++ entry r ∷ []) mid after took more)
 follows_more (Counted n ∷ xs) ys before mid after first more = (first.0, follows_more xs ys before mid after first.1 more)
@@ -24,7 +24,7 @@ follows_more (Resumed ∷ xs) ys before mid after first more = absurd first
 follows_more (Over ∷ xs) ys before mid after first more = absurd first
 
 -- a haul that took a report's soup, or didn't, follows the report
-pub follows_report : (r : Reported) (old new : Held) → (new ≡ old) ⊎ HasAdded (r ∷ []) old new → Follows old.taken (Sent r ∷ []) new.taken
+pub follows_report : (r : Reported) (old new : Held) → (new ≡ old) ⊎ HasAdded (r ∷ []) old new → FollowsEvents old.taken (Sent r ∷ []) new.taken
 follows_report r old new added =
     ⊎_elim (λ (same : new ≡ old). inl (ap (λ (h : Held). h.taken) same)) (λ (more : HasAdded (r ∷ []) old new). inr more.taken) added
 
@@ -54,7 +54,7 @@ module _ {O : Type 0} (hears : O → List Event → O → Type 0)
   -- `IsHearing` holds after some more notes if the observer has heard the events that belong to them
   abbrev heard_more : {old new next : Received Note} {before mid after : Held} (s m t : O) (notes : List (ℕ × Note)) (events : List Event)
       → IsHearing old new before mid (λ es. hears s es m) → next.got ≡ new.got ++ notes → hears m events t
-      → reports_among events ≡ reports_in notes → Follows mid.taken events after.taken
+      → reports_among events ≡ reports_in notes → FollowsEvents mid.taken events after.taken
       → IsHearing old next before after (λ es. hears s es t)
   heard_more {old} {new} {next} {before} {mid} {after} s m t notes events h got more reports counts = record {
     notes = h.notes ++ notes;

@@ -12,7 +12,7 @@ use Rattle.haul_core.specs.Books.{Held}
 use Rattle.haul_core.specs.Reports.{IsWorker}
 use Rattle.handover.specs.Belts.{Presented, Received, silent}
 use Rattle.handover.specs.Tickets.{Drawn, fresh}
-use Rattle.crew.specs.CrewSteps.{HasHeardAll, HasRunAll, HaveRoom, HasAddedEndpoint, IsTakenOut, MayRun, cause_of, collector_of, end_of, stopped_with}
+use Rattle.crew.specs.CrewSteps.{HasHeardAll, HasRunAll, HaveRoom, HasAddedEndpoint, IsTakenOut, MayRun, cause_of, collector_of, worker_end, stopped_with}
 use Rattle.crew.specs.Crews.{Collected, Collector, HasHeard, collector_with}
 use Rattle.crew.specs.Events.{Event, Returned, Started, returned}
 use Rattle.crew.specs.Workers.{Leaves, how_many_started, lacks_memory, sender_numbers, was_started}
@@ -267,15 +267,15 @@ module _ {may_stop lets : ℕ → ℕ → Type 0} {shared : Shared} where
 
 -- the events after those of one more worker, if `n` workers were started in all
 returned_more : (n m : ℕ) (events : List Event) (results : List WorkerResult) (worker_result : WorkerResult) → n ≡ m
-    → (Started n ∷ events ++ returned (map end_of results)) ++ Returned worker_result.sender.number worker_result.end ∷ []
-    ≡ Started m ∷ events ++ returned (map end_of (results ++ worker_result ∷ []))
+    → (Started n ∷ events ++ returned (map worker_end results)) ++ Returned worker_result.sender.number worker_result.end ∷ []
+    ≡ Started m ∷ events ++ returned (map worker_end (results ++ worker_result ∷ []))
 returned_more n m events results worker_result same =
-    let one : List (ℕ × WorkerEnd) = end_of worker_result ∷ [] in
-    let ends : returned (map end_of (results ++ worker_result ∷ [])) ≡ returned (map end_of results) ++ returned one =
-    ap returned (map-append end_of results (worker_result ∷ []))
-    ∙ map-append (λ (e : ℕ × WorkerEnd). Returned e.0 e.1) (map end_of results) one in
-    ap (λ (l : List Event). Started n ∷ l) (append_assoc events (returned (map end_of results)) (returned one) ∙ ap (λ (l : List Event). events ++ l) (sym ends))
-    ∙ ap (λ (k : ℕ). Started k ∷ events ++ returned (map end_of (results ++ worker_result ∷ []))) same
+    let one : List (ℕ × WorkerEnd) = worker_end worker_result ∷ [] in
+    let ends : returned (map worker_end (results ++ worker_result ∷ [])) ≡ returned (map worker_end results) ++ returned one =
+    ap returned (map-append worker_end results (worker_result ∷ []))
+    ∙ map-append (λ (e : ℕ × WorkerEnd). Returned e.0 e.1) (map worker_end results) one in
+    ap (λ (l : List Event). Started n ∷ l) (append_assoc events (returned (map worker_end results)) (returned one) ∙ ap (λ (l : List Event). events ++ l) (sym ends))
+    ∙ ap (λ (k : ℕ). Started k ∷ events ++ returned (map worker_end (results ++ worker_result ∷ []))) same
 
 module _ {O : Type 0} (hears : O → List Event → O → Type 0)
     (hears_more : (s m t : O) (xs ys : List Event) → hears s xs m → hears m ys t → hears s (xs ++ ys) t)
@@ -286,15 +286,15 @@ module _ {O : Type 0} (hears : O → List Event → O → Type 0)
       → HasHeardAll ran (λ events. hears s events t)
   heard_all_none crew new s t ran none h =
       heard_as (λ events. hears s (Started crew.away ∷ events) t)
-      (λ events. hears s (Started (crew.away + how_many_started ran.results) ∷ events ++ returned (map end_of ran.results)) t)
+      (λ events. hears s (Started (crew.away + how_many_started ran.results) ∷ events ++ returned (map worker_end ran.results)) t)
       (λ events heard. subst (λ (l : List Event). hears s l t) (same events) heard) h
     where
-      same : (events : List Event) → Started crew.away ∷ events ≡ Started (crew.away + how_many_started ran.results) ∷ events ++ returned (map end_of ran.results)
+      same : (events : List Event) → Started crew.away ∷ events ≡ Started (crew.away + how_many_started ran.results) ∷ events ++ returned (map worker_end ran.results)
       same events =
           let zero_is : how_many_started [] ≡ 0 = refl in
           let away : crew.away ≡ crew.away + how_many_started [] = omega arith in
           ap (λ (k : ℕ). Started k ∷ events) away ∙ ap (λ (l : List Event). Started (crew.away + how_many_started []) ∷ l) (sym (append-nil events))
-          ∙ ap (λ (l : List WorkerResult). Started (crew.away + how_many_started l) ∷ events ++ returned (map end_of l)) (sym none)
+          ∙ ap (λ (l : List WorkerResult). Started (crew.away + how_many_started l) ∷ events ++ returned (map worker_end l)) (sym none)
 
   -- `HasHeardAll` holds once the observer has heard how one more worker ended
   pub heard_all_more : (next : Endpoints) (crew mid new : Crew) (worker : ℕ) (worker_result : WorkerResult) (b : Bool) (started : ℕ) (s m t : O)
@@ -306,20 +306,20 @@ module _ {O : Type 0} (hears : O → List Event → O → Type 0)
   heard_all_more next crew mid new worker worker_result b started s m t ran all results with_thread byte haul receiver is h one =
       subst₂ (λ (r : Received Note) (held : Held). HasHeard crew.receiver r crew.haul held others) (sym receiver) (sym haul)
       (heard_as _ others (λ events heard. subst (λ (l : List Event). hears s l t) (same events)
-      (hears_more s m t (Started (crew.away + started + how_many_started ran.results) ∷ events ++ returned (map end_of ran.results))
+      (hears_more s m t (Started (crew.away + started + how_many_started ran.results) ∷ events ++ returned (map worker_end ran.results))
       (Returned worker_result.sender.number worker_result.end ∷ []) heard
       (subst (λ (w : ℕ). hears m (Returned w worker_result.end ∷ []) t) is one))) h)
     where
       others : List Event → Type 0
-      others events = hears s (Started (crew.away + how_many_started all.results) ∷ events ++ returned (map end_of all.results)) t
+      others events = hears s (Started (crew.away + how_many_started all.results) ∷ events ++ returned (map worker_end all.results)) t
 
       many : crew.away + started + how_many_started ran.results ≡ crew.away + how_many_started (ran.results ++ worker_result ∷ [])
       many = let more = started_more ran.results worker_result b started with_thread byte in omega arith
 
       same : (events : List Event)
-          → (Started (crew.away + started + how_many_started ran.results) ∷ events ++ returned (map end_of ran.results))
+          → (Started (crew.away + started + how_many_started ran.results) ∷ events ++ returned (map worker_end ran.results))
           ++ Returned worker_result.sender.number worker_result.end ∷ []
-          ≡ Started (crew.away + how_many_started all.results) ∷ events ++ returned (map end_of all.results)
+          ≡ Started (crew.away + how_many_started all.results) ∷ events ++ returned (map worker_end all.results)
       same events =
           returned_more _ _ events ran.results worker_result many
-          ∙ ap (λ (l : List WorkerResult). Started (crew.away + how_many_started l) ∷ events ++ returned (map end_of l)) (sym results)
+          ∙ ap (λ (l : List WorkerResult). Started (crew.away + how_many_started l) ∷ events ++ returned (map worker_end l)) (sym results)

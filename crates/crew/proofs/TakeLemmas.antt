@@ -20,9 +20,9 @@ use Rattle.haul_core.specs.Keeping.{numbers_in}
 use Rattle.haul_core.specs.Reports.{IsWorker, Reported}
 use Rattle.handover.specs.Belts.{IsWhole, Presented, Received, deaf, notes_of, silent}
 use Rattle.handover.specs.Tickets.{Drawn, drawn_by_all}
-use Rattle.crew.specs.CrewSteps.{HasHeardAll, HasRunAll, cause_of, end_of}
+use Rattle.crew.specs.CrewSteps.{HasHeardAll, HasRunAll, cause_of, worker_end}
 use Rattle.crew.specs.Crews.{HasAdded, report_in, reports_in}
-use Rattle.crew.specs.Events.{Begun, EndsAtCount, Event, Follows, Over, Started, report_of, reports_among, returned, whole_run}
+use Rattle.crew.specs.Events.{Begun, EndsAtCount, Event, FollowsEvents, Over, Started, report_of, reports_among, returned, whole_run}
 use Rattle.crew.specs.Workers.{HasReported, IsOwnReport, Leaves, StopsAt, how_many_started, reported, sender_numbers}
 use Rattle.crew.specs.Takes.{EndsWith, HasHeardCrew, HasTaken, IsPossibleEnd, started_among, taken_by, times_reported, was_missing}
 use Rattle.crew.specs.declared.note.Note.{Note}
@@ -433,8 +433,8 @@ module _ {may_stop lets : ℕ → ℕ → Type 0} (shared : Shared) (workers : �
       let of = crew_part reports (part_all reports) in
       let notes : h.hearing.notes ≡ c.notes = sym (h.hearing.got ∙ ap (λ (r : Received Note). r.got ++ h.hearing.notes) begun) ∙ notes_are in
       let n : ℕ = old.away + how_many_started ran.results in
-      let ends : List (ℕ × WorkerEnd) = map end_of ran.results in
-      let many : old.away + how_many_started ran.results ≡ started_among (map end_of ran.results) =
+      let ends : List (ℕ × WorkerEnd) = map worker_end ran.results in
+      let many : old.away + how_many_started ran.results ≡ started_among (map worker_end ran.results) =
       (let all = started_of_ends ran.results in omega (arith, nobody, all)) in
       let events : List Event = Started n ∷ h.hearing.events ++ returned ends in
       let are : reports_among events ≡ reports =
@@ -448,7 +448,7 @@ module _ {may_stop lets : ℕ → ℕ → Type 0} (shared : Shared) (workers : �
           told = h.hearing.events;
           parts = ap (λ (k : ℕ). Started k ∷ h.hearing.events ++ returned ends) many;
           each = workers_of_ends ran.results ∙ all_numbers;
-          counts = subst (λ (x : Held). Follows old.haul.taken h.hearing.events x.taken) (sym same) h.hearing.counts;
+          counts = subst (λ (x : Held). FollowsEvents old.haul.taken h.hearing.events x.taken) (sym same) h.hearing.counts;
           last = subst (λ (x : Held). EndsAtCount (length x.taken) h.hearing.events) (sym same) h.last;
         });
         may = may_of_all shared (was_missing old.haul) listed ran.results ran.left;

@@ -101,8 +101,8 @@ pub record HasRunAll (may_stop lets : ℕ → ℕ → Type 0) (shared : Shared) 
   pub collected : Collected (collector_of (old.away + how_many_started results) old) (collector_of 0 new) answered
 
 -- the number of a worker that is back, and how it ended
-abbrev pub end_of : WorkerResult → ℕ × WorkerEnd
-end_of worker_result = (worker_result.sender.number, worker_result.end)
+abbrev pub worker_end : WorkerResult → ℕ × WorkerEnd
+worker_end worker_result = (worker_result.sender.number, worker_result.end)
 
 -- What an observer heard of such a crew: how many workers were started, then what it heard from the collector, and then
 -- how each worker of the old endpoints has ended.
@@ -110,4 +110,4 @@ abbrev pub HasHeardAll : {may_stop lets : ℕ → ℕ → Type 0} {shared : Shar
     → (List Event → Type 0) → Type 0
 HasHeardAll {old = old} {new = new} ran hears =
     HasHeard old.receiver new.receiver old.haul new.haul
-    (λ events. hears (Started (old.away + how_many_started ran.results) ∷ events ++ returned (map end_of ran.results)))
+    (λ events. hears (Started (old.away + how_many_started ran.results) ∷ events ++ returned (map worker_end ran.results)))

@@ -8,7 +8,7 @@ use Rattle.haul_core.specs.Reports.{Reported}
 use Rattle.haul_core.specs.declared.book.arrival.Arrival.{Arrival}
 use Rattle.haul_core.specs.declared.book.arrival.Arrival.TheVariants.{Offer}
 use Rattle.handover.specs.Belts.{Received}
-use Rattle.crew.specs.Events.{EndsAtCount, Event, Follows, reports_among}
+use Rattle.crew.specs.Events.{EndsAtCount, Event, FollowsEvents, reports_among}
 use Rattle.crew.specs.declared.note.Note.{Note}
 use Rattle.crew.specs.declared.note.Note.TheVariants.{Done, Report}
 
@@ -95,7 +95,7 @@ pub record IsHearing (old new : Received Note) (before after : Held) (hears : Li
   pub events : List Event
   pub heard : hears events
   pub reports : reports_among events ≡ reports_in notes
-  pub counts : Follows before.taken events after.taken
+  pub counts : FollowsEvents before.taken events after.taken
 
 -- `IsHearing` holds, and the last event is the count of all soups that the haul has taken
 pub record HasHeard (old new : Received Note) (before after : Held) (hears : List Event → Type 0) : Type 0 where

@@ -41,16 +41,16 @@ reports_among events = flat_map report_of events
 -- While these events were heard, a haul went from one list of taken soups to another: it took the soup of a report when
 -- the report was sent, or didn't take it. Each count is the number of soups that the haul had taken by then. The events
 -- are only reports and counts.
-abbrev pub Follows : (before : List (ℕ × ℕ)) → List Event → (after : List (ℕ × ℕ)) → Type 0
-Follows before [] after = after ≡ before
-Follows before (Sent report ∷ more) after = Follows before more after ⊎ Follows (before ++ entry report ∷ []) more after
-Follows before (Counted taken ∷ more) after = (taken ≡ length before) × Follows before more after
-Follows before (Begun whole workers ∷ more) after = ⊥
-Follows before (Started workers ∷ more) after = ⊥
-Follows before (Returned worker ended ∷ more) after = ⊥
-Follows before (Paused ∷ more) after = ⊥
-Follows before (Resumed ∷ more) after = ⊥
-Follows before (Over ∷ more) after = ⊥
+abbrev pub FollowsEvents : (before : List (ℕ × ℕ)) → List Event → (after : List (ℕ × ℕ)) → Type 0
+FollowsEvents before [] after = after ≡ before
+FollowsEvents before (Sent report ∷ more) after = FollowsEvents before more after ⊎ FollowsEvents (before ++ entry report ∷ []) more after
+FollowsEvents before (Counted taken ∷ more) after = (taken ≡ length before) × FollowsEvents before more after
+FollowsEvents before (Begun whole workers ∷ more) after = ⊥
+FollowsEvents before (Started workers ∷ more) after = ⊥
+FollowsEvents before (Returned worker ended ∷ more) after = ⊥
+FollowsEvents before (Paused ∷ more) after = ⊥
+FollowsEvents before (Resumed ∷ more) after = ⊥
+FollowsEvents before (Over ∷ more) after = ⊥
 
 -- the last event is this count
 abbrev pub EndsAtCount : ℕ → List Event → Type 0

@@ -9,7 +9,7 @@ use Rattle.haul_core.specs.Missing.{missing_of}
 use Rattle.haul_core.specs.Reports.{Reported}
 use Rattle.haul_core.specs.Subsequences.{IsSubsequence}
 use Rattle.crew.specs.Crews.{HasAdded}
-use Rattle.crew.specs.Events.{EndsAtCount, Event, Follows, Started, reports_among, returned}
+use Rattle.crew.specs.Events.{EndsAtCount, Event, FollowsEvents, Started, reports_among, returned}
 use Rattle.crew.specs.Workers.{StopsAt, was_started, was_stopped}
 use Rattle.crew.specs.declared.take.CrewError.{CrewError}
 use Rattle.crew.specs.declared.take.CrewError.TheVariants as crew_error
@@ -70,7 +70,7 @@ pub record IsCourse (workers : ℕ) (before after : List (ℕ × ℕ)) (events :
   pub told : List Event
   pub parts : events ≡ Started (started_among ends) ∷ told ++ returned ends
   pub each : map (λ e. e.0) ends ≡ range_with_len 1 workers
-  pub counts : Follows before told after
+  pub counts : FollowsEvents before told after
   pub last : EndsAtCount (length after) told
 
 -- An observer heard these events of a crew, and `hears` holds for them. There are none if no worker began because no
