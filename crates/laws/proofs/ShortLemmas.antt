@@ -14,7 +14,7 @@ use Rattle.survey_core.specs.Findings.{IsFinding, objects_in}
 use Rattle.survey_core.specs.Soups.{soup}
 use Rattle.code_core.specs.Apgcodes.{HasCodeShape}
 use Rattle.ranges.specs.declared.range.Range.{Range}
-use Rattle.ranges.specs.Ranges.{AreBelow, AreNormal, worker_end, is_in, is_in_range, number_bound, size_of}
+use Rattle.ranges.specs.Ranges.{AreBelow, AreNormal, end_of, is_in, is_in_range, number_bound, size_of}
 use Rattle.haul_core.specs.declared.book.census_rows.Row.{Row}
 use Rattle.haul_core.specs.ClaimChecks.{HaveShape}
 use Rattle.haul_core.specs.Keeping.{numbers_in}
@@ -83,8 +83,8 @@ in_below : (ranges : List Range) (n : ℕ) → AreBelow number_bound ranges → 
 in_below [] n below h = absurd (false≢true h)
 in_below (r ∷ ranges) n below h = elim (cases_Bool (is_in_range n r)) [
   | inl here ↦
-      let end : worker_end r ≤ 2 ^ 40 = below 0 r (omega arith) in
-      let less : n < worker_end r = ltb-true n (worker_end r) (and_parts (nat_le r.first n) (nat_lt n (worker_end r)) here).1 in
+      let end : end_of r ≤ 2 ^ 40 = below 0 r (omega arith) in
+      let less : n < end_of r = ltb-true n (end_of r) (and_parts (nat_le r.first n) (nat_lt n (end_of r)) here).1 in
       omega (arith, end, less)
   | inr other ↦ in_below ranges n (λ k d low. below (suc k) d (omega arith)) (sym (ap (λ (b : Bool). b || is_in ranges n) other) ∙ h)
 ]
@@ -138,7 +138,7 @@ haul_censuses_are_short job ranges numbers census valid normal below taken h = r
   job = subst IsJob (sym h.job_is) valid;
   normal = subst AreNormal (sym h.set) normal;
   ranges = subst (λ (rs : List Range). All (λ r. IsWrittenWhole r.first × IsWrittenWhole r.count) rs) (sym h.set)
-      (λ k d low. let end : worker_end (get_or ranges k d) ≤ 2 ^ 40 = below k d low in (omega (arith, end), omega (arith, end)));
+      (λ k d low. let end : end_of (get_or ranges k d) ≤ 2 ^ 40 = below k d low in (omega (arith, end), omega (arith, end)));
   size = h.size ∙ ap size_of (sym h.set);
   soups = let same = h.soups_are in omega (arith, same, few);
   unsettled = let same = h.unsettled_are in omega (arith, same, surveyed, few, count_by-le-length (λ s. is_unsettled s.finding) h.surveys);
