@@ -7,7 +7,7 @@ use Rattle.std.proofs.lemmas.List.Elements.{All-append, All-cons, All-nil}
 use Rattle.std.specs.List.{All}
 use Rattle.std.specs.List.{range_with_len}
 use Rattle.ranges.specs.declared.range.Range.{Range}
-use Rattle.ranges.specs.Ranges.{worker_end, is_in}
+use Rattle.ranges.specs.Ranges.{end_of, is_in}
 use Rattle.haul_core.specs.Missing.{numbers_of_range, numbers_of}
 
 range_push : (a n : ℕ) → range_with_len a (suc n) ≡ range_with_len a n ++ (a + n) ∷ []
@@ -30,6 +30,6 @@ pub numbers_within : (ranges : List Range) → All (λ n. is_in ranges n ≡ tru
 numbers_within [] = All-nil (λ n. is_in [] n ≡ true)
 numbers_within (r ∷ more) =
     All-append (λ n. is_in (r ∷ more) n ≡ true) (numbers_of_range r) (numbers_of more)
-    (λ k d low. let within = numbers_between r.first (worker_end r) r.first r.count (omega arith) (omega arith) k d low in
+    (λ k d low. let within = numbers_between r.first (end_of r) r.first r.count (omega arith) (omega arith) k d low in
     or_left _ _ (and_from _ _ (le-leb _ _ within.0) (lt-ltb _ _ within.1)))
     (λ k d low. or_right _ _ (numbers_within more k d low))

@@ -8,7 +8,7 @@
 
 ghost use Rattle.std.specs.Prelude.{◌≡◌, ◌<◌, ◌≤◌, ◌∷◌, [], ℕ, List, Option, IfErr, false};
 ghost use Rattle.memory.specs.Witness.{out_of_memory};
-ghost use Rattle.ranges.specs.Ranges.{AreBelow, worker_end, number_bound};
+ghost use Rattle.ranges.specs.Ranges.{AreBelow, end_of, number_bound};
 ghost use Rattle.haul_core.specs.ReportLines.{report_text};
 ghost use Rattle.haul_core.specs.Reports.{IsWorker};
 ghost use Rattle.plane_core.specs.Outputs.{Writes};
@@ -142,7 +142,7 @@ fn put_range<W: Write>(
     output: &mut Out<W>,
 ) -> Result<(), Complaint>
     requires worker { IsWorker worker }
-    requires range { worker_end range ≤ number_bound }
+    requires range { end_of range ≤ number_bound }
     requires output { output.old.failed ≡ false }
     ensures { Puts (reports_on job.now worker (numbers_of_range range)) result
         (stream W.contents output.old output.new) }
