@@ -14,12 +14,13 @@ from haul.cli.streams import Refused, Streams
 from haul.collections.naming import Namings, find_namings
 from haul.collections.pattern_files import PassedOver, read_collection
 from haul.names.objects import load_names
+from haul.names.spelling import simplify
 from haul.names.user_names import ENDING, Naming, find_tables, read_namings, write_namings
 from haul.plurals import pluralize, write_count
 from haul.terminal import escape_controls
 from haul.user_data import find_folder, locked
 
-NO_FOLDER = "there is no folder for names, since HAUL_DATA is empty or --no-data is given"
+NO_FOLDER = "there is no folder for names, since HAUL_DATA is empty"
 
 
 def find_fault_of_names(asked: argparse.Namespace) -> str | None:
@@ -63,7 +64,7 @@ def add_names(asked: argparse.Namespace, streams: Streams) -> Iterator[str]:
                 table = folder / "names" / f"{rule}{ENDING}"
                 before = read_namings(table) if table.exists() else []
                 write_namings(table, [*before, *found])
-        names = sum(map(len, namings.found.values()))
+        names = sum(len(set(found)) for found in namings.found.values())
         over = write_count(namings.passed_over, "file or line", "files or lines")
         more = "" if asked.verbose or not namings.passed_over else " (--verbose lists them)"
         yield f"{escape_controls(path)}: {write_count(names, 'name')}; {over} passed over{more}"
@@ -120,7 +121,7 @@ def count_names() -> Iterator[str]:
         yield f"{write_count(number, 'name')} under {rule} from {escape_controls(file)}"
     objects: dict[tuple[str, str], set[str]] = {}
     for rule, naming in list_namings():
-        objects.setdefault((rule, naming.name), set()).add(naming.code)
+        objects.setdefault((rule, simplify(naming.name)), set()).add(naming.code)
     ambiguous = sum(len(codes) > 1 for codes in objects.values())
     if ambiguous:
         verb = pluralize(ambiguous, "belongs", "belong")

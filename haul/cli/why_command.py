@@ -182,10 +182,11 @@ def read_profile(asked: argparse.Namespace) -> Profile:
 WHY = Command(
     "why",
     "say why soups are unsettled, or why a pattern is",
-    "Each soup has a line: it `settled`, an object\n`falls apart`, or has a `period` that is too long, "
-    "it `settles` soon, shows `linear growth`,\n`collides soon` or is `still active`, or the fate is "
-    "`not decided`; and then what explains\nthat. Soups are given by their numbers, or by a FILE of "
-    "report lines, such as the FILE.late\nof `haul search`.\n\n"
+    "Each soup has a line with its fate and\nwhat explains it. These are the fates: the soup "
+    "`settled`; an object `falls apart`; an object has\na `period` that is too long; the soup "
+    "`settles after` the limit; the population has `linear\ngrowth`; the soup `collides soon`, "
+    "because two of its objects do; it is `still active`; or its\nfate is `not decided`. Soups are "
+    "given by their numbers, or by a FILE of report lines, such as\nthe FILE.late of `haul search`.\n\n"
     "examples:\n  haul why 33569\n  haul why --most 5 mine.haul.late\n  haul why --pattern gun.rle",
     (
         option("--seed", "SEED", "the seed of the soups (default: the empty seed)", read_seed),
@@ -203,15 +204,15 @@ WHY = Command(
         option(
             "--keep",
             "FILE.late",
-            "find what became of all unsettled soups in FILE.late, which `haul search` keeps, and "
-            "keep it there; then count the kinds",
+            "find the fates of all unsettled soups in the FILE.late of a search, keep them in that "
+            "file, and count them",
             read_path,
         ),
-        flag("--kinds", "count the kinds of fates of all soups instead of listing the soups"),
+        flag("--kinds", "count the fates of all soups instead of printing a line for each soup"),
         option(
             "--most",
             "N",
-            f"explain the first N unsettled soups of FILE (default: {USUAL_MOST})",
+            f"explain the first N unsettled soups of FILE (default: {USUAL_MOST}, or all with --kinds)",
             read_count,
         ),
         option(

@@ -62,10 +62,15 @@ Found = NamedPattern | NamedCode | PassedOver
 def read_collection(path: str) -> Iterator[Found]:
     """Yields what is in a file, a folder or an archive. Raises `OSError` if it can't be read."""
     if os.path.isdir(path):
-        for above, folders, names in os.walk(path):
+        unread: list[OSError] = []
+        for above, folders, names in os.walk(path, onerror=unread.append):
             folders.sort()
             for name in sorted(names):
                 yield from read_file(os.path.join(above, name))
+        for error in unread:
+            if error.filename == path:
+                raise error
+            yield PassedOver(str(error.filename), str(error.strerror))
     else:
         with open(path, "rb"):
             yield from read_file(path)
@@ -77,7 +82,7 @@ def read_file(path: str) -> Iterator[Found]:
             yield PassedOver(path, "not a file")
         elif zipfile.is_zipfile(path):
             yield from read_members(path, list_zip(path))
-        elif path.endswith((".tar", ".tgz")) or ".tar." in path:
+        elif path.endswith((".tar", ".tgz")) or ".tar." in os.path.basename(path):
             yield from read_members(path, list_tar(path))
         elif path.endswith(".gz"):
             with gzip.open(path) as file:

@@ -76,7 +76,7 @@ def count_fates(fates: Iterable[Fate | None], unsettled: int) -> list[FateRow]:
     known = Counter(name_fate(fate) for fate in fates if fate is not None)
     rows = sorted(known.items(), key=lambda row: (-row[1], row[0]))
     left = unsettled - sum(known.values())
-    return [FateRow(*row) for row in rows] + ([FateRow(NOT_FOUND, left)] if left else [])
+    return [FateRow(*row) for row in rows] + ([FateRow(NOT_FOUND, left)] if left > 0 else [])
 
 
 def find_kept_fate(line: LateLine) -> Fate | None:

@@ -41,7 +41,7 @@ def read_lines(text: bytes) -> dict[str, int | None]:
     """Reads lines such as `"xs4_33","123"` or `xs4_33 123`. The first line may be a head. A line
     without a count is a code only."""
     counts: dict[str, int | None] = {}
-    rows = csv.reader(io.StringIO(text.decode("utf-8", "replace"), newline=""))
+    rows = csv.reader(io.StringIO(text.decode("utf-8-sig", "replace"), newline=""))
     try:
         for number, row in enumerate(rows, 1):
             fields = [field.strip() for field in row] if len(row) > 1 else "".join(row).split()

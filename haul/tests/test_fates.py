@@ -2,6 +2,7 @@
 
 from __future__ import annotations
 
+import io
 import json
 import random
 import signal
@@ -9,15 +10,19 @@ import subprocess
 import sys
 import time
 import unittest
+from collections.abc import Iterator
 from pathlib import Path
 from tempfile import TemporaryDirectory
 from unittest.mock import patch
 
+from haul.fates.explain import Fates
 from haul.fates.fate import Fate, Kind
 from haul.fates.reference import find_fate_name, load_fates
-from haul.fates.rows import FateRow, count_fates, name_fate, read_fate
-from haul.formats.late_file import Late, read_late
+from haul.fates.rows import FateRow, count_fates, is_missing, name_fate, read_fate
+from haul.formats.haul_reader import read_one_haul
+from haul.formats.late_file import Late, LateLine, read_late
 from haul.tests.called import CENSUS, HAUL, TOP, census, run
+from haul.views.fate_rows import format_compared_fates
 
 # Soups of the empty seed that are unsettled, with their fates: both kinds of switch engines.
 UNSETTLED = {33569: "+59 cells in 384 generations (glider-producing switch engine)"}
@@ -51,11 +56,22 @@ class Rows(unittest.TestCase):
             self.assertIsNone(read_fate(text))
 
     def test_counts_agree_with_the_haul(self) -> None:
-        fates = [read_fate(text) for text in ("period 100", "settles after 9", "period 100")]
-        rows = [FateRow("period 100", 2), FateRow("settles after the limit", 1)]
+        fates = [read_fate(text) for text in ("settles after 9", "period 100", "settles after 12")]
+        rows = [FateRow("settles after the limit", 2), FateRow("period 100", 1)]
         self.assertEqual(count_fates(fates, 3), rows)
         self.assertEqual(count_fates([*fates, None], 5), [*rows, FateRow("not found yet", 2)])
         self.assertEqual(count_fates([], 0), [])
+
+    def test_a_late_soup_has_no_fate(self) -> None:
+        self.assertTrue(is_missing(LateLine(5, None, b"")))
+        self.assertFalse(is_missing(LateLine(5, 12000, b"")))
+
+    def test_each_haul_has_its_own_number_of_soups(self) -> None:
+        hauls = [
+            read_one_haul(io.BytesIO(census("take", "--count", count))) for count in ("2", "4")
+        ]
+        lines = list(format_compared_fates([[FateRow("period 100", 1)]] * 2, hauls, None))
+        self.assertEqual(lines[-1].split(), ["1", "2.00", "1", "4.00", "period", "100"])
 
 
 class OfTheReference(unittest.TestCase):
@@ -117,7 +133,9 @@ class Kept(unittest.TestCase):
             self.assertEqual(self.late.read_bytes(), text)
             said = self.call("why", str(self.late)).splitlines()
             self.assertEqual(said, [f"{k} linear growth: {why}" for k, why in UNSETTLED.items()])
-            counted = self.call("why", "--kinds", "--csv", str(self.late)).splitlines()
+            # Without --most, the kinds of all soups are counted.
+            with patch("haul.cli.why_command.USUAL_MOST", 1):
+                counted = self.call("why", "--kinds", "--csv", str(self.late)).splitlines()
             self.assertEqual(
                 counted, ["soups,fate", *(row.replace(" ", ",", 1) for row in sorted(rows))]
             )
@@ -138,6 +156,17 @@ class Kept(unittest.TestCase):
             self.assertEqual(self.keep(), "2 settles after the limit\n")
         settled = Fate(Kind.SETTLED, "101")
         with patch("haul.fates.explain.Fates.find", return_value=settled):
+            self.assertEqual(self.keep(), "2 settles after the limit\n")
+
+    def test_fates_are_kept_while_others_are_found(self) -> None:
+        def find_all(_: Fates, soups: list[int]) -> Iterator[Fate]:
+            for number, _soup in enumerate(soups):
+                self.assertEqual(self.late.read_bytes().count(b"# fate"), number)
+                yield Fate(Kind.SETTLES, "after 30300")
+
+        with patch("haul.search.fate_keeper.SECONDS_BETWEEN_WRITING", 0), patch(
+            "haul.fates.explain.Fates.find_all", find_all
+        ):
             self.assertEqual(self.keep(), "2 settles after the limit\n")
 
     def test_what_is_refused(self) -> None:

@@ -706,8 +706,9 @@ class StatusLines(Searches):
                 while piece := os.read(ours, 65536):
                     said += piece
         os.close(ours)
-        self.assertTrue(said.endswith(b"\r\x1b[K"))
-        lines = [line for line in said.decode().split("\r\x1b[K") if line]
+        *lines, last = said.decode().split("\r\x1b[K")
+        self.assertRegex(last, r"^(haul: .* no fate yet; to find out: .*\.late\r\n)?$")
+        lines = [line for line in lines if line]
         self.assertGreater(len(lines), 0)
         for line in lines:
             self.assertLessEqual(len(line), 79)

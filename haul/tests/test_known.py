@@ -8,6 +8,7 @@ import json
 import subprocess
 import sys
 import unittest
+from unittest.mock import patch
 
 from haul.formats.haul import Job
 from haul.formats.profile import STANDARD
@@ -47,6 +48,9 @@ class Known(UserData):
         self.assertEqual(self.known(), ("", ""))
         self.assertNotIn("among", self.haul("rarity", "block")[0])
         self.known("--remove", codes, status=3)
+        # SQLite gives the number of a removed list to a new one.
+        self.known("--add", codes)
+        self.assertIn("; 123 in codes.csv\n", self.haul("rarity", "block")[0])
 
     def test_what_is_refused(self) -> None:
         for text, why in (
@@ -60,6 +64,10 @@ class Known(UserData):
             path = self.write("list", text)
             _, errors = self.known("--add", path, status=3)
             self.assertEqual(errors.partition(f"{path}: ")[2].partition("\n")[0][: len(why)], why)
+        path = self.write("list", LIST)
+        with patch("haul.cli.known_command.MOST_BYTES", len(LIST) - 1):
+            _, errors = self.known("--add", path, status=3)
+        self.assertEqual(errors, f"haul: {path}: longer than {len(LIST) - 1} bytes\n")
         self.assertFalse((self.data / "known.sqlite").exists())
 
     def test_a_damaged_database(self) -> None:
@@ -92,6 +100,20 @@ class Known(UserData):
         self.assertEqual((len(fields), fields[-1]), (7, "5 in codes.csv"))
         late = ["", "settled", "-", "5", "-", "-"]
         self.assertEqual(show_fields("b3s23", late), [*late, "-"])
+
+    def test_a_list_without_counts(self) -> None:
+        # Some programs write a byte order mark.
+        self.known("--add", self.write("codes", b"\xef\xbb\xbfxs4_33\n"))
+        self.assertIn("; in codes\n", self.haul("rarity", "block")[0])
+        lines = self.haul("table", "--top", "1", self.write("haul", taken(40)))[0].splitlines()
+        self.assertEqual([line.split()[7] for line in lines], ["known", "yes"])
+
+    def test_names_of_finds(self) -> None:
+        """A name that the user has added is shown under its rule only."""
+        self.add(self.write("table", b"xs14_39e0e96\tThing\n"))
+        fields = Find("xs14_39e0e96", 5).fields(Job("", "b3s23", STANDARD))
+        self.assertEqual(show_fields("b3s23", fields)[2], "Thing")
+        self.assertEqual(show_fields("b36s23", fields)[2], "still life of 14 cells")
 
 
 class Wanted(UserData):
@@ -165,6 +187,10 @@ class Wanted(UserData):
         self.assertIn("`unknown` needs a list of codes under b3s23", errors)
         self.search("--want", "q4", "--rarer", "9", status=2)
         (self.files / "haul").unlink()
+        self.haul("known", "--add", self.write("codes.csv", LIST))
+        words = ["--until", "2", "--rule", "b36s23"]
+        _, errors = self.search(*words, "--want", "unknown", status=3)
+        self.assertIn("`unknown` needs a list of codes under b36s23", errors)
         _, errors = self.search("--rule", "b36s23", "--want", "rarer 9", status=3)
         self.assertIn("`rarer` needs Life", errors)
 

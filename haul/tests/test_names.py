@@ -2,6 +2,7 @@
 
 from __future__ import annotations
 
+import errno
 import gzip
 import io
 import os
@@ -31,7 +32,8 @@ NAMED = {
     "deep/b.cells": BLOCK,
     "row.cells": ROW,
     "nameless.cells": b"OO\nOO\n",
-    "high.rle": b"#N Four\nx = 2, y = 2, rule = B36/S23\n2o$2o!\n",
+    # Under Life, this isn't an object.
+    "dot.rle": b"#N Dot\nx = 1, y = 1, rule = B36/S023\no!\n",
     "table.tsv": b'xs6_696\tHive\nxs5_253,"Ship of one"\nno line\n',
 }
 
@@ -84,7 +86,7 @@ class Added(UserData):
         self.assertEqual(
             [line.split("\t")[:3] for line in listed.splitlines()],
             [
-                ["b36s23", "xs4_33", "Four"],
+                ["b36s023", "xs1_1", "Dot"],
                 ["b3s23", "xq4_153", "My glider"],
                 ["b3s23", "xs4_33", "Square"],
                 ["b3s23", "xs5_253", "Ship of one"],
@@ -94,7 +96,7 @@ class Added(UserData):
         counted, _ = self.haul("names")
         self.assertEqual(
             counted.splitlines()[1:],
-            [f"1 name under b36s23 from {self.files}", f"4 names under b3s23 from {self.files}"],
+            [f"1 name under b36s023 from {self.files}", f"4 names under b3s23 from {self.files}"],
         )
         removed, _ = self.haul("names", "--remove", str(self.files))
         self.assertEqual(removed, f"{self.files}: 5 names removed\n")
@@ -129,6 +131,53 @@ class Added(UserData):
         )
         self.assertEqual(find_other_names("xq4_153"), ("My glider", "Your glider"))
 
+    def test_a_large_archive(self) -> None:
+        """The bytes of all files in an archive count together."""
+        zipped = io.BytesIO()
+        with zipfile.ZipFile(zipped, "w") as file:
+            for k in range(4):
+                file.writestr(f"{k}.cells", BLOCK)
+        with patch("haul.collections.pattern_files.MOST_UNPACKED", 2 * len(BLOCK)):
+            output, errors = self.add(self.write("all.zip", zipped.getvalue()))
+        # Both files give the block the same name.
+        self.assertEqual(output.partition(": ")[2], "1 name; 1 file or line passed over\n")
+        self.assertIn("2.cells: the archive is too large", errors)
+
+    def test_a_folder_with_the_ending_of_an_archive(self) -> None:
+        output, _ = self.add(self.write("all.tar.d/b.cells", BLOCK))
+        self.assertEqual(output.partition(": ")[2], "1 name; 0 files or lines passed over\n")
+
+    def test_a_folder_that_cannot_be_read(self) -> None:
+        """Its names are kept. If it is in another folder, it is passed over."""
+        refused, scandir = str(self.files), os.scandir
+
+        def refuse(path: str) -> object:
+            if path == refused:
+                raise PermissionError(errno.EACCES, "Permission denied", path)
+            return scandir(path)
+
+        self.write("deep/b.cells", BLOCK)
+        self.add(str(self.files))
+        with patch("os.scandir", refuse):
+            _, errors = self.add(str(self.files), status=5)
+            self.assertEqual(errors, f"haul: {refused}: Permission denied\n")
+            self.assertEqual(len(self.haul("names", "--list")[0].splitlines()), 1)
+            refused = str(self.files / "deep")
+            output, errors = self.add(str(self.files))
+        self.assertEqual(output.partition(": ")[2], "0 names; 1 file or line passed over\n")
+        self.assertEqual(errors, f"haul: {refused}: Permission denied\n")
+
+    def test_a_name_that_is_there_twice(self) -> None:
+        output, _ = self.add(self.write("table", b"xs4_33\tFour\nxs4_33\tFour\n"))
+        self.assertEqual(output.partition(": ")[2], "1 name; 0 files or lines passed over\n")
+
+    def test_a_file_whose_name_begins_another(self) -> None:
+        """A file that is added again replaces only its own names."""
+        table, other = self.write("table", b"xs4_33\tFour\n"), self.write("table.old", BLOCK)
+        self.add(other, table)
+        self.add(table)
+        self.assertEqual(find_other_names("xs4_33"), ("Four", "Square"))
+
     def test_our_names_go_first(self) -> None:
         """Without a name of ours, the first name in the table is shown. A name of two objects is
         ambiguous, and is found for neither. A name under another rule isn't found under Life."""
@@ -146,6 +195,8 @@ class Added(UserData):
             errors,
             "haul: thing is the name of several objects: give the code, xs14_39e0e96 or xs14_39e0eic\n",
         )
+        counted, _ = self.haul("names")
+        self.assertEqual(counted.splitlines()[-1], "1 name belongs to several codes")
         output, _ = self.haul("rarity", "--no-data", "xs14_39e0eic")
         self.assertTrue(output.startswith("xs14_39e0eic: one in "))
         with patch.dict(os.environ, HAUL_DATA=""):
@@ -186,6 +237,9 @@ class Added(UserData):
             errors,
             f"haul: {table}: bad table at line 3: not a code, a name and a file with tabs between them\n",
         )
+        table.write_bytes(b"code\tname\tfile\nxs4_33\t\xff\tx\n")
+        _, errors = self.haul("rarity", "xs14_39e0eic", status=3)
+        self.assertEqual(errors, f"haul: {table}: bad table at line 1: it isn't UTF-8\n")
 
     def test_two_writers(self) -> None:
         """Calls at the same time lose nothing."""

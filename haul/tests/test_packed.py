@@ -264,7 +264,7 @@ class Packed(Searches):
         os.killpg(searching.pid, signal.SIGINT)
         output, errors = searching.communicate(timeout=60)
         self.assertEqual(searching.returncode, 0, errors.decode())
-        self.assertIn("xs12_330f96\t-\t23290\t", output.decode())
+        self.assertIn("xs12_330f96\tblock and cap\t23290\t", output.decode())
         self.assertIn("xs12_330f96\n", (self.folder / "told").read_text())
         self.assert_right()
         self.assert_nothing_runs()

@@ -491,7 +491,7 @@ class Files(unittest.TestCase):
 class Refused(unittest.TestCase):
     def test_arguments(self) -> None:
         cases: list[tuple[list[str], str]] = [
-            ([], "a soup, a FILE or --pattern is needed"),
+            ([], "a soup, a FILE, --pattern or --keep is needed"),
             ([""], "an empty path"),
             (["--pattern=", "1"], "an empty path"),
             (["--pattern=-", "1"], "--pattern doesn't go with soups or a FILE"),

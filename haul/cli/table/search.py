@@ -33,8 +33,8 @@ SEARCH = Command(
     "A find is an object that is new in FILE and rare: under Life, fewer than one soup in a\n"
     "million of the reference census has it. Each find is printed as a line of six values with\n"
     "tabs between them: the time, the code, the name or kind, the soup, a command that shows what\n"
-    "the soup leaves, and how rare the object is. What the reference doesn't have begins with `!`\n"
-    "on a terminal.\n\n"
+    "the soup leaves, and how rare the object is. On a terminal, the line begins with `!` if\n"
+    "the reference doesn't have the object.\n\n"
     "examples:\n  haul search mine.haul\n  haul search --rule b36s23 --until 1000000 highlife.haul\n"
     "  haul search --finds ./tell-me mine.haul",
     (
@@ -42,8 +42,8 @@ SEARCH = Command(
         option(
             "--batch",
             "N",
-            "run N soups per batch, 1 to 16777216 (default: 100000). The next search runs a batch "
-            "again that was dropped",
+            "run N soups per batch, 1 to 16777216 (default: 100000). If a batch is dropped, the next "
+            "search runs it again",
             read_within(1, NUMBERS_IN_A_CALL),
             100_000,
         ),
@@ -67,11 +67,13 @@ SEARCH = Command(
         option(
             "--rarer",
             "N",
-            "tell of objects that fewer than one soup in N of the reference has (default: 1000000); "
-            "only under Life",
+            "print new objects that fewer than one soup in N of the reference has (default: "
+            "1000000); only under Life",
             read_within(1, REFERENCE_SOUPS),
         ),
-        replace(WANT, help=f"tell of these objects, and not of rare ones: {WANT.help}"),
+        replace(
+            WANT, help=f"print new objects that fit WHAT, instead of rare ones. WHAT is {WANT.help}"
+        ),
         option(
             "--finds",
             "PROGRAM",

@@ -2,6 +2,8 @@
 
 from __future__ import annotations
 
+from dataclasses import replace
+
 from haul.cli.arguments import Argument, Command, Exclusive, flag, option
 from haul.cli.known_command import find_fault_of_known, run_known
 from haul.cli.names_command import find_fault_of_names, run_names
@@ -10,13 +12,14 @@ from haul.cli.values import read_path, read_rule_value, read_word
 
 NAMES = Command(
     "names",
-    "add names of objects from files that you have, and count all names",
-    "A file is a\npattern in RLE with a line `#N NAME`, or in plaintext with a line `!Name: NAME`; a folder or "
-    "an\narchive (.zip, .tar.gz) of such files; or a table with a code and a name in each line.\n`census name` "
+    "add names of objects from files that you have",
+    "A file is a pattern in RLE with a line\n`#N NAME`, or in plaintext with a line `!Name: NAME`; a folder or an "
+    "archive (.zip, .tar.gz) of\nsuch files; or a table with a code and a name in each line. "
+    "Without an option, the command prints\nhow many names there are.\n\n`census name` "
     "finds the code of each pattern. What isn't one object in its first generation is\npassed over. "
     "The names are kept in HAUL_DATA, by default ~/.local/share/haul, in a table for each\nrule. "
-    "Names that come with `haul` go first.\n\n"
-    "examples:\n  haul names --add /usr/share/golly/Patterns/Life\n  haul names",
+    "If an object has a name that comes with `haul`, that name is still the one that is shown.\n\n"
+    "examples:\n  haul names --add patterns.zip\n  haul names",
     (
         Exclusive(
             (
@@ -32,7 +35,10 @@ NAMES = Command(
             )
         ),
         flag("--verbose", "with --add: also list what is passed over, and why"),
-        WORKERS,
+        replace(
+            WORKERS,
+            help=WORKERS.help.replace("run soups with W workers", "run `census` W times at once"),
+        ),
         CENSUS,
     ),
     run_names,
@@ -42,10 +48,10 @@ NAMES = Command(
 
 KNOWN = Command(
     "known",
-    "add lists of codes that are known elsewhere, to which objects are compared",
-    "A file is a\nlist with a code and a count in each line, a haul of apgsearch, or a haul of `census`, which is\n"
-    "counted by parts. Then `rarity`, `table`, `page` and the finds of `search` say of each object how\n"
-    "many the lists have. Without an option, it prints which lists there are.\n\n"
+    "add lists of codes that are known elsewhere",
+    "A file is a list with a code and a count in\neach line, a haul of apgsearch, or a haul of `census`, which is counted by parts.\n\n"
+    "Then `rarity`, `table`, `page` and the finds of `search` say whether the lists have an\nobject, "
+    "and how many of it. Without an option, the command prints which lists there are.\n\n"
     "examples:\n  haul known --add C1.csv\n  haul known",
     (
         Exclusive(
@@ -60,13 +66,13 @@ KNOWN = Command(
         option(
             "--rule",
             "RULE",
-            "with --add: the rule of lines of codes, such as b36s23 (default: b3s23, Life)",
+            "with --add: the rule of a list of codes, such as b36s23 (default: b3s23, Life); a haul has its own",
             read_rule_value,
         ),
         option(
             "--symmetry",
             "SYMMETRY",
-            "with --add: the symmetry of lines of codes, which is only shown (default: C1)",
+            "with --add: the symmetry of a list of codes, which is only shown (default: C1)",
             read_word,
         ),
     ),

@@ -41,8 +41,8 @@ COMPARE = Command(
         flag("--rare", "begin with the rarest code, and leave out codes that all hauls have"),
         Argument(
             "--lives",
-            "also count the unsettled soups by what became of them; at most once for each haul, in "
-            "the same order, and not with --csv",
+            "also count the unsettled soups by their fates, which `haul why --keep` has put into "
+            "FILE.late; at most once for each haul, in the same order, and not with --csv",
             "FILE.late",
             read_path,
             is_list=True,
@@ -90,7 +90,7 @@ TABLE = Command(
         option(
             "--kind",
             "KINDS",
-            "print only still lifes `s`, oscillators `p` or spaceships `q`; `pq` are both of these",
+            "print only still lifes `s`, oscillators `p` or spaceships `q`, or several kinds, such as `pq`",
             read_kinds,
         ),
         option(
@@ -100,12 +100,12 @@ TABLE = Command(
             "period 1",
             read_periods,
         ),
-        replace(WANT, help=f"print only these objects: {WANT.help}"),
+        replace(WANT, help=f"print only objects that fit WHAT, which is {WANT.help}"),
         option(
             "--lives",
             "FILE.late",
-            "also count the unsettled soups by what became of them, as FILE.late has it from "
-            "`haul why --keep`; not with --csv",
+            "also count the unsettled soups by their fates, which `haul why --keep` has put into "
+            "FILE.late; not with --csv",
             read_path,
         ),
         Exclusive(
