@@ -12,7 +12,7 @@ from haul.life.parts import Separator
 from haul.names.labels import NOT_SEPARATED, describe_parts
 from haul.names.objects import find_name
 from haul.patterns.rules import LIFE
-from haul.plurals import pluralize, write_count
+from haul.plurals import pluralize
 from haul.rarity.code_faults import find_code_fault
 from haul.rarity.counted import find_occurrence_of_counted
 from haul.rarity.occurrence import Occurrence, format_one_in
@@ -45,7 +45,7 @@ def describe_fate(name: str) -> str:
     """Returns a line that says how many soups of the reference are unsettled because of what has
     this name."""
     occurrence = count_fates_with(name)
-    soups = f"{write_count(occurrence.having, 'unsettled soup')} of {SOUPS}"
+    soups = f"{occurrence.having} unsettled {pluralize(occurrence.having, 'soup')} of {SOUPS}"
     low, high = occurrence.one_in_low(), occurrence.one_in_high()
     if high is None:
         return f"{name}: {soups}; less than one soup in {round_down(low)} (95 %)"
