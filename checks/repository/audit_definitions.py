@@ -24,6 +24,7 @@ CRATES = [
     "crew",
     "requests",
     "pattern_commands",
+    "line_commands",
     "commands",
     "arguments",
     "census",

@@ -1,16 +1,7 @@
-pub mod AheadLemmas
-pub mod CorrectLineLemmas
-pub mod EndLemmas
-mod FinishLemmas
-pub mod GatherLemmas
 mod GrownLemmas
 pub mod HeardLemmas
 mod LateLemmas
-pub mod LineLemmas
-pub mod NumberLemmas
-pub mod PieceLemmas
+mod ObservedLemmas
+mod PassingLemmas
 pub mod ReportingLemmas
-pub mod StillLemmas
 pub mod TakeLemmas
-pub mod TakenLemmas
-pub mod WorkLemmas

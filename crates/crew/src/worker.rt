@@ -12,40 +12,24 @@ ghost use Rattle.handover.specs.Belts.{silent};
 ghost use Rattle.crew.specs.Workers.{AreNotDone, HasWorked, Returns, has_begun};
 ghost use Rattle.handover.specs.Tickets.{fresh};
 
-use crate::gate::{Gate, Stop};
+use crate::gate::Gate;
 use crate::note::Note;
+use crate::permit::Permit;
 use crate::shared::Shared;
+use crate::worker_end::WorkerEnd;
 use handover::belt::SenderPass;
 use handover::tickets::Pass;
-use haul_core::report::{Report, ReportError};
-use memory::OutOfMemory;
 use std::alloc::Global;
 use std::sync::Wait;
 use std::sync::atomic::Ordering;
 use survey_core::surveyor::Surveyor;
-
-/// How a worker ended.
-#[derive(Clone, Copy)]
-pub(crate) enum End {
-    /// No number was left.
-    Drained,
-    /// The gate stopped the worker.
-    Stopped,
-    /// Memory ran out.
-    Memory(OutOfMemory),
-    /// The worker was called off before it began, because no thread could be started for it. `start_worker` replaces
-    /// this end by `Unstarted`.
-    CalledOff,
-    /// No thread could be started for the worker.
-    Unstarted(OutOfMemory),
-}
 
 /// The result of a worker's run: its pass, its sender, and how it ended.
 #[derive(Drop)]
 pub(crate) struct WorkerResult {
     pub(crate) pass: Pass,
     pub(crate) sender: SenderPass<Note>,
-    pub(crate) end: End,
+    pub(crate) end: WorkerEnd,
 }
 
 /// Runs a worker until it ends. Its last note is `Done`, unless the worker was called off.
@@ -66,7 +50,7 @@ pub(crate) fn run_worker<G: Gate, R: Wait>(
     let mut sender = sender;
     let worker = sender.number();
     if shared.called_off.load(Ordering::SeqCst) == u64::from(worker) {
-        let end = End::CalledOff;
+        let end = WorkerEnd::CalledOff;
         return WorkerResult { pass, sender, end };
     }
     let end = survey_all(alloc, rt, shared, gate, &mut pass, &mut sender);
@@ -84,7 +68,7 @@ fn survey_all<G: Gate, R: Wait>(
     gate: &G,
     pass: &mut Pass,
     sender: &mut SenderPass<Note>,
-) -> End
+) -> WorkerEnd
     requires pass { pass.old ≡ fresh shared.now.tickets }
     requires worker { IsWorker sender.old.number }
     requires sender { sender.old ≡ silent shared.now.belt.name sender.old.number }
@@ -108,7 +92,7 @@ fn survey_left<G: Gate, R: Wait>(
     pass: &mut Pass,
     sender: &mut SenderPass<Note>,
     surveyor: &mut Surveyor,
-) -> End
+) -> WorkerEnd
     requires pass { pass.old ≡ fresh shared.now.tickets }
     requires worker { IsWorker sender.old.number }
     requires sender { sender.old ≡ silent shared.now.belt.name sender.old.number }
@@ -120,23 +104,16 @@ fn survey_left<G: Gate, R: Wait>(
     let worker = sender.number();
     for _ in rt.forever() {
         let Some(place) = shared.tickets.draw(pass) else {
-            return End::Drained;
+            return WorkerEnd::Drained;
         };
         let number = shared.missing[place as usize];
-        match gate.before(worker, number) {
-            Ok(()) => {}
-            Err(Stop) => return End::Stopped,
-        }
-        let report = match Report::make_with_surveyor(
-            alloc,
-            surveyor,
-            &shared.job,
-            worker,
-            number,
-        ) {
+        let permit = match Permit::ask(gate, worker, number) {
+            Ok(permit) => permit,
+            Err(halt) => return WorkerEnd::Stopped(halt),
+        };
+        let report = match permit.survey(alloc, surveyor, &shared.job) {
             Ok(report) => report,
-            Err(ReportError::Memory(error)) => return End::Memory(error),
-            Err(ReportError::BadWorker) => unreachable!(),
+            Err(error) => return WorkerEnd::Memory(error),
         };
         shared
             .belt

@@ -142,3 +142,40 @@ fn opens_tickets_and_counts_what_was_drawn(rt: HostRuntime) -> Result<(), Fail> 
     }
     Ok(())
 }
+
+/// Draws all three numbers with two passes: twice with the first, once with the second, twice with the first, and once
+/// with the second. Returns what was drawn, and how many numbers were drawn according to the tickets.
+fn drawn_in_turn(alloc: Global) -> Result<([Option<u64>; 6], u64), Fail> {
+    let (tickets, mut passes) = Tickets::open(alloc, 3, 2)?;
+    let Some(mut second) = passes.pop() else {
+        return Err(Fail::new("no second pass"));
+    };
+    let Some(mut first) = passes.pop() else {
+        return Err(Fail::new("no first pass"));
+    };
+    let drawn = [
+        tickets.draw(&mut first),
+        tickets.draw(&mut first),
+        tickets.draw(&mut second),
+        tickets.draw(&mut first),
+        tickets.draw(&mut first),
+        tickets.draw(&mut second),
+    ];
+    passes.push(first)?;
+    passes.push(second)?;
+    Ok((drawn, tickets.gather(passes)))
+}
+
+#[test]
+fn two_passes_draw_in_turn(rt: HostRuntime) -> Result<(), Fail> {
+    let (drawn, count) = drawn_in_turn(rt.alloc())?;
+    assert!(rt; drawn == [Some(0), Some(1), Some(2), None, None, None]);
+    assert!(rt; count == 3);
+    let (none, mut passes) = Tickets::open(rt.alloc(), 0, 1)?;
+    if let Some(mut pass) = passes.pop() {
+        assert!(rt; none.draw(&mut pass).is_none());
+        passes.push(pass)?;
+    }
+    assert!(rt; none.gather(passes) == 0);
+    Ok(())
+}

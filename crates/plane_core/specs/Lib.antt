@@ -1,3 +1,4 @@
+pub mod BufferedWriters
 pub mod Outputs
 pub mod Plaintext
 pub mod PlaintextPlaces

@@ -1,0 +1,12 @@
+pub mod CorrectLines
+pub mod Finish
+pub mod Gather
+pub mod GatherSteps
+pub mod GatheredLines
+pub mod Gathering
+pub mod Lines
+pub mod LinesSoFar
+pub mod Opening
+pub mod SoupSets
+pub mod Work
+pub mod WorkSteps
