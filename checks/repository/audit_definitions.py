@@ -24,7 +24,6 @@ CRATES = [
     "crew",
     "requests",
     "pattern_commands",
-    "line_commands",
     "commands",
     "arguments",
     "census",

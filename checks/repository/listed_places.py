@@ -3,7 +3,7 @@ places.md.
 
 A contract says what a call returns, but not that it ends soon, that it leaks nothing, or that a
 sleeping thread is woken. So these places are listed, each with a reason: loops that may not end and
-numbers of 2^16 or more, which could be the bound of a loop; the code that makes a witness of a
+numbers of 2^32 or more, which could be the bound of a loop; the code that makes a witness of a
 failure, such as an `OutOfMemory`; the steps on memory that threads share, in the order of the
 source; the fields that a hand-written `drop` doesn't drop; and the lines of `main`.
 """
@@ -30,9 +30,8 @@ DROPS = "Fields that a written `drop` leaves"
 MAIN = "The lines of `main`"
 HEADINGS = [LOOPS, WITNESSES, STEPS, DROPS, MAIN]
 
-# The smallest number that counts as large. Two loops in one another, each with fewer turns, take
-# seconds at most.
-LARGE = 2**16
+# The smallest number that counts as large.
+LARGE = 2**32
 
 
 class Place(NamedTuple):
@@ -53,7 +52,7 @@ def value_of(token: str) -> int | None:
 
 
 def is_large(code: Code, place: int) -> bool:
-    """Checks whether the token at `place` begins a number of 2^16 or more, or is the `MAX` or the
+    """Checks whether the token at `place` begins a number of 2^32 or more, or is the `MAX` or the
     `BITS` of a type of more than 16 bits."""
     if code[place] in ("MAX", "BITS") and code[place - 1] == "::":
         return code[place - 2] not in ("u8", "i8", "u16", "i16")
@@ -79,9 +78,7 @@ WITNESS_FILES = ("plane_core/output.rt", "pattern_commands/read_error.rt", "memo
 
 
 def witnesses_in(file: File) -> Iterator[Token]:
-    """Yields the tokens at which a witness is made: its fields are given, or a call returns it. The
-    error that a write took no byte counts as a witness, too.
-    """
+    """Yields the tokens at which a witness is made: its fields are given, or a call returns it."""
     for place, token in enumerate(file.code):
         before, after = file.code[max(place - 2, 0) : place], file.code[place + 1 : place + 3]
         is_witness = token in MADE or token == "Self" and file.name in WITNESS_FILES
@@ -89,8 +86,6 @@ def witnesses_in(file: File) -> Iterator[Token]:
             if before != ["-", ">"] and before[-1:] not in (["struct"], ["impl"], ["for"]):
                 yield token
         elif token in MADE and after[:1] == ["::"] or token == "no_room" and before[-1:] != ["fn"]:
-            yield token
-        elif token == "WriteZero":
             yield token
 
 

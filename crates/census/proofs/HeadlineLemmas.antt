@@ -28,11 +28,11 @@ use Rattle.pattern_commands.specs.Name.{TellsFinding, finding_text, name_right}
 use Rattle.pattern_commands.specs.Profiles.{profile_named, settling}
 use Rattle.pattern_commands.specs.Soup.{seed_complaint, seed_named}
 use Rattle.pattern_commands.specs.Streams.{Stream}
-use Rattle.line_commands.specs.CorrectLines.{HasCorrectLine, IsOfCorrectLines}
-use Rattle.line_commands.specs.Gathering.{IsHaulOver}
-use Rattle.line_commands.specs.SoupSets.{job_named}
+use Rattle.commands.specs.CorrectLines.{HasCorrectLine, IsOfCorrectLines}
+use Rattle.commands.specs.Gathering.{IsHaulOver}
+use Rattle.commands.specs.SoupSets.{job_named}
 use Rattle.commands.specs.Take.{PrintsCensus, take_right}
-use Rattle.line_commands.proofs.CorrectLineLemmas.{gather_takes_correct_lines}
+use Rattle.commands.proofs.CorrectLineLemmas.{gather_takes_correct_lines}
 use Rattle.commands.proofs.TakeLemmas.{prints_right}
 use Rattle.arguments.specs.declared.request.Request.{Request}
 use Rattle.arguments.specs.declared.request.Request.TheVariants.{Gather, Name, Take}

@@ -19,7 +19,7 @@ use Rattle.haul_core.specs.declared.book.census.Census.{Census}
 use Rattle.haul_core.specs.Censuses.{IsCensus}
 use Rattle.haul_core.specs.HaulTexts.{haul_text}
 use Rattle.haul_core.specs.Missing.{AreAll}
-use Rattle.line_commands.specs.CorrectLines.{HasCorrectLine}
+use Rattle.commands.specs.CorrectLines.{HasCorrectLine}
 use Rattle.pattern_commands.specs.Answers.{IsInput}
 use Rattle.pattern_commands.specs.Name.{finding_text}
 use Rattle.pattern_commands.specs.Profiles.{settling}

@@ -7,7 +7,7 @@ use Rattle.pattern_commands.specs.declared.ending.status.Status.TheVariants.{Mem
 use Rattle.pattern_commands.specs.Answers.{IsInput}
 use Rattle.pattern_commands.specs.Complaints.{complaint_line}
 use Rattle.pattern_commands.specs.Ends.{Ends}
-use Rattle.line_commands.specs.Gather.{gather_behaviour}
+use Rattle.commands.specs.Gather.{gather_behaviour}
 use Rattle.pattern_commands.specs.Name.{name_behaviour}
 use Rattle.pattern_commands.specs.Run.{run_behaviour}
 use Rattle.pattern_commands.specs.Show.{show_behaviour}
@@ -18,7 +18,7 @@ use Rattle.commands.specs.Reporting.{reporting_behaviour}
 use Rattle.commands.specs.Take.{take_behaviour}
 use Rattle.pattern_commands.specs.Behaviours.{Makes, Behaviour}
 use Rattle.pattern_commands.specs.Version.{version_behaviour}
-use Rattle.line_commands.specs.Work.{work_behaviour}
+use Rattle.commands.specs.Work.{work_behaviour}
 use Rattle.requests.specs.declared.form.RunForm.{RunForm}
 use Rattle.requests.specs.declared.form.RunForm.TheVariants.{Pattern, Sizes}
 use Rattle.requests.specs.declared.plan.Plan.{Plan}

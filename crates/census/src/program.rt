@@ -7,9 +7,9 @@
 
 ghost use Rattle.std.specs.Prelude.{◌≡◌, ◌≢◌, ℕ, List, [], Option, IsErr, Some, IfOk, IfErr, IsOkAnd, IsSomeAnd, false};
 ghost use Rattle.std.specs.Prelude.{map, string_bytes};
+ghost use Rattle.std.specs.Io.Buffered.{writer_buffer, writer_contents, writer_inner};
 ghost use Rattle.std.specs.IoError.{error_kind};
 ghost use Rattle.memory.specs.Witness.{out_of_memory};
-ghost use Rattle.plane_core.specs.BufferedWriters.{held_bytes, writer_below};
 ghost use Rattle.pattern_commands.specs.Complaints.{complaint_line};
 ghost use Rattle.pattern_commands.specs.Status.{exit_code, has_printed};
 ghost use Rattle.pattern_commands.specs.Ends.{Ends};
@@ -30,8 +30,8 @@ use pattern_commands::ending::status::Status;
 use pattern_commands::output::send_buffered;
 use pattern_commands::version::do_version;
 use plane_core::output::Out;
-use plane_core::output::buffered_writer::BufferedWriter;
-use std::io::{self, ErrorKind, Read, Write};
+use std::alloc::Global;
+use std::io::{self, BufWriter, ErrorKind, Read, Write};
 use std::sync::Wait;
 use std::thread::Threads;
 use std::time::Clock;
@@ -135,15 +135,18 @@ fn do_buffered<T: Threads + Wait + Sync, R: Read, W: Write + Drop, E: Write, P: 
         let (status, writer) = print_version(output, &mut machine.errors);
         return (status, Some(writer));
     }
-    match BufferedWriter::new(machine.alloc, output) {
+    match BufWriter::new(machine.alloc, output) {
         Ok(buffered) => {
             let (status, writer) = do_and_send(machine, arguments, input, buffered);
             (status, Some(writer))
         }
-        Err(refused) => (
-            Complaint::Memory(refused).end_command(&mut machine.errors),
-            None,
-        ),
+        Err(error) => {
+            let refused = OutOfMemory::of_stream(&error);
+            (
+                Complaint::Memory(refused).end_command(&mut machine.errors),
+                None,
+            )
+        }
     }
 }
 
@@ -153,19 +156,20 @@ fn do_and_send<T: Threads + Wait + Sync, R: Read, W: Write + Drop, E: Write, P: 
     machine: &mut Machine<'_, T, E, ProgressLine<P, C>>,
     arguments: &[String],
     input: &mut R,
-    buffered: BufferedWriter<W>,
+    buffered: BufWriter<W, Global>,
 ) -> (Status, W)
     requires errors { machine.old.errors.failed ≡ false }
-    requires empty { held_bytes buffered ≡ [] }
+    requires empty { writer_buffer buffered ≡ [] }
     ensures { ProgramEnds W.contents (map string_bytes arguments.now) (R.remaining input.old)
-        (exit_code result.0) (writer_below buffered) (Some result.1)
+        (exit_code result.0) (writer_inner buffered) (Some result.1)
         (stream E.contents machine.old.errors machine.new.errors) (input.new ≡ input.old) }
 {
     let mut output = Out::new(buffered);
     let status = do_arguments(machine, arguments, input, &mut output);
     let mut buffered = output.into_inner();
     let status = send_buffered(status, &mut buffered, &mut machine.errors);
-    (status, buffered.into_inner())
+    let (writer, _) = buffered.into_parts();
+    (status, writer)
 }
 
 /// Prints the version. Returns the status and the writer.

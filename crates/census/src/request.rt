@@ -18,12 +18,12 @@ ghost use Rattle.census.specs.Requests.{DoesArguments, DoesRequest, Spares, Tell
 
 use arguments::calls::{Unasked, request_of};
 use arguments::request::Request;
+use commands::gather::do_gather;
 use commands::machine::Machine;
 use commands::progress_line::ProgressLine;
 use commands::reporting::do_take_reporting;
 use commands::take::do_take;
-use line_commands::gather::do_gather;
-use line_commands::work::do_work;
+use commands::work::do_work;
 use pattern_commands::ending::complaint::Complaint;
 use pattern_commands::ending::status::Status;
 use pattern_commands::name::do_name;

@@ -205,12 +205,3 @@ fn spells_nothing(rt: HostRuntime) -> Result<(), Fail> {
     assert!(rt; wechsler(rt.alloc(), &nothing)?.is_none());
     Ok(())
 }
-
-// A text has at most 40 columns. The two ends of this row are 39 empty columns apart, so its box is 41 wide.
-#[test]
-fn spells_nothing_that_is_wider_than_a_text(rt: HostRuntime) -> Result<(), Fail> {
-    let ends = [Cell { y: 0, x: 0 }, Cell { y: 0, x: 40 }];
-    let wide = Pattern::from_cells(rt.alloc(), &ends)?;
-    assert!(rt; wechsler(rt.alloc(), &wide)?.is_none());
-    Ok(())
-}

@@ -4,7 +4,7 @@ use crate::setup::plan_of;
 use crate::streams::{
     FaultyReader, FaultyWriter, Left, quick_writer, reader, reader_by, slow_writer,
 };
-use line_commands::gather::do_gather;
+use commands::gather::do_gather;
 use pattern_commands::ending::status::Status;
 use plane_core::output::Out;
 use std::alloc::Global;
@@ -137,18 +137,6 @@ fn ends_if_a_write_is_interrupted(rt: HostRuntime) {
 fn tells_an_interrupted_read(rt: HostRuntime) {
     for bad in [1, 2, 69, 204] {
         let left = left_by_reads(rt.alloc(), bad, ErrorKind::Interrupted);
-        assert!(rt;
-            left.is(Status::Failed, b"", b"census: read failed\n"),
-            "read {bad}"
-        );
-    }
-}
-
-// The program has memory, whatever a reader says about its own.
-#[test]
-fn tells_a_read_for_which_the_reader_had_no_memory(rt: HostRuntime) {
-    for bad in [1, 2, 69, 204] {
-        let left = left_by_reads(rt.alloc(), bad, ErrorKind::OutOfMemory);
         assert!(rt;
             left.is(Status::Failed, b"", b"census: read failed\n"),
             "read {bad}"

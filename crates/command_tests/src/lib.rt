@@ -1,6 +1,6 @@
-//! Tests of the public calls of `commands`, `line_commands` and `pattern_commands`. They are in a crate of their own,
-//! because tests in these crates themselves would make the prover prove each of them twice. The cases in `checks/cases`
-//! test what can be tested with the built program.
+//! Tests of the public calls of `commands` and `pattern_commands`. They are in a crate of their own, because
+//! tests in the two crates themselves would make the prover prove both crates twice. The cases in `checks/cases` test
+//! what can be tested with the built program.
 #![tactic(auto)]
 
 #[cfg(test)]

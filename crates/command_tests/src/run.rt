@@ -7,10 +7,9 @@ use pattern_commands::run::do_run;
 use pattern_commands::show::do_show;
 use pattern_commands::sizes::do_sizes;
 use plane_core::output::Out;
-use plane_core::output::buffered_writer::BufferedWriter;
 use requests::form::PatternForm;
 use std::alloc::Global;
-use std::io::{self, ErrorKind, Write};
+use std::io::{self, BufWriter, ErrorKind, Write};
 use std::test::Fail;
 
 const BLINKER: &[u8] = b"OOO\n";
@@ -163,18 +162,6 @@ fn tells_an_interrupted_read(rt: HostRuntime) {
     }
 }
 
-// The program has memory, whatever a reader says about its own.
-#[test]
-fn tells_a_read_for_which_the_reader_had_no_memory(rt: HostRuntime) {
-    for bad in 1..6 {
-        let left = left_by_reads(rt.alloc(), bad, ErrorKind::OutOfMemory);
-        assert!(rt;
-            left.is(Status::Failed, b"", b"census: read failed\n"),
-            "read {bad}"
-        );
-    }
-}
-
 #[test]
 fn tells_an_interrupted_write(rt: HostRuntime) {
     for bad in 1..4 {
@@ -228,7 +215,7 @@ impl Write for Unflushed {
 // A line reports the first failure. The lines about the later failures can't be written, but the status is the same.
 #[test]
 fn tells_a_failed_flush(rt: HostRuntime) -> Result<(), Fail> {
-    let mut buffered = BufferedWriter::new(rt.alloc(), Unflushed)?;
+    let mut buffered = BufWriter::new(rt.alloc(), Unflushed)?;
     let mut errors = Out::new(slow_writer(rt.alloc(), 22));
     for before in [Status::Done, Status::Incomplete, Status::Done] {
         let status = send_buffered(before, &mut buffered, &mut errors);

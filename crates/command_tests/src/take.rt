@@ -89,14 +89,3 @@ fn prints_what_was_taken_before_a_stop(rt: HostRuntime) {
         )
     );
 }
-
-// The haul is the same for any number of workers.
-#[test]
-fn takes_four_soups_with_one_two_and_four_workers(rt: HostRuntime) {
-    let one = left_by(&rt, 4, 1, &OpenGate, NoObserver);
-    assert!(rt; one.has_printed(rt.alloc(), Status::Done, 4, 4, b""));
-    let two = left_by(&rt, 4, 2, &OpenGate, NoObserver);
-    assert!(rt; two.has_printed(rt.alloc(), Status::Done, 4, 4, b""));
-    let four = left_by(&rt, 4, 4, &OpenGate, NoObserver);
-    assert!(rt; four.has_printed(rt.alloc(), Status::Done, 4, 4, b""));
-}

@@ -1,7 +1,7 @@
 //! Tests that the command `work` flushes each line before it begins the next line.
 
 use crate::setup::plan_of;
-use line_commands::work::do_work;
+use commands::work::do_work;
 use pattern_commands::ending::status::Status;
 use plane_core::output::Out;
 use std::alloc::Global;

@@ -11,12 +11,11 @@ use Rattle.survey_core.specs.declared.job.Job.{Job}
 use Rattle.plane_core.specs.Outputs.{Output}
 use Rattle.crew.proofs.ListLemmas.{count_cons}
 use Rattle.crew.proofs.OnceLemmas.{of_reported}
-use Rattle.crew.specs.Events.{Event, reports_among}
-use Rattle.crew.specs.Takes.{times_reported}
+use Rattle.crew.specs.Takes.{HasHeardCrew, times_reported}
 use Rattle.requests.specs.declared.plan.Plan.{Plan}
-use Rattle.commands.specs.ReportSteps.{HasPutBy}
+use Rattle.commands.specs.LateReports.{PutsReports}
 use Rattle.commands.specs.Reporting.{AreReportsOf}
-use Rattle.line_commands.specs.Opening.{IsOpenedFor}
+use Rattle.commands.specs.TakeSteps.{IsOpenedFor}
 use Rattle.commands.proofs.TakeLemmas.{in_set}
 use native.Mathlib.Decide.{dec_le}
 
@@ -37,31 +36,27 @@ entry_numbers : (reports : List Reported) → numbers_in (map entry reports) ≡
 entry_numbers [] = refl
 entry_numbers (r ∷ rs) = ap (λ (l : List ℕ). r.number ∷ l) (entry_numbers rs)
 
-module _ {V : Type 0} {contents : V → Option (List ℕ)} {plan : Plan} {workers from : ℕ} {opened held : Held} {old new : Output V}
-    {told : List Event → Type 0} (is : IsOpenedFor plan workers opened) (h : HasPutBy contents workers from opened held old new told) where
-  -- the reports that were sent
-  abbrev pub sent : List Reported
-  sent = reports_among h.events
-
-  pub reports_within : All (λ (r : Reported). is_in is.opened.over.ranges r.number ≡ true) sent
+module _ {lets : ℕ → ℕ → Type 0} {V : Type 0} {contents : V → Option (List ℕ)} {plan : Plan} {workers from : ℕ} {opened held : Held} {old new : Output V}
+    (is : IsOpenedFor plan workers opened) (h : HasHeardCrew lets workers opened held (PutsReports contents from old new)) where
+  pub reports_within : All (λ (r : Reported). is_in is.opened.over.ranges r.number ≡ true) h.reports
   reports_within k d lt = in_set is.opened.over.ranges opened.terms.ranges opened.taken _ is.opened.over.form (h.missing k d lt)
 
   -- `AreReportsOf` holds for the reports
-  abbrev pub reports_of_plan : AreReportsOf plan workers sent
+  abbrev pub reports_of_plan : AreReportsOf plan workers h.reports
   reports_of_plan = record {
     job = is.job;
     job_is = is.named;
     ranges = is.opened.over.ranges;
     named = is.opened.over.named;
-    right = h.heard.0.right;
-    of_job = subst (λ (j : Job). All (λ (r : Reported). r.job ≡ j) sent) is.opened.job_is h.job;
+    right = h.heard.right;
+    of_job = subst (λ (j : Job). All (λ (r : Reported). r.job ≡ j) h.reports) is.opened.job_is h.job;
     by_workers = h.by_workers;
     within = reports_within;
     once = h.once;
   }
 
   -- if the haul is complete, there is one report on each soup of the plan
-  pub reports_on_all : AreAll held.terms.ranges (numbers_in held.taken) → AreAll is.opened.over.ranges (map (λ r. r.number) sent)
+  pub reports_on_all : AreAll held.terms.ranges (numbers_in held.taken) → AreAll is.opened.over.ranges (map (λ r. r.number) h.reports)
   reports_on_all all n = go (is_in is.opened.over.ranges n) refl
     where
       in_all : is_in held.terms.ranges n ≡ is_in is.opened.over.ranges n
@@ -74,17 +69,17 @@ module _ {V : Type 0} {contents : V → Option (List ℕ)} {plan : Plan} {worker
       offered : times_reported n h.offers ≡ cond {A = ℕ} (is_in is.opened.over.ranges n) 1 0
       offered = sym (ap (count_by (nat_eq n)) numbers) ∙ all n ∙ ap (λ (b : Bool). cond {A = ℕ} b 1 0) in_all
 
-      few : times_reported n h.offers ≤ times_reported n sent
-      few = times_part n h.offers sent h.some
+      few : times_reported n h.offers ≤ times_reported n h.reports
+      few = times_part n h.offers h.reports h.some
 
-      go : (b : Bool) → is_in is.opened.over.ranges n ≡ b → times_reported n sent ≡ cond {A = ℕ} (is_in is.opened.over.ranges n) 1 0
+      go : (b : Bool) → is_in is.opened.over.ranges n ≡ b → times_reported n h.reports ≡ cond {A = ℕ} (is_in is.opened.over.ranges n) 1 0
       go true inside =
           let one : cond {A = ℕ} (is_in is.opened.over.ranges n) 1 0 ≡ 1 = ap (λ (b : Bool). cond {A = ℕ} b 1 0) inside in
           let once = h.once n in
           omega (arith, one, once, offered, few)
       go false outside =
           let none : cond {A = ℕ} (is_in is.opened.over.ranges n) 1 0 ≡ 0 = ap (λ (b : Bool). cond {A = ℕ} b 1 0) outside in
-          elim (dec_le 1 (times_reported n sent)) [
-            | yes some ↦ absurd (true≢false (sym (of_reported (λ m. is_in is.opened.over.ranges m ≡ true) n sent reports_within some) ∙ outside))
+          elim (dec_le 1 (times_reported n h.reports)) [
+            | yes some ↦ absurd (true≢false (sym (of_reported (λ m. is_in is.opened.over.ranges m ≡ true) n h.reports reports_within some) ∙ outside))
             | no nothing ↦ omega (arith, none, nothing)
           ]

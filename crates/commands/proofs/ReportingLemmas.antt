@@ -1,17 +1,12 @@
 -- Lemmas about `take --report-from`: each way in which the command ends is correct.
-use Rattle.std.proofs.Common.{◌≡◌, ◌≢◌, ◌∙◌, ◌↔◌, ◌∷◌, ℕ, Bool, List, [], None, Option, Result, Ok, Err, Some, append-nil, inl, inr, false, length, refl, subst, sym, true}
+use Rattle.std.proofs.Common.{◌≡◌, ◌≢◌, ◌∙◌, ◌↔◌, ℕ, Bool, List, [], None, Option, Result, Ok, Err, inl, inr, false, length, refl, subst, sym}
 use Rattle.std.specs.Prelude.{IfErr, IfOk, MatchResult, OnOk}
 use Rattle.memory.specs.Witness.{out_of_memory}
 use Rattle.plane_core.specs.Outputs.{Output}
-use Rattle.std.proofs.lemmas.Grind.{flat_map-append}
 use Rattle.haul_core.specs.Books.{Held}
 use Rattle.haul_core.specs.HaulTexts.{haul_text}
 use Rattle.haul_core.specs.Reports.{Reported}
-use Rattle.crew.proofs.TakeLemmas.{crew_heard_as}
-use Rattle.crew.specs.Events.{Event, Over, report_of, reports_among, whole_run}
 use Rattle.crew.specs.Takes.{HasHeardCrew}
-use Rattle.crew.specs.declared.take.CrewError.{CrewError}
-use Rattle.ranges.specs.Ranges.{size_of}
 use Rattle.haul_core.specs.declared.book.census.Census.{Census}
 use Rattle.haul_core.specs.Keeping.{numbers_in}
 use Rattle.haul_core.specs.Missing.{AreAll, IsComplete, missing_of}
@@ -24,17 +19,16 @@ use Rattle.pattern_commands.specs.Ends.{Ends, status_after}
 use Rattle.pattern_commands.specs.Reached.{Outcome, Reaches}
 use Rattle.pattern_commands.specs.Streams.{Stream, Has, IsUntouched, stream}
 use Rattle.requests.specs.declared.plan.Plan.{Plan}
-use Rattle.line_commands.specs.Finish.{Finishes, IsCensusOf}
-use Rattle.commands.specs.LateReports.{PutsReports, late_lines}
+use Rattle.commands.specs.Finish.{Finishes, IsCensusOf}
+use Rattle.commands.specs.LateReports.{late_lines}
 use Rattle.commands.specs.ReportSteps.{HasPutBy, HasReportedBy, StopsReporting}
 use Rattle.commands.specs.Reporting.{TellsAllLate, TellsLate, reporting_behaviour}
-use Rattle.line_commands.specs.SoupSets.{IsRightForSet}
+use Rattle.commands.specs.SoupSets.{IsRightForSet}
 use Rattle.commands.specs.Take.{PrintsCensus, TellsAll, take_right}
-use Rattle.line_commands.specs.Opening.{IsOpenedFor, Stops}
+use Rattle.commands.specs.TakeSteps.{IsOpenedFor, Stops}
 use Rattle.commands.proofs.GrownLemmas.{grown_by_added}
-use Rattle.commands.proofs.HeardLemmas.{reports_of_plan, reports_on_all, sent}
-use Rattle.commands.proofs.TakeLemmas.{Stops_memory, complete_right, not_done, prints_right}
-use Rattle.line_commands.proofs.OpeningLemmas.{right_given}
+use Rattle.commands.proofs.HeardLemmas.{reports_of_plan, reports_on_all}
+use Rattle.commands.proofs.TakeLemmas.{Stops_memory, complete_right, not_done, prints_right, right_given}
 
 -- if a complaint stops the command before a haul is open, and nothing was written to either stream, the complaint is a
 -- correct end of the command
@@ -50,8 +44,8 @@ reporting_stops plan workers from reader bytes TooLong output errors stops nothi
 reporting_stops plan workers from reader bytes (WriteFailed error) output errors stops nothing still = absurd stops
 
 module _ {V : Type 0} {contents : V → Option (List ℕ)} {plan : Plan} {workers from : ℕ} {opened held : Held} {old new : Output V}
-    {told : List Event → Type 0} {taken : Result (Unit {0}) Complaint} (is : IsOpenedFor plan workers opened)
-    (h : HasReportedBy contents workers from opened held old new told taken) where
+    {taken : Result (Unit {0}) Complaint} (is : IsOpenedFor plan workers opened)
+    (h : HasReportedBy contents workers from opened held old new taken) where
   abbrev told_on : Stream
   told_on = stream contents old new
 
@@ -61,7 +55,7 @@ module _ {V : Type 0} {contents : V → Option (List ℕ)} {plan : Plan} {worker
   -- if no write has failed, the line of each late soup that was reported so far was written completely
   told_so_far : new.failed ≡ false → TellsLate plan workers from told_on.before told_on.after
   told_so_far fine =
-      record { reports = (sent is h.heard); are = reports_of_plan is h.heard; written = (h.heard.heard.0.whole fine).1 }
+      record { reports = h.heard.reports; are = reports_of_plan is h.heard; written = (h.heard.heard.whole fine).1 }
 
   -- if no write of a line has failed, and nothing was written to the output, running out of memory is a correct end of
   -- the command
@@ -80,7 +74,7 @@ module _ {V : Type 0} {contents : V → Option (List ℕ)} {plan : Plan} {worker
   reporting_gives_up reader bytes (Memory error) output fine nothing = lacks reader bytes output nothing fine
   reporting_gives_up reader bytes (WriteFailed error) output stops nothing =
       inr (record {
-        cut = record { reports = sent is h.heard; are = reports_of_plan is h.heard; written = h.heard.heard.0.prefix; cut = stops };
+        cut = record { reports = h.heard.reports; are = reports_of_plan is h.heard; written = h.heard.heard.prefix };
         nothing = nothing;
       })
   reporting_gives_up reader bytes (Refused refusal) output stops nothing = absurd stops
@@ -95,7 +89,7 @@ module _ {V : Type 0} {contents : V → Option (List ℕ)} {plan : Plan} {worker
   finishes reader bytes outcome output whole none finished = go outcome finished
     where
       lines : List ℕ
-      lines = late_lines from (sent is h.heard)
+      lines = late_lines from h.heard.reports
 
       right : (census : Census) → IsCensusOf held census → take_right plan (Ok (haul_text census))
       right census counted =
@@ -104,14 +98,14 @@ module _ {V : Type 0} {contents : V → Option (List ℕ)} {plan : Plan} {worker
 
       all_told : TellsAllLate plan workers from lines
       all_told = record {
-        reports = (sent is h.heard);
+        reports = h.heard.reports;
         are = reports_of_plan is h.heard;
         all = reports_on_all is h.heard whole.2;
         text_is = refl;
       }
 
-      lines_told : Has told_on lines
-      lines_told = (h.heard.heard.0.whole whole.0).1
+      told : Has told_on lines
+      told = (h.heard.heard.whole whole.0).1
 
       go : (outcome : Outcome) → Finishes held outcome output → ReachesReporting reader bytes outcome output
       go (Ok missing) finished = record {
@@ -120,7 +114,7 @@ module _ {V : Type 0} {contents : V → Option (List ℕ)} {plan : Plan} {worker
         missing_is = refl;
         text = finished.text;
         written = finished.fine;
-        diagnostics = lines_told;
+        diagnostics = told;
         fine = whole.0;
       }
       go (Err (Memory error)) nothing = lacks reader bytes output nothing whole.0
@@ -129,7 +123,7 @@ module _ {V : Type 0} {contents : V → Option (List ℕ)} {plan : Plan} {worker
           record { text = haul_text half.census; diagnostics = lines; missing = 0 },
           (right half.census half.counted, all_told, refl),
           half.prefix,
-          lines_told,
+          told,
         );
         cut = half.cut;
         fine = whole.0;
@@ -140,8 +134,7 @@ module _ {V : Type 0} {contents : V → Option (List ℕ)} {plan : Plan} {worker
 
 -- once the haul is open, each way in which the command ends is correct
 pub reporting_ends : {V : Type 0} {contents : V → Option (List ℕ)} {plan : Plan} {workers from : ℕ} {opened held : Held} {old new : Output V}
-    {told : List Event → Type 0} (taken : Result (Unit {0}) Complaint) (is : IsOpenedFor plan workers opened)
-    (h : HasReportedBy contents workers from opened held old new told taken)
+    (taken : Result (Unit {0}) Complaint) (is : IsOpenedFor plan workers opened) (h : HasReportedBy contents workers from opened held old new taken)
     (reader : Option (List ℕ)) (bytes : List ℕ) (outcome : Outcome) (output : Stream)
     → IfOk taken (λ _. Finishes held outcome output)
     → IfOk taken (λ _. (length (missing_of held.terms.ranges held.taken) ≡ 0) ↔ IsComplete held.terms.ranges held.taken)
@@ -179,40 +172,36 @@ not_refused failed (Err (Refused refusal)) stops = absurd stops
 not_refused failed (Err (ReadFailed error)) stops = absurd stops
 not_refused failed (Err TooLong) stops = absurd stops
 
--- the reports of a whole call of `take` are those of its crew
-pub puts_between : {V : Type 0} {contents : V → Option (List ℕ)} {from : ℕ} {old new : Output V} (whole workers : ℕ) (events : List Event)
-    → PutsReports contents from old new (reports_among (whole_run whole workers events)) → PutsReports contents from old new (reports_among events)
-puts_between {contents = contents} {from = from} {old = old} {new = new} whole workers events puts =
-    subst (PutsReports contents from old new) same puts
-  where
-    same : reports_among (whole_run whole workers events) ≡ reports_among events
-    same = flat_map-append report_of events (Over ∷ []) ∙ append-nil (reports_among events)
+-- a property of the reports that were handed over may be weakened
+pub heard_as : {lets : ℕ → ℕ → Type 0} {workers : ℕ} {old new : Held} (hears others : List Reported → Type 0)
+    → ((reports : List Reported) → hears reports → others reports) → HasHeardCrew lets workers old new hears
+    → HasHeardCrew lets workers old new others
+heard_as hears others turn h = record {
+  reports = h.reports;
+  heard = turn h.reports h.heard;
+  job = h.job;
+  by_workers = h.by_workers;
+  missing = h.missing;
+  let_in = h.let_in;
+  once = h.once;
+  offers = h.offers;
+  some = h.some;
+  added = h.added;
+}
 
--- what the observer that reports late soups heard of a crew, for both ways in which the crew ended
-pub put_by_both : {V : Type 0} {contents : V → Option (List ℕ)} {workers from : ℕ} {opened : Held} {old new : Output V} {told : List Event → Type 0}
-    (hears : List Event → Type 0)
-    → ((events : List Event) → hears events
-    → PutsReports contents from old new (reports_among events) × told (whole_run (size_of opened.terms.ranges) workers events))
-    → (ended : Result Held (Held × CrewError))
-    → MatchResult ended
-    (λ done. HasHeardCrew (λ worker number. Unit {0}) (λ worker number. Unit {0}) workers opened done None hears)
-    (λ back. HasHeardCrew (λ worker number. Unit {0}) (λ worker number. Unit {0}) workers opened back.0 (Some back.1) hears)
-    → MatchResult ended (λ done. HasPutBy contents workers from opened done old new told) (λ back. HasPutBy contents workers from opened back.0 old new told)
-put_by_both hears turn (Ok done) h = crew_heard_as None hears _ turn (λ ends why. tt) h
-put_by_both hears turn (Err back) h = crew_heard_as None hears _ turn (λ ends why. tt) h
-
--- only what was done with all events of the call
-pub put_told : {V : Type 0} {contents : V → Option (List ℕ)} {workers from : ℕ} {opened held : Held} {old new : Output V} {told : List Event → Type 0}
-    → HasPutBy contents workers from opened held old new told
-    → HasHeardCrew (λ worker number. Unit {0}) (λ worker number. Unit {0}) workers opened held None
-    (λ events. told (whole_run (size_of opened.terms.ranges) workers events))
-put_told h = crew_heard_as None _ _ (λ events heard. heard.1) (λ ends why. tt) h
+-- the lemma `heard_as` for both ways in which a crew ends
+pub heard_by_both : {E : Type 0} (lets : ℕ → ℕ → Type 0) (workers : ℕ) (old : Held) (hears others : List Reported → Type 0)
+    → ((reports : List Reported) → hears reports → others reports) → (ended : Result Held (Held × E))
+    → MatchResult ended (λ done. HasHeardCrew lets workers old done hears) (λ back. HasHeardCrew lets workers old back.0 hears)
+    → MatchResult ended (λ done. HasHeardCrew lets workers old done others) (λ back. HasHeardCrew lets workers old back.0 others)
+heard_by_both lets workers old hears others turn (Ok done) h = heard_as hears others turn h
+heard_by_both lets workers old hears others turn (Err back) h = heard_as hears others turn h
 
 -- `HasReportedBy` holds for a crew that has reported, whether or not it was stopped
-pub reported_by : {V : Type 0} {contents : V → Option (List ℕ)} {workers from : ℕ} {opened held : Held} {old new : Output V} {told : List Event → Type 0}
-    (failed : Bool) (taken : Result (Unit {0}) Complaint) → HasPutBy contents workers from opened held old new told → failed ≡ new.failed
+pub reported_by : {V : Type 0} {contents : V → Option (List ℕ)} {workers from : ℕ} {opened held : Held} {old new : Output V}
+    (failed : Bool) (taken : Result (Unit {0}) Complaint) → HasPutBy contents workers from opened held old new → failed ≡ new.failed
     → IfOk taken (λ _. (failed ≡ false) × IsComplete held.terms.ranges held.taken × AreAll held.terms.ranges (numbers_in held.taken))
-    → IfErr taken (StopsReporting failed) → HasReportedBy contents workers from opened held old new told taken
+    → IfErr taken (StopsReporting failed) → HasReportedBy contents workers from opened held old new taken
 reported_by failed (Ok u) heard same whole stops =
     record { heard = heard; whole = (sym same ∙ whole.0, whole.1, whole.2); stops = tt }
 reported_by failed (Err complaint) heard same whole stops =

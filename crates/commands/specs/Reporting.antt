@@ -11,7 +11,7 @@ use Rattle.requests.specs.declared.plan.Plan.{Plan}
 use Rattle.pattern_commands.specs.Behaviours.{Behaviour, Makes}
 use Rattle.pattern_commands.specs.Streams.{Stream, HasPrefix}
 use Rattle.commands.specs.LateReports.{late_lines}
-use Rattle.line_commands.specs.SoupSets.{AreRangesOf, job_named}
+use Rattle.commands.specs.SoupSets.{AreRangesOf, job_named}
 use Rattle.commands.specs.Take.{take_right}
 
 -- right reports by these workers on a plan's soups, at most one on each soup
@@ -39,13 +39,11 @@ pub record TellsLate (plan : Plan) (workers from : ℕ) (before after : Option (
   pub are : AreReportsOf plan workers reports
   pub written : Appends before after (late_lines from reports)
 
--- report lines of late soups of a plan, at most one for each soup, were written, but a write failed, and the last line
--- may be incomplete
+-- report lines of late soups of a plan, at most one for each soup, were written, but the last line may be incomplete
 pub record BreaksOffLate (plan : Plan) (workers from : ℕ) (errors : Stream) : Type 0 where
   pub reports : List Reported
   pub are : AreReportsOf plan workers reports
   pub written : HasPrefix errors (late_lines from reports)
-  pub cut : errors.failed ≡ true
 
 -- what is right for `take --report-from`: the haul text of the complete haul and, as diagnostics, the report lines of
 -- all late soups; or else a complaint that is right for `take`

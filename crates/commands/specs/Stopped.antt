@@ -11,7 +11,7 @@ use Rattle.haul_core.specs.Missing.{IsComplete, missing_of}
 use Rattle.ranges.specs.Ranges.{IsNormalForm, is_in}
 use Rattle.requests.specs.declared.plan.Plan.{Plan}
 use Rattle.pattern_commands.specs.Answers.{Right, IsRightGiven}
-use Rattle.line_commands.specs.SoupSets.{job_named, IsRightForSet}
+use Rattle.commands.specs.SoupSets.{job_named, IsRightForSet}
 use Rattle.commands.specs.Take.{take_right}
 use Rattle.pattern_commands.specs.Behaviours.{Makes, Behaviour, silent_behaviour}
 

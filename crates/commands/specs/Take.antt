@@ -10,7 +10,7 @@ use Rattle.haul_core.specs.Missing.{AreAll}
 use Rattle.ranges.specs.Ranges.{IsNormalForm}
 use Rattle.requests.specs.declared.plan.Plan.{Plan}
 use Rattle.pattern_commands.specs.Answers.{Right, IsRightGiven}
-use Rattle.line_commands.specs.SoupSets.{AreRangesOf, job_named, IsRightForSet}
+use Rattle.commands.specs.SoupSets.{AreRangesOf, job_named, IsRightForSet}
 use Rattle.pattern_commands.specs.Behaviours.{Behaviour, text_behaviour}
 
 -- the text is the haul text of a job's census of all soups in these ranges; the census has the ranges in normal form

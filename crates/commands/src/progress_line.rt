@@ -11,7 +11,6 @@ ghost use Rattle.std.specs.declared.time.Instant.{Instant as Moment};
 ghost use Rattle.commands.specs.Progress.{milliseconds_from, per_second};
 
 use crew::progress_observer::ProgressObserver;
-use crew::worker_end::WorkerEnd;
 use haul_core::report::Report;
 use memory::OutOfMemory;
 use plane_core::output::Out;
@@ -175,8 +174,6 @@ impl<W: Write, C: Clock> ProgressObserver for ProgressLine<W, C> {
             self.show(count, now);
         }
     }
-
-    fn ended(&mut self, _worker: u8, _end: WorkerEnd) {}
 
     /// Wipes the line.
     fn pause(&mut self)

@@ -7,23 +7,21 @@
 //! ```
 
 ghost use Rattle.std.proofs.Common.{◌∙◌, subst};
-ghost use Rattle.std.specs.Prelude.{◌≡◌, false, is_err, is_some, refl};
+ghost use Rattle.std.specs.Prelude.{◌≡◌, false, refl};
 ghost use Rattle.haul_core.specs.ReportLines.{report_text};
 ghost use Rattle.haul_core.specs.Reports.{IsReport};
 ghost use Rattle.plane_core.specs.Outputs.{Writes};
-ghost use Rattle.commands.specs.LateReports.{is_late};
-ghost use Rattle.commands.specs.Passing.{HearsLate};
-ghost use Rattle.commands.specs.PutLaws.{late_more, late_none};
+ghost use Rattle.commands.specs.LateReports.{PutsReports, is_late};
+ghost use Rattle.commands.specs.PutLaws.{puts_more, puts_none};
 
 use arrayvec::ArrayVec;
 use crew::gate::{Gate, Stop};
 use crew::progress_observer::ProgressObserver;
-use crew::worker_end::WorkerEnd;
 use haul_core::report::Report;
 use haul_core::report::write::write_report_line;
 use plane_core::output::{Out, WriteError};
 use std::io::Write;
-use std::sync::OnceLock;
+use std::sync::atomic::{AtomicBool, Ordering};
 use survey_core::finding::Finding;
 
 /// A buffer for a report line, so that the line is one write. A line of more than 4,096 bytes is written field by
@@ -33,8 +31,8 @@ type ReportBuffer = ArrayVec<u8, 4096>;
 /// A gate that stops every worker once a write has failed.
 #[derive(Clone, Copy)]
 pub(crate) struct FaultGate<'a> {
-    /// The witness of the write that failed, once one has failed.
-    pub(crate) fault: &'a OnceLock<WriteError>,
+    /// Whether a write has failed.
+    pub(crate) has_failed: &'a AtomicBool,
 }
 
 impl<'a> Gate for FaultGate<'a> {
@@ -43,7 +41,7 @@ impl<'a> Gate for FaultGate<'a> {
     ghost lets = { λ _ worker number. Unit {0} };
 
     fn before(&self, _worker: u8, _number: u64) -> Result<(), Stop> {
-        if self.fault.get().is_some() {
+        if self.has_failed.load(Ordering::SeqCst) {
             return Err(Stop);
         }
         Ok(())
@@ -60,17 +58,16 @@ pub(crate) struct ReportSink<'a, 's, E: Write, H> {
     pub(crate) errors: &'a mut Out<E>,
     /// Receives the progress.
     pub(crate) progress: &'a mut H,
-    /// Where the gate finds the witness of the write that failed.
-    pub(crate) shared_fault: &'s OnceLock<WriteError>,
+    /// Set once a write has failed.
+    pub(crate) has_failed: &'s AtomicBool,
     /// The witness of the write that failed, or `None` if no write has failed.
     pub(crate) fault: Option<WriteError>,
 }
 
 impl<'a, 's, E: Write, H: ProgressObserver> ProgressObserver for ReportSink<'a, 's, E, H> {
-    ghost hears = { λ s events t. (t.errors.ghost_name ≡ s.errors.ghost_name)
+    ghost hears = { λ s reports t. (t.errors.ghost_name ≡ s.errors.ghost_name)
         × (t.progress.ghost_name ≡ s.progress.ghost_name) × (t.from ≡ s.from)
-        × HearsLate E.contents H.hears s.from events s.errors.now t.errors.now s.progress.now t.progress.now
-        (is_some s.fault) (is_some t.fault) };
+        × PutsReports E.contents s.from s.errors.now t.errors.now reports };
 
     fn begin(&mut self, whole: u64, workers: u8) {
         self.progress.begin(whole, workers);
@@ -86,8 +83,9 @@ impl<'a, 's, E: Write, H: ProgressObserver> ProgressObserver for ReportSink<'a, 
             return;
         }
         self.progress.pause();
-        let written = put_line(report, self.errors);
-        self.fault = fault_of(written, self.shared_fault);
+        self.fault = put_line(report, self.errors).err();
+        self.has_failed
+            .store(self.fault.is_some(), Ordering::SeqCst);
         self.progress.resume();
     }
 
@@ -95,37 +93,18 @@ impl<'a, 's, E: Write, H: ProgressObserver> ProgressObserver for ReportSink<'a, 
         self.progress.taken(count);
     }
 
-    fn ended(&mut self, worker: u8, end: WorkerEnd) {
-        self.progress.ended(worker, end);
-    }
-
-    fn pause(&mut self) {
-        self.progress.pause();
-    }
-
-    fn resume(&mut self) {
-        self.progress.resume();
-    }
-
     fn end(&mut self) {
         self.progress.end();
     }
 
-    ghost hears_none = { λ s. (
-      refl,
-      refl,
-      refl,
-      late_none E.contents H.hears s.from s.errors.now s.progress.now (is_some s.fault) (H.hears_none s.progress.now),
-    ) };
+    ghost hears_none = { λ s. (refl, refl, refl, puts_none E.contents s.from s.errors.now) };
 
     ghost hears_more = { λ s m t xs ys p q. (
       q.0 ∙ p.0,
       q.1 ∙ p.1,
       q.2 ∙ p.2,
-      late_more E.contents H.hears s.from H.hears_more s.errors.now m.errors.now t.errors.now s.progress.now m.progress.now
-          t.progress.now (is_some s.fault) (is_some m.fault) (is_some t.fault) xs ys p.3
-          (subst (λ n. HearsLate E.contents H.hears n ys m.errors.now t.errors.now m.progress.now t.progress.now
-          (is_some m.fault) (is_some t.fault)) p.2 q.3),
+      puts_more E.contents s.from s.errors.now m.errors.now t.errors.now xs ys p.3
+          (subst (λ n. PutsReports E.contents n m.errors.now t.errors.now ys) p.2 q.3),
     ) };
 }
 
@@ -150,13 +129,4 @@ fn put_line<E: Write>(report: &Report, errors: &mut Out<E>) -> Result<(), WriteE
         Ok(()) => errors.put(line.into_inner().as_slice()),
         Err(_) => write_report_line(report, errors),
     }
-}
-
-/// Returns the witness of a write that failed, or `None` if the write hasn't failed. A witness is also stored in `shared`.
-fn fault_of(written: Result<(), WriteError>, shared: &OnceLock<WriteError>) -> Option<WriteError>
-    ensures { is_some result ≡ is_err written }
-{
-    let error = written.err()?;
-    let _ = shared.try_set(error);
-    Some(error)
 }

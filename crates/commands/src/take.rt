@@ -6,30 +6,26 @@
 //!          refused           out of memory          missing soups, if a gate stopped a worker
 //! ```
 
-ghost use Rattle.std.specs.Prelude.{◌≡◌, ◌≢◌, ◌≤◌, ℕ, List, None, Option, IfErr, IfOk, false, true};
+ghost use Rattle.std.specs.Prelude.{◌≡◌, ◌≢◌, ◌≤◌, ◌↔◌, [], ℕ, Err, List, Option, IfErr, IfOk, false, length};
 ghost use Rattle.memory.specs.Witness.{out_of_memory};
+ghost use Rattle.haul_core.specs.Missing.{IsComplete, missing_of};
 ghost use Rattle.haul_core.specs.Reports.{IsWorker};
 ghost use Rattle.pattern_commands.specs.Complaints.{status_of};
 ghost use Rattle.pattern_commands.specs.Ends.{Ends};
 ghost use Rattle.pattern_commands.specs.Reached.{Reaches};
 ghost use Rattle.pattern_commands.specs.Profiles.{AreInRange};
 ghost use Rattle.commands.specs.Stopped.{gated_behaviour};
-ghost use Rattle.pattern_commands.specs.Streams.{Stream, stream, IsUntouched};
+ghost use Rattle.pattern_commands.specs.Streams.{Stream, Has, stream, IsUntouched};
 ghost use Rattle.commands.specs.Take.{PrintsCensus, take_behaviour};
 ghost use Rattle.commands.specs.TakeSteps.{EndsCrew, HasLetIn, HasTakenMore};
-ghost use Rattle.commands.specs.Observed.{HearsRunIfOpened, PrintsTaken};
-ghost use Rattle.crew.specs.Events.{whole_run};
-ghost use Rattle.crew.specs.Takes.{HasHeardCrew};
-ghost use Rattle.pattern_commands.specs.Status.{has_printed};
-ghost use Rattle.ranges.specs.Ranges.{size_of};
 
+use crate::finish::finish_unless;
 use crate::machine::Machine;
+use crate::opening::open_haul;
 use crew::gate::{Gate, OpenGate};
 use crew::progress_observer::ProgressObserver;
 use crew::take::{CrewError, take};
 use haul_core::book::haul::Haul;
-use line_commands::finish::finish_unless;
-use line_commands::opening::open_haul;
 use pattern_commands::ending::complaint::Complaint;
 use pattern_commands::ending::end_command;
 use pattern_commands::ending::status::Status;
@@ -70,10 +66,6 @@ pub fn do_take<W: Write, E: Write, T: Threads + Wait + Sync, H: ProgressObserver
         → PrintsCensus plan.now (W.contents output.old.writer) (W.contents output.new.writer) }
     ensures untouched { result ≡ Status.Refused → output.new ≡ output.old }
     ensures no_memory { result ≡ Status.Memory → output.new ≡ output.old }
-    ensures heard { HearsRunIfOpened plan.now workers
-        (λ events. H.hears machine.old.observer events machine.new.observer) }
-    ensures printed { has_printed result ≡ true → PrintsTaken plan.now workers
-        (λ events. H.hears machine.old.observer events machine.new.observer) (stream W.contents output.old output.new) }
 {
     do_take_with(machine, plan, workers, &OpenGate, output)
 }
@@ -106,10 +98,6 @@ pub fn do_take_with<
         (stream W.contents output.old output.new) (stream E.contents machine.old.errors machine.new.errors) }
     ensures untouched { result ≡ Status.Refused → output.new ≡ output.old }
     ensures no_memory { result ≡ Status.Memory → output.new ≡ output.old }
-    ensures heard { HearsRunIfOpened plan.now workers
-        (λ events. H.hears machine.old.observer events machine.new.observer) }
-    ensures printed { has_printed result ≡ true → PrintsTaken plan.now workers
-        (λ events. H.hears machine.old.observer events machine.new.observer) (stream W.contents output.old output.new) }
 {
     let outcome = print_haul(machine, plan, workers, gate, output);
     end_command(outcome, &mut machine.errors)
@@ -133,10 +121,6 @@ fn print_haul<W: Write, E: Write, G: Gate + Sync, T: Threads + Wait + Sync, H: P
     ensures no_memory { IfErr result (λ complaint. complaint ≡ Complaint.Memory out_of_memory
         → output.new ≡ output.old) }
     ensures silent { machine.new.errors ≡ machine.old.errors }
-    ensures heard { HearsRunIfOpened plan.now workers
-        (λ events. H.hears machine.old.observer events machine.new.observer) }
-    ensures printed { IfOk result (λ _. PrintsTaken plan.now workers
-        (λ events. H.hears machine.old.observer events machine.new.observer) (stream W.contents output.old output.new)) }
 {
     let haul = open_haul(machine.alloc, plan, workers)?;
     let (mut haul, taken) = complete_by_crew(machine, haul, workers, gate);
@@ -160,9 +144,6 @@ fn complete_by_crew<E: Write, G: Gate + Sync, T: Threads + Wait + Sync, H: Progr
     ensures ends { IfOk result.1 (λ _. EndsCrew (G.may_stop gate.now) haul result.0) }
     ensures memory { IfErr result.1 (λ complaint. complaint ≡ Complaint.Memory out_of_memory) }
     ensures silent { machine.new.errors ≡ machine.old.errors }
-    ensures heard { HasHeardCrew (G.may_stop gate.now) (G.lets gate.now) workers haul result.0 None
-        (λ events. H.hears machine.old.observer (whole_run (size_of haul.terms.ranges) workers events)
-        machine.new.observer) }
 {
     let taken = take(
         machine.alloc,

@@ -29,8 +29,8 @@ use Rattle.crew.specs.Crews.{dones, is_done, report_in, reports_in}
 use Rattle.crew.specs.Workers.{EndsByDone, Leaves, has_begun, how_many_started, lacks_memory, reported, was_started, was_stopped}
 use Rattle.crew.specs.declared.note.Note.{Note}
 use Rattle.crew.specs.declared.note.Note.TheVariants.{Done}
-use Rattle.crew.specs.declared.worker_end.WorkerEnd.{WorkerEnd}
-use Rattle.crew.specs.declared.worker_end.WorkerEnd.TheVariants.{CalledOff, Drained, Memory, Stopped, Unstarted}
+use Rattle.crew.specs.declared.worker.End.{End}
+use Rattle.crew.specs.declared.worker.End.TheVariants.{CalledOff, Drained, Memory, Stopped, Unstarted}
 use Rattle.crew.specs.declared.worker.WorkerResult.{WorkerResult}
 use Rattle.crew.specs.declared.shared.Shared.{Shared}
 use Rattle.crew.specs.declared.take.Crew.{Crew}
@@ -162,9 +162,9 @@ module _ {may_stop lets : ℕ → ℕ → Type 0} {shared : Shared} where
             whole = λ received. absurd (omega (arith, parts, none, received));
           }
 
-      go : (e : WorkerEnd) → worker_result.end ≡ e → IsHeard got worker_result
+      go : (e : End) → worker_result.end ≡ e → IsHeard got worker_result
       go Drained is = ended is
-      go (Stopped halt) is = absurd (true≢false (sym (ap was_stopped is) ∙ not_stopped))
+      go Stopped is = absurd (true≢false (sym (ap was_stopped is) ∙ not_stopped))
       go (Memory error) is = absurd (true≢false (sym (ap lacks_memory is) ∙ not_lacking))
       go CalledOff is = off is
       go (Unstarted error) is = absurd (true≢false (sym (ap lacks_memory is) ∙ not_lacking))
@@ -252,9 +252,9 @@ missing_in_set ranges taken =
     All-filter (λ n. not (is_taken taken n)) (λ n. is_in ranges n ≡ true) (numbers_of ranges) (numbers_in_set ranges)
 
 -- a worker that lacked no memory was started
-not_lacking_started : (ended : WorkerEnd) → lacks_memory ended ≡ false → was_started ended ≡ true
+not_lacking_started : (ended : End) → lacks_memory ended ≡ false → was_started ended ≡ true
 not_lacking_started Drained h = refl
-not_lacking_started (Stopped halt) h = refl
+not_lacking_started Stopped h = refl
 not_lacking_started (Memory error) h = absurd (cc)
 not_lacking_started CalledOff h = refl
 not_lacking_started (Unstarted error) h = absurd (cc)

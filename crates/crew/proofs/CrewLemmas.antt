@@ -26,7 +26,7 @@ use Rattle.haul_core.specs.Reports.{Reported}
 use Rattle.haul_core.specs.declared.book.arrival.Arrival.{Arrival}
 use Rattle.haul_core.specs.declared.book.arrival.Arrival.TheVariants.{Offer}
 use Rattle.handover.specs.Belts.{GotOne, BeltId, Received}
-use Rattle.crew.specs.Crews.{Collected, Collector, HasAdded, HasComeAll, HasLost, collector_with, dones, is_done}
+use Rattle.crew.specs.Crews.{Collected, Collector, HasAdded, HasComeAll, HasHeard, HasLost, collector_with, dones, is_done}
 use Rattle.crew.specs.Crews.{HasSoupOf, report_in, reports_in}
 use Rattle.crew.specs.declared.note.Note.{Note}
 use Rattle.crew.specs.declared.note.Note.TheVariants.{Done, Report}
@@ -34,7 +34,7 @@ use Rattle.crew.proofs.ListLemmas.{part_all, part_append, part_none}
 
 -- ---- notes
 
-pub reports_push : (notes : List (ℕ × Note)) (m : ℕ × Note) → reports_in (notes ++ m ∷ []) ≡ reports_in notes ++ report_in m.1
+reports_push : (notes : List (ℕ × Note)) (m : ℕ × Note) → reports_in (notes ++ m ∷ []) ≡ reports_in notes ++ report_in m.1
 reports_push notes m =
     flat_map-append (λ (n : ℕ × Note). report_in n.1) notes (m ∷ []) ∙ ap (λ (l : List Reported). reports_in notes ++ l) (append-nil (report_in m.1))
 
@@ -292,3 +292,36 @@ module _ {before after : Collector} {next : Received Note} {answered : Bool} (c 
         soups = λ yes. subst (All (HasSoupOf after.haul)) (sym whole) (c.soups yes);
         lost = λ no. subst (λ (l : List Reported). HasLost l c.part before.haul) (sym whole) (c.lost no);
       }
+
+-- ---- what an observer was handed
+
+-- `hears s reports t` says that the observer went from `s` to `t` when it was handed the reports. If it was handed one
+-- list and then another, it was handed both lists joined.
+module _ {O : Type 0} (hears : O → List Reported → O → Type 0)
+    (hears_more : (s m t : O) (xs ys : List Reported) → hears s xs m → hears m ys t → hears s (xs ++ ys) t) where
+  pub heard_none : (pass : Received Note) (s t : O) → hears s [] t → HasHeard pass pass (λ reports. hears s reports t)
+  heard_none pass s t nothing = record { notes = []; got = sym (append-nil pass.got); heard = nothing }
+
+  -- `HasHeard` still holds if the observer is handed nothing more
+  pub heard_still : {old new : Received Note} (s m t : O) → HasHeard old new (λ reports. hears s reports m) → hears m [] t
+      → HasHeard old new (λ reports. hears s reports t)
+  heard_still s m t h nothing = record {
+    notes = h.notes;
+    got = h.got;
+    heard = subst (λ (l : List Reported). hears s l t) (append-nil (reports_in h.notes)) (hears_more s m t (reports_in h.notes) [] h.heard nothing);
+  }
+
+  -- `HasHeard` still holds if the observer was handed nothing before
+  pub heard_then : {old new : Received Note} (s m t : O) → hears s [] m → HasHeard old new (λ reports. hears m reports t)
+      → HasHeard old new (λ reports. hears s reports t)
+  heard_then s m t nothing h = record { notes = h.notes; got = h.got; heard = hears_more s m t [] (reports_in h.notes) nothing h.heard }
+
+  -- `HasHeard` holds after one more note if the observer was handed the note's report, or nothing if the note has none
+  pub heard_note : {old new next : Received Note} (note : Note) (s m t : O) → HasHeard old new (λ reports. hears s reports m)
+      → GotOne new next note → hears m (report_in note) t → HasHeard old next (λ reports. hears s reports t)
+  heard_note {old} note s m t h g more = record {
+    notes = h.notes ++ (g.sender, note) ∷ [];
+    got = g.got ∙ ap (λ (l : List (ℕ × Note)). l ++ (g.sender, note) ∷ []) h.got ∙ append_assoc old.got h.notes ((g.sender, note) ∷ []);
+    heard = subst (λ (l : List Reported). hears s l t) (sym (reports_push h.notes (g.sender, note)))
+        (hears_more s m t (reports_in h.notes) (report_in note) h.heard more);
+  }

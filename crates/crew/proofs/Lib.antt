@@ -1,7 +1,6 @@
 pub mod CompleteLemmas
 pub mod CrewLemmas
 pub mod EndLemmas
-pub mod HearLemmas
 pub mod ListLemmas
 pub mod OnceLemmas
 pub mod SenderSums

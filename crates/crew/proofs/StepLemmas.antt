@@ -1,6 +1,6 @@
 -- A crew is run by recursion: a worker is started, the crew is run with the other endpoints, and the worker comes back.
 use Rattle.std.proofs.Common.{◌≡◌, ◌≢◌, ◌≤◌, ◌+◌, ◌-◌, ◌++◌, ◌∙◌, ◌<◌, ℕ, All, Bool, true, false, List, [], ◌∷◌, ap}
-use Rattle.std.proofs.Common.{append-nil, append_assoc, arith, cond, length}
+use Rattle.std.proofs.Common.{arith, cond, length}
 use Rattle.std.proofs.Common.{map, refl, subst, subst₂, sym}
 use Rattle.std.specs.Prelude.{None, Option, Some, is_some, not, vec_capacity}
 use Rattle.std.specs.List.{range_with_len}
@@ -12,18 +12,15 @@ use Rattle.haul_core.specs.Books.{Held}
 use Rattle.haul_core.specs.Reports.{IsWorker}
 use Rattle.handover.specs.Belts.{Presented, Received, silent}
 use Rattle.handover.specs.Tickets.{Drawn, fresh}
-use Rattle.crew.specs.CrewSteps.{HasHeardAll, HasRunAll, HaveRoom, HasAddedEndpoint, IsTakenOut, MayRun, cause_of, collector_of, worker_end, stopped_with}
-use Rattle.crew.specs.Crews.{Collected, Collector, HasHeard, collector_with}
-use Rattle.crew.specs.Events.{Event, Returned, Started, returned}
+use Rattle.crew.specs.CrewSteps.{HasRunAll, HaveRoom, HasAddedEndpoint, IsTakenOut, MayRun, cause_of, collector_of, stopped_with}
+use Rattle.crew.specs.Crews.{Collected, Collector, collector_with}
 use Rattle.crew.specs.Workers.{Leaves, how_many_started, lacks_memory, sender_numbers, was_started}
 use Rattle.crew.specs.declared.note.Note.{Note}
 use Rattle.crew.specs.declared.endpoints.Endpoints.{Endpoints}
 use Rattle.crew.specs.declared.worker.WorkerResult.{WorkerResult}
-use Rattle.crew.specs.declared.worker_end.WorkerEnd.{WorkerEnd}
 use Rattle.crew.specs.declared.shared.Shared.{Shared}
 use Rattle.crew.specs.declared.take.Crew.{Crew}
 use Rattle.crew.specs.declared.take.CrewError.TheVariants as crew_error
-use Rattle.crew.proofs.HearLemmas.{heard_as}
 use Rattle.crew.proofs.ListLemmas.{all_left, all_right, count_append, count_cons}
 use Rattle.crew.proofs.WorkerLemmas.{stopped_more}
 use Rattle.crew.proofs.TakeLemmas.{all_silent, all_workers, silent_length}
@@ -91,7 +88,7 @@ pub not_more : (a b n : ℕ) → n ≡ a + b → b ≤ n
 not_more a b n is = omega arith
 
 -- one more worker adds 1 to the number of started workers if a thread was started for it, and otherwise 0
-pub started_more : (results : List WorkerResult) (worker_result : WorkerResult) (b : Bool) (n : ℕ) → was_started worker_result.end ≡ b → n ≡ bool_byte b
+started_more : (results : List WorkerResult) (worker_result : WorkerResult) (b : Bool) (n : ℕ) → was_started worker_result.end ≡ b → n ≡ bool_byte b
     → how_many_started (results ++ worker_result ∷ []) ≡ how_many_started results + n
 started_more results worker_result b n is byte =
     let all = count_append (λ (s : WorkerResult). was_started s.end) results (worker_result ∷ []) in
@@ -197,7 +194,7 @@ module _ {may_stop lets : ℕ → ℕ → Type 0} {shared : Shared} where
       omega (arith, senders, back, all, same, room)
 
   -- `HasRunAll` holds if no endpoints are left and the notes of all started workers were collected
-  abbrev pub run_none : (crew new : Crew) (answered : Bool) → MayRun shared crew → crew.endpoints.senders.items ≡ []
+  pub run_none : (crew new : Crew) (answered : Bool) → MayRun shared crew → crew.endpoints.senders.items ≡ []
       → Collected (collector_of crew.away crew) (collector_of 0 new) answered → (new.lacking ≡ None → answered ≡ true)
       → new.back ≡ crew.back → new.stopped ≡ crew.stopped → new.away ≡ crew.away → HasRunAll may_stop lets shared crew new
   run_none crew new answered may none collected heard back stopped away =
@@ -219,7 +216,7 @@ module _ {may_stop lets : ℕ → ℕ → Type 0} {shared : Shared} where
       }
 
   -- `HasRunAll` holds once all the other workers are back, and after them the worker of `endpoint`
-  abbrev pub run_more : (next : Endpoints) (crew mid new : Crew) (endpoint : Drawn × Presented Note) (worker_result : WorkerResult) (b : Bool) (started : ℕ)
+  pub run_more : (next : Endpoints) (crew mid new : Crew) (endpoint : Drawn × Presented Note) (worker_result : WorkerResult) (b : Bool) (started : ℕ)
       → IsTakenOut endpoint crew.endpoints next → HasRunAll may_stop lets shared (left_with crew next started) mid
       → Leaves may_stop lets shared endpoint.1.number worker_result → was_started worker_result.end ≡ b → started ≡ bool_byte b
       → HasAddedEndpoint worker_result.pass worker_result.sender mid.back new.back
@@ -262,64 +259,3 @@ module _ {may_stop lets : ℕ → ℕ → Type 0} {shared : Shared} where
 
       all : crew.away + started + how_many_started ran.results ≡ crew.away + how_many_started (ran.results ++ worker_result ∷ [])
       all = let more = started_more ran.results worker_result b started with_thread byte in omega arith
-
--- ---- what an observer hears of the crew
-
--- the events after those of one more worker, if `n` workers were started in all
-returned_more : (n m : ℕ) (events : List Event) (results : List WorkerResult) (worker_result : WorkerResult) → n ≡ m
-    → (Started n ∷ events ++ returned (map worker_end results)) ++ Returned worker_result.sender.number worker_result.end ∷ []
-    ≡ Started m ∷ events ++ returned (map worker_end (results ++ worker_result ∷ []))
-returned_more n m events results worker_result same =
-    let one : List (ℕ × WorkerEnd) = worker_end worker_result ∷ [] in
-    let ends : returned (map worker_end (results ++ worker_result ∷ [])) ≡ returned (map worker_end results) ++ returned one =
-    ap returned (map-append worker_end results (worker_result ∷ []))
-    ∙ map-append (λ (e : ℕ × WorkerEnd). Returned e.0 e.1) (map worker_end results) one in
-    ap (λ (l : List Event). Started n ∷ l) (append_assoc events (returned (map worker_end results)) (returned one) ∙ ap (λ (l : List Event). events ++ l) (sym ends))
-    ∙ ap (λ (k : ℕ). Started k ∷ events ++ returned (map worker_end (results ++ worker_result ∷ []))) same
-
-module _ {O : Type 0} (hears : O → List Event → O → Type 0)
-    (hears_more : (s m t : O) (xs ys : List Event) → hears s xs m → hears m ys t → hears s (xs ++ ys) t)
-    {may_stop lets : ℕ → ℕ → Type 0} {shared : Shared} where
-  -- `HasHeardAll` holds if no endpoints are left
-  pub heard_all_none : (crew new : Crew) (s t : O) (ran : HasRunAll may_stop lets shared crew new) → ran.results ≡ []
-      → HasHeard crew.receiver new.receiver crew.haul new.haul (λ events. hears s (Started crew.away ∷ events) t)
-      → HasHeardAll ran (λ events. hears s events t)
-  heard_all_none crew new s t ran none h =
-      heard_as (λ events. hears s (Started crew.away ∷ events) t)
-      (λ events. hears s (Started (crew.away + how_many_started ran.results) ∷ events ++ returned (map worker_end ran.results)) t)
-      (λ events heard. subst (λ (l : List Event). hears s l t) (same events) heard) h
-    where
-      same : (events : List Event) → Started crew.away ∷ events ≡ Started (crew.away + how_many_started ran.results) ∷ events ++ returned (map worker_end ran.results)
-      same events =
-          let zero_is : how_many_started [] ≡ 0 = refl in
-          let away : crew.away ≡ crew.away + how_many_started [] = omega arith in
-          ap (λ (k : ℕ). Started k ∷ events) away ∙ ap (λ (l : List Event). Started (crew.away + how_many_started []) ∷ l) (sym (append-nil events))
-          ∙ ap (λ (l : List WorkerResult). Started (crew.away + how_many_started l) ∷ events ++ returned (map worker_end l)) (sym none)
-
-  -- `HasHeardAll` holds once the observer has heard how one more worker ended
-  pub heard_all_more : (next : Endpoints) (crew mid new : Crew) (worker : ℕ) (worker_result : WorkerResult) (b : Bool) (started : ℕ) (s m t : O)
-      (ran : HasRunAll may_stop lets shared (left_with crew next started) mid) (all : HasRunAll may_stop lets shared crew new)
-      → all.results ≡ ran.results ++ worker_result ∷ [] → was_started worker_result.end ≡ b → started ≡ bool_byte b
-      → new.haul ≡ mid.haul → new.receiver ≡ mid.receiver → worker ≡ worker_result.sender.number
-      → HasHeardAll ran (λ events. hears s events m) → hears m (Returned worker worker_result.end ∷ []) t
-      → HasHeardAll all (λ events. hears s events t)
-  heard_all_more next crew mid new worker worker_result b started s m t ran all results with_thread byte haul receiver is h one =
-      subst₂ (λ (r : Received Note) (held : Held). HasHeard crew.receiver r crew.haul held others) (sym receiver) (sym haul)
-      (heard_as _ others (λ events heard. subst (λ (l : List Event). hears s l t) (same events)
-      (hears_more s m t (Started (crew.away + started + how_many_started ran.results) ∷ events ++ returned (map worker_end ran.results))
-      (Returned worker_result.sender.number worker_result.end ∷ []) heard
-      (subst (λ (w : ℕ). hears m (Returned w worker_result.end ∷ []) t) is one))) h)
-    where
-      others : List Event → Type 0
-      others events = hears s (Started (crew.away + how_many_started all.results) ∷ events ++ returned (map worker_end all.results)) t
-
-      many : crew.away + started + how_many_started ran.results ≡ crew.away + how_many_started (ran.results ++ worker_result ∷ [])
-      many = let more = started_more ran.results worker_result b started with_thread byte in omega arith
-
-      same : (events : List Event)
-          → (Started (crew.away + started + how_many_started ran.results) ∷ events ++ returned (map worker_end ran.results))
-          ++ Returned worker_result.sender.number worker_result.end ∷ []
-          ≡ Started (crew.away + how_many_started all.results) ∷ events ++ returned (map worker_end all.results)
-      same events =
-          returned_more _ _ events ran.results worker_result many
-          ∙ ap (λ (l : List WorkerResult). Started (crew.away + how_many_started l) ∷ events ++ returned (map worker_end l)) (sym results)

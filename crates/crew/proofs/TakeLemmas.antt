@@ -1,7 +1,7 @@
--- What follows from the workers' notes: which reports the haul has taken, and what an observer heard.
+-- What follows from the workers' notes: which reports the haul has taken, and which reports an observer was handed.
 use Rattle.std.proofs.Common.{◌≡◌, ◌≢◌, ◌≤◌, ◌+◌, ◌++◌, ◌∙◌, ℕ, zero, suc, Bool, cond, nat_eq, All, List, [], ◌∷◌, ap, arith, drop, filter, get_or, inl, inr}
 use Rattle.std.proofs.Common.{length, map, refl, subst, sym, ⊎_elim}
-use Rattle.std.specs.Prelude.{Contains, IfSome, None, Option, Some, count_by, slice_index, sum_by}
+use Rattle.std.specs.Prelude.{Contains, IfSome, Option, Some, count_by, slice_index, sum_by}
 use Rattle.std.specs.List.Sorted.{IsStrictlyIncreasing}
 use Rattle.std.specs.List.{IsDistinct, range_with_len}
 use Rattle.std.proofs.lemmas.Bool.{eq-eqb, ne_eqb}
@@ -20,21 +20,17 @@ use Rattle.haul_core.specs.Keeping.{numbers_in}
 use Rattle.haul_core.specs.Reports.{IsWorker, Reported}
 use Rattle.handover.specs.Belts.{IsWhole, Presented, Received, deaf, notes_of, silent}
 use Rattle.handover.specs.Tickets.{Drawn, drawn_by_all}
-use Rattle.crew.specs.CrewSteps.{HasHeardAll, HasRunAll, cause_of, worker_end}
-use Rattle.crew.specs.Crews.{HasAdded, report_in, reports_in}
-use Rattle.crew.specs.Events.{Begun, EndsAtCount, Event, FollowsEvents, Over, Started, report_of, reports_among, returned, whole_run}
-use Rattle.crew.specs.Workers.{HasReported, IsOwnReport, Leaves, StopsAt, how_many_started, reported, sender_numbers}
-use Rattle.crew.specs.Takes.{EndsWith, HasHeardCrew, HasTaken, IsPossibleEnd, started_among, taken_by, times_reported, was_missing}
+use Rattle.crew.specs.CrewSteps.{HasRunAll}
+use Rattle.crew.specs.Crews.{HasAdded, HasHeard, report_in, reports_in}
+use Rattle.crew.specs.Workers.{HasReported, IsOwnReport, Leaves, StopsAt, reported, sender_numbers}
+use Rattle.crew.specs.Takes.{HasHeardCrew, HasTaken, taken_by, times_reported, was_missing}
 use Rattle.crew.specs.declared.note.Note.{Note}
 use Rattle.crew.specs.declared.note.Note.TheVariants.{Done, Report}
 use Rattle.crew.specs.declared.worker.WorkerResult.{WorkerResult}
 use Rattle.crew.specs.declared.shared.Shared.{Shared}
 use Rattle.crew.specs.declared.take.Crew.{Crew}
-use Rattle.crew.specs.declared.take.CrewError.{CrewError}
-use Rattle.crew.specs.declared.worker_end.WorkerEnd.{WorkerEnd}
 use Rattle.handover.proofs.BeltLemmas.{notes_first, notes_other}
 use Rattle.crew.proofs.CrewLemmas.{added_none}
-use Rattle.crew.proofs.EndLemmas.{ends_with, may_of_all, started_of_ends, workers_of_ends}
 use Rattle.crew.proofs.ListLemmas.{Rises, all_left, all_part, all_right, all_unmap, at_places, distinct_right, in_range, part_all, range_within}
 use Rattle.crew.proofs.ListLemmas.{rises_at, rises_left, rises_part}
 use Rattle.crew.proofs.OnceLemmas.{of_reported, of_worker_once, of_workers, on, times_received}
@@ -238,16 +234,12 @@ taken_none lets workers held = record {
   in_order = λ w le ge i j d lt small. absurd (omega arith);
 }
 
--- `HasHeardCrew` holds if no worker began and the haul has taken nothing
-pub crew_heard_none : (may_stop lets : ℕ → ℕ → Type 0) (workers : ℕ) (held : Held) (error : Option CrewError) (hears : List Event → Type 0)
-    → IfSome error (EndsWith []) → hears [] → HasHeardCrew may_stop lets workers held held error hears
-crew_heard_none may_stop lets workers held error hears why nothing = record {
-  events = [];
+-- `HasHeardCrew` holds if the observer was handed nothing and the haul has taken nothing
+pub crew_heard_none : (lets : ℕ → ℕ → Type 0) (workers : ℕ) (held : Held) (hears : List Reported → Type 0) → hears []
+    → HasHeardCrew lets workers held held hears
+crew_heard_none lets workers held hears nothing = record {
+  reports = [];
   heard = nothing;
-  ends = [];
-  course = inl (refl, refl);
-  may = All-nil (IsPossibleEnd may_stop lets (was_missing held));
-  why = why;
   job = All-nil (λ (r : Reported). r.job ≡ held.terms.job);
   by_workers = All-nil (λ (r : Reported). (1 ≤ r.worker) × (r.worker ≤ workers));
   missing = All-nil (λ (r : Reported). Contains (was_missing held) r.number);
@@ -258,18 +250,15 @@ crew_heard_none may_stop lets workers held error hears why nothing = record {
   added = added_none held;
 }
 
--- `HasHeardCrew` holds for another property of the events that follows from the first, and for another error
-pub crew_heard_as : {may_stop lets : ℕ → ℕ → Type 0} {workers : ℕ} {old new : Held} {cause : Option CrewError} (error : Option CrewError)
-    (hears others : List Event → Type 0) → ((events : List Event) → hears events → others events)
-    → ((ends : List (ℕ × WorkerEnd)) → IfSome cause (EndsWith ends) → IfSome error (EndsWith ends))
-    → HasHeardCrew may_stop lets workers old new cause hears → HasHeardCrew may_stop lets workers old new error others
-crew_heard_as error hears others turn why h = record {
-  events = h.events;
-  heard = turn h.events h.heard;
-  ends = h.ends;
-  course = h.course;
-  may = h.may;
-  why = why h.ends h.why;
+-- `HasHeardCrew` still holds if the observer was handed nothing before the crew ran and nothing after it
+pub heard_between : {lets : ℕ → ℕ → Type 0} {workers : ℕ} {old new : Held} {O : Type 0} (hears : O → List Reported → O → Type 0)
+    → ((s m t : O) (xs ys : List Reported) → hears s xs m → hears m ys t → hears s (xs ++ ys) t) → (begun first last ended : O)
+    → hears begun [] first → HasHeardCrew lets workers old new (λ reports. hears first reports last) → hears last [] ended
+    → HasHeardCrew lets workers old new (λ reports. hears begun reports ended)
+heard_between hears hears_more begun first last ended before h after = record {
+  reports = h.reports;
+  heard = subst (λ (l : List Reported). hears begun l ended) (append-nil h.reports)
+      (hears_more begun last ended h.reports [] (hears_more begun first last [] h.reports before h.heard) after);
   job = h.job;
   by_workers = h.by_workers;
   missing = h.missing;
@@ -279,14 +268,6 @@ crew_heard_as error hears others turn why h = record {
   some = h.some;
   added = h.added;
 }
-
--- the events of a crew, with the first event and the last of a call of `take`
-pub heard_whole : {O : Type 0} (hears : O → List Event → O → Type 0)
-    → ((s m t : O) (xs ys : List Event) → hears s xs m → hears m ys t → hears s (xs ++ ys) t) → (whole workers : ℕ) (begun first last ended : O)
-    → hears begun (Begun whole workers ∷ []) first → hears last (Over ∷ []) ended → (events : List Event) → hears first events last
-    → hears begun (whole_run whole workers events) ended
-heard_whole hears hears_more whole workers begun first last ended before after events heard =
-    hears_more begun first ended (Begun whole workers ∷ []) (events ++ Over ∷ []) before (hears_more first last ended events (Over ∷ []) heard after)
 
 -- ---- what a crew begins with
 
@@ -309,11 +290,6 @@ silent_numbers name (n ∷ ns) = ap (λ (l : List ℕ). n ∷ l) (silent_numbers
 
 pub silent_length : (name : TableId) (workers : ℕ) → length (map (silent {N = Note} name) (range_with_len 1 workers)) ≡ workers
 silent_length name workers = length-map (range_with_len 1 workers) (silent {N = Note} name) ∙ length-range_with_len 1 workers
-
--- how workers ended hands over no reports
-none_returned : (ends : List (ℕ × WorkerEnd)) → reports_among (returned ends) ≡ []
-none_returned [] = refl
-none_returned (e ∷ es) = none_returned es
 
 -- ---- a crew that has ended
 
@@ -422,46 +398,25 @@ module _ {may_stop lets : ℕ → ℕ → Type 0} (shared : Shared) (workers : �
           let few : drew ≤ 1 = drawn at.0 in
           omega (arith, all, none, whole, last, same, few)
 
-  -- `HasHeardCrew` holds for what an observer heard of the crew
+  -- `HasHeardCrew` holds if an observer was handed the reports among the received notes
   pub crew_heard : (held : Held) → held ≡ new.haul → shared.job ≡ old.haul.terms.job
-      → ((t : ℕ) → count_by (nat_eq t) (drawn_by_all new.back.passes.items) ≤ 1) → (cause : Option CrewError)
-      → cause ≡ cause_of new.stopped new.lacking → old.away ≡ 0 → (hears : List Event → Type 0) → HasHeardAll ran hears
-      → HasHeardCrew may_stop lets workers old.haul held cause hears
-  crew_heard held same of_haul drawn cause cause_is nobody hears h =
+      → ((t : ℕ) → count_by (nat_eq t) (drawn_by_all new.back.passes.items) ≤ 1) → (hears : List Reported → Type 0)
+      → HasHeard old.receiver new.receiver hears → HasHeardCrew lets workers old.haul held hears
+  crew_heard held same of_haul drawn hears h =
       let c = ran.collected in
       let reports = reports_in c.notes in
       let of = crew_part reports (part_all reports) in
-      let notes : h.hearing.notes ≡ c.notes = sym (h.hearing.got ∙ ap (λ (r : Received Note). r.got ++ h.hearing.notes) begun) ∙ notes_are in
-      let n : ℕ = old.away + how_many_started ran.results in
-      let ends : List (ℕ × WorkerEnd) = map worker_end ran.results in
-      let many : old.away + how_many_started ran.results ≡ started_among (map worker_end ran.results) =
-      (let all = started_of_ends ran.results in omega (arith, nobody, all)) in
-      let events : List Event = Started n ∷ h.hearing.events ++ returned ends in
-      let are : reports_among events ≡ reports =
-      flat_map-append report_of h.hearing.events (returned ends) ∙ (λ i. h.hearing.reports i ++ none_returned ends i)
-      ∙ append-nil (reports_in h.hearing.notes) ∙ ap reports_in notes in
+      let notes : h.notes ≡ c.notes = sym (h.got ∙ ap (λ (r : Received Note). r.got ++ h.notes) begun) ∙ notes_are in
       record {
-        events = events;
-        heard = h.hearing.heard;
-        ends = ends;
-        course = inr (record {
-          told = h.hearing.events;
-          parts = ap (λ (k : ℕ). Started k ∷ h.hearing.events ++ returned ends) many;
-          each = workers_of_ends ran.results ∙ all_numbers;
-          counts = subst (λ (x : Held). FollowsEvents old.haul.taken h.hearing.events x.taken) (sym same) h.hearing.counts;
-          last = subst (λ (x : Held). EndsAtCount (length x.taken) h.hearing.events) (sym same) h.last;
-        });
-        may = may_of_all shared (was_missing old.haul) listed ran.results ran.left;
-        why = ends_with ran.results new.stopped new.lacking cause ran.stopped cause_is;
-        job = subst (All (λ (r : Reported). r.job ≡ old.haul.terms.job)) (sym are)
-            (subst (λ (j : Job). All (λ (r : Reported). r.job ≡ j) reports) of_haul of.of_job);
-        by_workers = subst (All (λ (r : Reported). (1 ≤ r.worker) × (r.worker ≤ workers))) (sym are) of.by_workers;
-        missing = subst (All (λ (r : Reported). Contains (was_missing old.haul) r.number)) (sym are)
-            (subst (λ (l : List ℕ). All (λ (r : Reported). Contains l r.number) reports) listed of.listed);
-        let_in = subst (All (λ (r : Reported). lets r.worker r.number)) (sym are) of.let_in;
-        once = λ k. subst (λ (l : List Reported). times_reported k l ≤ 1) (sym are) (crew_once drawn k);
+        reports = reports;
+        heard = subst (λ (l : List (ℕ × Note)). hears (reports_in l)) notes h.heard;
+        job = subst (λ (j : Job). All (λ (r : Reported). r.job ≡ j) reports) of_haul of.of_job;
+        by_workers = of.by_workers;
+        missing = subst (λ (l : List ℕ). All (λ (r : Reported). Contains l r.number) reports) listed of.listed;
+        let_in = of.let_in;
+        once = crew_once drawn;
         offers = c.part;
-        some = subst (IsSubsequence c.part) (sym are) c.some;
+        some = c.some;
         added = subst (HasAdded c.part old.haul) (sym same) c.added;
       }
 

@@ -17,15 +17,14 @@ use Rattle.crew.specs.CrewSteps.{stopped_with}
 use Rattle.crew.specs.Workers.{AreNotDone, HasReported, HasWorked, IsOwnReport, Leaves, Returns, StopsAt, first_stopped, has_begun}
 use Rattle.crew.specs.Workers.{lacks_memory, reported, was_started, was_stopped}
 use Rattle.crew.specs.declared.note.Note.{Note}
-use Rattle.crew.specs.declared.permit.Halt.{Halt}
 use Rattle.crew.specs.declared.note.Note.TheVariants.{Done, Report}
-use Rattle.crew.specs.declared.worker_end.WorkerEnd.{WorkerEnd}
-use Rattle.crew.specs.declared.worker_end.WorkerEnd.TheVariants.{CalledOff, Drained, Memory, Stopped, Unstarted}
+use Rattle.crew.specs.declared.worker.End.{End}
+use Rattle.crew.specs.declared.worker.End.TheVariants.{CalledOff, Drained, Memory, Stopped, Unstarted}
 use Rattle.crew.specs.declared.worker.WorkerResult.{WorkerResult}
 use Rattle.crew.specs.declared.shared.Shared.{Shared}
 
 -- a worker's result, from its parts
-abbrev pub result_of : Drawn → Presented Note → WorkerEnd → WorkerResult
+abbrev pub result_of : Drawn → Presented Note → End → WorkerResult
 result_of pass sender ended = record { pass = pass; sender = sender; end = ended }
 
 reported_push : (notes : List Note) (note : Note) → reported (notes ++ note ∷ []) ≡ reported notes ++ report_in note
@@ -109,14 +108,14 @@ module _ {may_stop lets : ℕ → ℕ → Type 0} (shared : Shared) (worker : �
     drawn = inl (ap (λ (p : Drawn). p.numbers) is);
     all = λ drained. ap (λ (p : Drawn). p.numbers) is;
     heard = λ drained. ap (λ (p : Drawn). p.heard_none) is;
-    stops = λ stopped. absurd (let bad : false ≡ true = stopped in cc);
+    stops = λ stopped. absurd (let bad : false ≡ true = ap was_stopped stopped in cc);
     lacks = λ error lacking. absurd (let bad : false ≡ true = ap lacks_memory lacking in cc);
   }
 
   -- `HasWorked` holds for a worker that drew a number and was then stopped by the gate
-  pub worked_stopped : (n : ℕ) (halt : Halt) → new ≡ with_drawn n old → StopsAt may_stop shared.missing.items worker
-      → HasWorked may_stop lets shared worker (Stopped halt) new sender
-  worked_stopped n halt is stops = record {
+  pub worked_stopped : (n : ℕ) → new ≡ with_drawn n old → StopsAt may_stop shared.missing.items worker
+      → HasWorked may_stop lets shared worker Stopped new sender
+  worked_stopped n is stops = record {
     number = number;
     series = ap (λ (p : Drawn). p.series) is ∙ series;
     places = old.numbers;
@@ -138,15 +137,15 @@ module _ {may_stop lets : ℕ → ℕ → Type 0} (shared : Shared) (worker : �
     drawn = inr (n, ap (λ (p : Drawn). p.numbers) is);
     all = λ drained. absurd (let bad : true ≡ false = ap lacks_memory drained in cc);
     heard = λ drained. absurd (let bad : true ≡ false = ap lacks_memory drained in cc);
-    stops = λ stopped. absurd (let bad : false ≡ true = stopped in cc);
+    stops = λ stopped. absurd (let bad : false ≡ true = ap was_stopped stopped in cc);
     lacks = λ _ lacking. record { place = n; drawn = ap (λ (p : Drawn). p.numbers) is; below = low; let_in = let_in };
   }
 
 -- ---- the result of a worker
 
-begun_started : (ended : WorkerEnd) → has_begun ended ≡ true → was_started ended ≡ true
+begun_started : (ended : End) → has_begun ended ≡ true → was_started ended ≡ true
 begun_started Drained h = refl
-begun_started (Stopped halt) h = refl
+begun_started Stopped h = refl
 begun_started (Memory error) h = refl
 begun_started CalledOff h = refl
 begun_started (Unstarted error) h = absurd (cc)
@@ -165,7 +164,7 @@ module _ {may_stop lets : ℕ → ℕ → Type 0} (shared : Shared) where
         drawn = inl (ap (λ (p : Drawn). p.numbers) unused);
         all = λ drained. ap (λ (p : Drawn). p.numbers) unused;
         heard = λ drained. absurd (let bad : false ≡ true = ap has_begun drained in cc);
-        stops = λ stopped. absurd (let bad : false ≡ true = stopped in cc);
+        stops = λ stopped. absurd (let bad : false ≡ true = ap has_begun stopped in cc);
         lacks = λ error lacking. absurd (let bad : false ≡ true = ap has_begun lacking in cc);
       };
       done = λ begun. absurd (let bad : false ≡ true = begun in cc);
@@ -175,7 +174,7 @@ module _ {may_stop lets : ℕ → ℕ → Type 0} (shared : Shared) where
   }
 
   -- `Returns` holds for a worker that has worked and then presented a note "done"
-  pub returned : (worker : ℕ) (ended : WorkerEnd) (pass : Drawn) (sender now : Presented Note)
+  pub returned : (worker : ℕ) (ended : End) (pass : Drawn) (sender now : Presented Note)
       → HasWorked may_stop lets shared worker ended pass sender
       → has_begun ended ≡ true → AreNotDone sender.notes → now ≡ with_note (Done worker) sender
       → Returns may_stop lets shared worker (result_of pass now ended)
@@ -214,7 +213,7 @@ module _ {may_stop lets : ℕ → ℕ → Type 0} (shared : Shared) where
           drawn = worked.drawn;
           all = λ drained. absurd (let bad : false ≡ true = ap has_begun drained in cc);
           heard = λ drained. absurd (let bad : false ≡ true = ap has_begun drained in cc);
-          stops = λ stopped. absurd (let bad : false ≡ true = stopped in cc);
+          stops = λ stopped. absurd (let bad : false ≡ true = ap has_begun stopped in cc);
           lacks = λ _ lacking. absurd (let bad : false ≡ true = ap has_begun lacking in cc);
         };
         done = λ begun. absurd (let bad : false ≡ true = begun in cc);
@@ -242,16 +241,23 @@ stopped_more (s ∷ ss) worker_result = go (was_stopped s.end) (stopped_more ss 
     go true more = refl
     go false more = more
 
+stopped_is : (ended : End) → was_stopped ended ≡ true → ended ≡ Stopped
+stopped_is Drained h = absurd (cc)
+stopped_is Stopped h = refl
+stopped_is (Memory error) h = absurd (cc)
+stopped_is CalledOff h = absurd (cc)
+stopped_is (Unstarted error) h = absurd (cc)
+
 -- what holds for all stopped workers holds for the first of them
-pub of_first_stopped : (P : ℕ → Type 0) (results : List WorkerResult) → All (λ s. was_stopped s.end ≡ true → P s.sender.number) results
+pub of_first_stopped : (P : ℕ → Type 0) (results : List WorkerResult) → All (λ s. s.end ≡ Stopped → P s.sender.number) results
     → IfSome (first_stopped results) P
 of_first_stopped P [] h = tt
 of_first_stopped P (s ∷ ss) h =
-    go (was_stopped s.end) refl (of_first_stopped P ss (All-tail (λ t. was_stopped t.end ≡ true → P t.sender.number) s ss h))
+    go (was_stopped s.end) refl (of_first_stopped P ss (All-tail (λ t. t.end ≡ Stopped → P t.sender.number) s ss h))
   where
     go : (b : Bool) → was_stopped s.end ≡ b → IfSome (first_stopped ss) P
         → IfSome (option_map (λ (t : WorkerResult). t.sender.number) (cond b (Some s) (find (λ t. was_stopped t.end) ss))) P
-    go true is more = All-head (λ t. was_stopped t.end ≡ true → P t.sender.number) s ss h is
+    go true is more = All-head (λ t. t.end ≡ Stopped → P t.sender.number) s ss h (stopped_is s.end is)
     go false is more = more
 
 -- if there is no first stopped worker, no worker was stopped

@@ -7,14 +7,13 @@ use Rattle.haul_core.specs.Books.{Held}
 use Rattle.haul_core.specs.Reports.{IsWorker}
 use Rattle.handover.specs.Belts.{Presented, deaf, silent}
 use Rattle.handover.specs.Tickets.{Drawn, fresh}
-use Rattle.crew.specs.Crews.{Collected, Collector, HasHeard, collector_with}
-use Rattle.crew.specs.Events.{Event, Started, returned}
+use Rattle.crew.specs.Crews.{Collected, Collector, collector_with}
 use Rattle.crew.specs.Takes.{was_missing}
 use Rattle.crew.specs.Workers.{Leaves, first_stopped, how_many_started, lacks_memory, sender_numbers, was_stopped}
 use Rattle.crew.specs.declared.note.Note.{Note}
 use Rattle.crew.specs.declared.crew_setup.CrewSetup.{CrewSetup}
 use Rattle.crew.specs.declared.endpoints.Endpoints.{Endpoints}
-use Rattle.crew.specs.declared.worker_end.WorkerEnd.{WorkerEnd}
+use Rattle.crew.specs.declared.worker.End.{End}
 use Rattle.crew.specs.declared.worker.WorkerResult.{WorkerResult}
 use Rattle.crew.specs.declared.shared.Shared.{Shared}
 use Rattle.crew.specs.declared.take.Crew.{Crew}
@@ -60,7 +59,7 @@ pub record HasAddedEndpoint (pass : Drawn) (sender : Presented Note) (old new : 
   pub for_senders : vec_capacity new.senders ≡ vec_capacity old.senders
 
 -- the first stopped worker: `first` if there is one, otherwise `worker` if it was stopped, and otherwise `None`
-abbrev pub stopped_with : Option ℕ → ℕ → WorkerEnd → Option ℕ
+abbrev pub stopped_with : Option ℕ → ℕ → End → Option ℕ
 stopped_with (Some first) worker ended = Some first
 stopped_with None worker ended = if was_stopped ended then Some worker else None
 
@@ -99,15 +98,3 @@ pub record HasRunAll (may_stop lets : ℕ → ℕ → Type 0) (shared : Shared) 
   pub heard : new.lacking ≡ None → answered ≡ true
   pub lacking : new.lacking ≡ None → All (λ s. lacks_memory s.end ≡ false) results
   pub collected : Collected (collector_of (old.away + how_many_started results) old) (collector_of 0 new) answered
-
--- the number of a worker that is back, and how it ended
-abbrev pub worker_end : WorkerResult → ℕ × WorkerEnd
-worker_end worker_result = (worker_result.sender.number, worker_result.end)
-
--- What an observer heard of such a crew: how many workers were started, then what it heard from the collector, and then
--- how each worker of the old endpoints has ended.
-abbrev pub HasHeardAll : {may_stop lets : ℕ → ℕ → Type 0} {shared : Shared} {old new : Crew} → HasRunAll may_stop lets shared old new
-    → (List Event → Type 0) → Type 0
-HasHeardAll {old = old} {new = new} ran hears =
-    HasHeard old.receiver new.receiver old.haul new.haul
-    (λ events. hears (Started (old.away + how_many_started ran.results) ∷ events ++ returned (map worker_end ran.results)))

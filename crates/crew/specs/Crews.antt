@@ -1,5 +1,5 @@
 -- A crew: what its workers report, and what becomes of the haul.
-use Rattle.std.specs.Prelude.{◌≡◌, ◌<◌, ◌≤◌, ◌+◌, ◌++◌, ◌⊎◌, ℕ, Bool, true, false, All, List, [], ◌∷◌, None, count_by, flat_map, length, map}
+use Rattle.std.specs.Prelude.{◌≡◌, ◌<◌, ◌≤◌, ◌+◌, ◌++◌, ◌⊎◌, ℕ, Bool, true, false, All, List, [], ◌∷◌, None, count_by, flat_map, map}
 use Rattle.haul_core.specs.Books.{Held, StandsFor, entry, is_lawful}
 use Rattle.haul_core.specs.Missing.{is_taken}
 use Rattle.haul_core.specs.Refusals.{refusal_of}
@@ -8,7 +8,6 @@ use Rattle.haul_core.specs.Reports.{Reported}
 use Rattle.haul_core.specs.declared.book.arrival.Arrival.{Arrival}
 use Rattle.haul_core.specs.declared.book.arrival.Arrival.TheVariants.{Offer}
 use Rattle.handover.specs.Belts.{Received}
-use Rattle.crew.specs.Events.{EndsAtCount, Event, FollowsEvents, reports_among}
 use Rattle.crew.specs.declared.note.Note.{Note}
 use Rattle.crew.specs.declared.note.Note.TheVariants.{Done, Report}
 
@@ -87,17 +86,8 @@ pub record Collected (before after : Collector) (answered : Bool) : Type 0 where
   pub soups : answered ≡ true → All (HasSoupOf after.haul) (reports_in notes)
   pub lost : answered ≡ false → HasLost (reports_in notes) part before.haul
 
--- Notes were received, and an observer heard these events: the reports among the notes, in order, and counts of the
--- soups that the haul had taken.
-pub record IsHearing (old new : Received Note) (before after : Held) (hears : List Event → Type 0) : Type 0 where
+-- Notes were received, and an observer was handed the reports among them, in order: `hears` holds for these reports.
+pub record HasHeard (old new : Received Note) (hears : List Reported → Type 0) : Type 0 where
   pub notes : List (ℕ × Note)
   pub got : new.got ≡ old.got ++ notes
-  pub events : List Event
-  pub heard : hears events
-  pub reports : reports_among events ≡ reports_in notes
-  pub counts : FollowsEvents before.taken events after.taken
-
--- `IsHearing` holds, and the last event is the count of all soups that the haul has taken
-pub record HasHeard (old new : Received Note) (before after : Held) (hears : List Event → Type 0) : Type 0 where
-  pub hearing : IsHearing old new before after hears
-  pub last : EndsAtCount (length after.taken) hearing.events
+  pub heard : hears (reports_in notes)

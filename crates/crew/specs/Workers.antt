@@ -10,8 +10,8 @@ use Rattle.handover.specs.Tickets.{Drawn}
 use Rattle.crew.specs.Crews.{is_done, report_in}
 use Rattle.crew.specs.declared.note.Note.{Note}
 use Rattle.crew.specs.declared.note.Note.TheVariants.{Done}
-use Rattle.crew.specs.declared.worker_end.WorkerEnd.{WorkerEnd}
-use Rattle.crew.specs.declared.worker_end.WorkerEnd.TheVariants.{CalledOff, Drained, Memory, Stopped, Unstarted}
+use Rattle.crew.specs.declared.worker.End.{End}
+use Rattle.crew.specs.declared.worker.End.TheVariants.{CalledOff, Drained, Memory, Stopped, Unstarted}
 use Rattle.crew.specs.declared.worker.WorkerResult.{WorkerResult}
 use Rattle.crew.specs.declared.shared.Shared.{Shared}
 
@@ -59,33 +59,11 @@ pub record WasLetLast (lets : ℕ → ℕ → Type 0) (shared : Shared) (worker 
   pub below : place < length shared.missing.items
   pub let_in : lets worker (slice_index shared.missing.items place)
 
--- the worker has begun to work
-abbrev pub has_begun : WorkerEnd → Bool
-has_begun CalledOff = false
-has_begun (Unstarted error) = false
-has_begun _ = true
-
--- a thread was started for the worker
-abbrev pub was_started : WorkerEnd → Bool
-was_started (Unstarted error) = false
-was_started _ = true
-
--- the gate stopped the worker
-abbrev pub was_stopped : WorkerEnd → Bool
-was_stopped (Stopped halt) = true
-was_stopped _ = false
-
--- there was no memory for a survey, or for a thread
-abbrev pub lacks_memory : WorkerEnd → Bool
-lacks_memory (Memory error) = true
-lacks_memory (Unstarted error) = true
-lacks_memory _ = false
-
 -- What the worker with this number has done if its surveys end as `ended` says. It has reported the soup at each place
 -- that it drew, except perhaps at the last place. If no number was left, it has reported all of these soups, and a draw
 -- returned `None`. If the gate stopped it, the gate may stop it at some missing number. If memory ran out, the gate let
 -- it survey the soup at the last place, which it hasn't reported.
-pub record HasWorked (may_stop lets : ℕ → ℕ → Type 0) (shared : Shared) (worker : ℕ) (ended : WorkerEnd) (pass : Drawn) (sender : Presented Note)
+pub record HasWorked (may_stop lets : ℕ → ℕ → Type 0) (shared : Shared) (worker : ℕ) (ended : End) (pass : Drawn) (sender : Presented Note)
     : Type 0 where
   pub number : sender.number ≡ worker
   pub series : pass.series ≡ shared.tickets
@@ -94,8 +72,30 @@ pub record HasWorked (may_stop lets : ℕ → ℕ → Type 0) (shared : Shared) 
   pub drawn : AreAllButLast places pass.numbers
   pub all : ended ≡ Drained → pass.numbers ≡ places
   pub heard : ended ≡ Drained → pass.heard_none ≡ true
-  pub stops : was_stopped ended ≡ true → StopsAt may_stop shared.missing.items worker
+  pub stops : ended ≡ Stopped → StopsAt may_stop shared.missing.items worker
   pub lacks : (error : OutOfMemory) → ended ≡ Memory error → WasLetLast lets shared worker places pass
+
+-- the worker has begun to work
+abbrev pub has_begun : End → Bool
+has_begun CalledOff = false
+has_begun (Unstarted error) = false
+has_begun _ = true
+
+-- a thread was started for the worker
+abbrev pub was_started : End → Bool
+was_started (Unstarted error) = false
+was_started _ = true
+
+-- the gate stopped the worker
+abbrev pub was_stopped : End → Bool
+was_stopped Stopped = true
+was_stopped _ = false
+
+-- there was no memory for a survey, or for a thread
+abbrev pub lacks_memory : End → Bool
+lacks_memory (Memory error) = true
+lacks_memory (Unstarted error) = true
+lacks_memory _ = false
 
 -- The result of the worker with this number. If the worker has begun to work, its last note says that it is done. If it
 -- was called off, it has sent no notes.

@@ -38,16 +38,15 @@ pub fn collect<R: Wait, H: ProgressObserver>(
     requires { pass.old.belt ≡ belt.now }
     ensures collected { Collected (collector_with started pass.old haul.old) (collector_with 0 pass.new haul.new)
         (is_ok result) }
-    ensures heard { HasHeard pass.old pass.new haul.old haul.new
-        (λ events. H.hears observer.old events observer.new) }
+    ensures heard { HasHeard pass.old pass.new (λ reports. H.hears observer.old reports observer.new) }
 {
     let mut left = started;
     let mut answered = Ok(());
     for _ in rt.forever() {
+        observer.taken(haul.taken().len() as u64);
         if left == 0 {
             break;
         }
-        observer.taken(haul.taken().len() as u64);
         match belt.receive(rt, pass) {
             Note::Report(report) => {
                 observer.report(&report);
@@ -59,7 +58,6 @@ pub fn collect<R: Wait, H: ProgressObserver>(
             Note::Done { .. } => left -= 1,
         }
     }
-    observer.taken(haul.taken().len() as u64);
     answered
 }
 

@@ -7,14 +7,10 @@ pub mod collector;
 pub mod gate;
 /// The messages from workers to the collector.
 pub mod note;
-/// Permits to survey a soup.
-pub mod permit;
 /// The endpoints of workers: passes and senders.
 mod endpoints;
 /// A worker's loop.
 mod worker;
-/// How a worker ended.
-pub mod worker_end;
 /// What all workers share.
 mod shared;
 /// What a crew starts with.

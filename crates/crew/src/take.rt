@@ -9,20 +9,17 @@
 //!                                            worker 2 is back
 //!                                          worker 3 is back
 //! ```
-ghost use Rattle.std.specs.Prelude.{◌≡◌, ◌≢◌, ◌<◌, ◌≤◌, ◌↔◌, ◌∷◌, ℕ, All, Err, IfErr, IfOk, MatchResult, None, Some};
+ghost use Rattle.std.specs.Prelude.{◌≡◌, ◌≢◌, ◌<◌, ◌≤◌, ◌↔◌, ℕ, All, Err, IfErr, IfOk, IfSome, MatchResult, None, Some};
 ghost use Rattle.std.specs.Prelude.{count_by, false, is_ok, is_some, length, nat_eq, not, true, vec_capacity};
 ghost use Rattle.std.specs.List.{IsDistinct};
 ghost use Rattle.haul_core.specs.Keeping.{numbers_in};
 ghost use Rattle.haul_core.specs.Missing.{AreAll, IsComplete, missing_of};
 ghost use Rattle.haul_core.specs.Reports.{IsWorker};
 ghost use Rattle.handover.specs.Belts.{IsWhole, silent};
-ghost use Rattle.crew.specs.CrewSteps.{HasAddedEndpoint, HasHeardAll, HasRunAll, MayRun, cause_of, collector_of};
-ghost use Rattle.crew.specs.CrewSteps.{stopped_with};
+ghost use Rattle.crew.specs.CrewSteps.{HasAddedEndpoint, HasRunAll, MayRun, cause_of, collector_of, stopped_with};
 ghost use Rattle.crew.specs.Crews.{Collected, HasHeard};
 ghost use Rattle.crew.specs.Workers.{Leaves, Returns, StopsAt, lacks_memory, was_started};
-ghost use Rattle.crew.specs.Events.{Started, whole_run};
-ghost use Rattle.crew.specs.Takes.{HasHeardCrew, HasTaken, was_missing};
-ghost use Rattle.ranges.specs.Ranges.{size_of};
+ghost use Rattle.crew.specs.Takes.{EndsWith, HasHeardCrew, HasTaken, was_missing};
 ghost use Rattle.handover.specs.Tickets.{AreAllBelow, drawn_by_all, fresh, how_many_heard};
 ghost use Rattle.crew.specs.declared.take.CrewError.TheVariants as CrewError;
 
@@ -33,8 +30,7 @@ use crate::gate::Gate;
 use crate::note::Note;
 use crate::progress_observer::ProgressObserver;
 use crate::shared::Shared;
-use crate::worker::{WorkerResult, run_worker};
-use crate::worker_end::WorkerEnd;
+use crate::worker::{End, WorkerResult, run_worker};
 use handover::belt::{ReceiverPass, SenderPass};
 use handover::tickets::Pass;
 use haul_core::book::haul::Haul;
@@ -119,11 +115,13 @@ pub fn take<G: Gate + Sync, R: Threads + Wait + Sync, H: ProgressObserver>(
         → IfErr result (λ back. back.1 ≡ CrewError.Stopped worker → (1 ≤ worker) × (worker ≤ workers)) }
     ensures incomplete { IfErr result
         (λ back. back.1 ≢ CrewError.Closed → ¬ IsComplete back.0.terms.ranges back.0.taken) }
+    ensures ends { IfErr result (λ back. back.1 ≢ CrewError.Closed
+        → EndsWith (G.may_stop gate.now) (G.lets gate.now) (was_missing haul) workers back.1) }
     ensures heard { haul.closed ≡ false → MatchResult result
-        (λ done. HasHeardCrew (G.may_stop gate.now) (G.lets gate.now) workers haul done None
-        (λ events. H.hears observer.old (whole_run (size_of haul.terms.ranges) workers events) observer.new))
-        (λ back. HasHeardCrew (G.may_stop gate.now) (G.lets gate.now) workers haul back.0 (Some back.1)
-        (λ events. H.hears observer.old (whole_run (size_of haul.terms.ranges) workers events) observer.new)) }
+        (λ done. HasHeardCrew (G.lets gate.now) workers haul done
+        (λ reports. H.hears observer.old reports observer.new))
+        (λ back. HasHeardCrew (G.lets gate.now) workers haul back.0
+        (λ reports. H.hears observer.old reports observer.new)) }
 {
     if haul.is_closed() {
         return Err((haul, CrewError::Closed));
@@ -158,8 +156,9 @@ fn complete_haul<G: Gate + Sync, R: Threads + Wait + Sync, H: ProgressObserver>(
     ensures within { (worker : ℕ)
         → result.1 ≡ Some (CrewError.Stopped worker) → (1 ≤ worker) × (worker ≤ workers) }
     ensures open { result.1 ≢ Some CrewError.Closed }
-    ensures heard { HasHeardCrew (G.may_stop gate.now) (G.lets gate.now) workers haul result.0 result.1
-        (λ events. H.hears observer.old events observer.new) }
+    ensures ends { IfSome result.1 (EndsWith (G.may_stop gate.now) (G.lets gate.now) (was_missing haul) workers) }
+    ensures heard { HasHeardCrew (G.lets gate.now) workers haul result.0
+        (λ reports. H.hears observer.old reports observer.new) }
 {
     if haul.is_complete() {
         return (haul, None);
@@ -197,16 +196,17 @@ fn run_in_scope<G: Gate + Sync, R: Threads + Wait + Sync, H: ProgressObserver>(
     observer: &mut H,
 ) -> Crew
     requires { MayRun shared.now crew }
-    ensures { (ran : HasRunAll (G.may_stop gate.now) (G.lets gate.now) shared.now crew result)
-        × HasHeardAll ran (λ events. H.hears observer.old events observer.new) }
+    ensures all { HasRunAll (G.may_stop gate.now) (G.lets gate.now) shared.now crew result }
+    ensures heard { HasHeard crew.receiver result.receiver (λ reports. H.hears observer.old reports observer.new) }
 {
     let (crew, _observer) = thread::scope(
         thread::scope_env(),
         rt,
         move |scope| -> (Crew, &mut H)
             requires { MayRun shared.now crew }
-            ensures all { (ran : HasRunAll (G.may_stop gate.entry.now) (G.lets gate.entry.now) shared.entry.now crew result.0)
-                × HasHeardAll ran (λ events. H.hears observer.entry.now events result.1.now) }
+            ensures all { HasRunAll (G.may_stop gate.entry.now) (G.lets gate.entry.now) shared.entry.now crew result.0 }
+            ensures heard { HasHeard crew.receiver result.0.receiver
+                (λ reports. H.hears observer.entry.now reports result.1.now) }
             ensures same { result.1.ghost_name ≡ observer.entry.ghost_name }
         {
             let mut crew = crew;
@@ -306,8 +306,9 @@ fn run_crew<'s, E, G: Gate + Sync, R: Threads + Wait + Sync, H: ProgressObserver
     observer: &mut H,
 )
     requires { MayRun shared.now crew.old }
-    ensures { (ran : HasRunAll (G.may_stop gate.now) (G.lets gate.now) shared.now crew.old crew.new)
-        × HasHeardAll ran (λ events. H.hears observer.old events observer.new) }
+    ensures all { HasRunAll (G.may_stop gate.now) (G.lets gate.now) shared.now crew.old crew.new }
+    ensures heard { HasHeard crew.old.receiver crew.new.receiver
+        (λ reports. H.hears observer.old reports observer.new) }
 {
     let Some((pass, sender)) = crew.endpoints.remove_last() else {
         receive_all(rt, shared, crew, observer);
@@ -319,14 +320,18 @@ fn run_crew<'s, E, G: Gate + Sync, R: Threads + Wait + Sync, H: ProgressObserver
     crew.away += started;
     run_crew(alloc, rt, scope, shared, gate, crew, observer);
     crew.away -= started;
-    let duty = Duty {
-        worker,
-        shared,
-        gate,
-    };
-    let worker_result = join_worker(rt, duty, begun);
-    observer.ended(worker, worker_result.end);
-    note_result(crew, worker_result);
+    note_result(
+        crew,
+        join_worker(
+            rt,
+            Duty {
+                worker,
+                shared,
+                gate,
+            },
+            begun,
+        ),
+    );
 }
 
 /// Collects the reports of the workers that were started, until all of these workers are done.
@@ -342,8 +347,8 @@ fn receive_all<R: Wait, H: ProgressObserver>(
     ensures back { crew.new.back ≡ crew.old.back }
     ensures stopped { crew.new.stopped ≡ crew.old.stopped }
     ensures away { crew.new.away ≡ crew.old.away }
-    ensures heard { HasHeard crew.old.receiver crew.new.receiver crew.old.haul crew.new.haul
-        (λ events. H.hears observer.old (Started crew.old.away ∷ events) observer.new) }
+    ensures heard { HasHeard crew.old.receiver crew.new.receiver
+        (λ reports. H.hears observer.old reports observer.new) }
 {
     let away = crew.away;
     observer.started(away);
@@ -395,7 +400,7 @@ fn start_worker<'s, E, G: Gate + Sync, R: Threads + Wait + Sync>(
             let (here, error) = OutOfMemory::of_start(refused);
             shared.called_off.store(u64::from(worker), Ordering::SeqCst);
             let WorkerResult { pass, sender, .. } = here();
-            let end = WorkerEnd::Unstarted(error);
+            let end = End::Unstarted(error);
             Err(WorkerResult { pass, sender, end })
         }
     }
@@ -441,23 +446,23 @@ fn note_result(crew: &mut Crew, worker_result: WorkerResult)
 
 /// Returns the first stopped worker among those that have come back: `stopped` if there is one, otherwise `worker` if
 /// it was stopped, and otherwise `None`.
-fn first_stopped(stopped: Option<u8>, worker: u8, end: WorkerEnd) -> Option<u8>
+fn first_stopped(stopped: Option<u8>, worker: u8, end: End) -> Option<u8>
     ensures { result ≡ stopped_with stopped worker end }
 {
     match (stopped, end) {
-        (None, WorkerEnd::Stopped(_)) => Some(worker),
+        (None, End::Stopped) => Some(worker),
         _ => stopped,
     }
 }
 
 /// Returns a witness that memory was refused, either to the worker that ended in this way or earlier. Returns `None` if
 /// no memory was refused.
-fn any_lack(lacking: Option<OutOfMemory>, end: WorkerEnd) -> Option<OutOfMemory>
+fn any_lack(lacking: Option<OutOfMemory>, end: End) -> Option<OutOfMemory>
     ensures before { result ≡ None → lacking ≡ None }
     ensures here { result ≡ None → lacks_memory end ≡ false }
 {
     match end {
-        WorkerEnd::Memory(error) | WorkerEnd::Unstarted(error) => Some(error),
-        WorkerEnd::Drained | WorkerEnd::Stopped(_) | WorkerEnd::CalledOff => lacking,
+        End::Memory(error) | End::Unstarted(error) => Some(error),
+        End::Drained | End::Stopped | End::CalledOff => lacking,
     }
 }

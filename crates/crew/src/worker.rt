@@ -12,24 +12,40 @@ ghost use Rattle.handover.specs.Belts.{silent};
 ghost use Rattle.crew.specs.Workers.{AreNotDone, HasWorked, Returns, has_begun};
 ghost use Rattle.handover.specs.Tickets.{fresh};
 
-use crate::gate::Gate;
+use crate::gate::{Gate, Stop};
 use crate::note::Note;
-use crate::permit::Permit;
 use crate::shared::Shared;
-use crate::worker_end::WorkerEnd;
 use handover::belt::SenderPass;
 use handover::tickets::Pass;
+use haul_core::report::{Report, ReportError};
+use memory::OutOfMemory;
 use std::alloc::Global;
 use std::sync::Wait;
 use std::sync::atomic::Ordering;
 use survey_core::surveyor::Surveyor;
+
+/// How a worker ended.
+#[derive(Clone, Copy)]
+pub(crate) enum End {
+    /// No number was left.
+    Drained,
+    /// The gate stopped the worker.
+    Stopped,
+    /// Memory ran out.
+    Memory(OutOfMemory),
+    /// The worker was called off before it began, because no thread could be started for it. `start_worker` replaces
+    /// this end by `Unstarted`.
+    CalledOff,
+    /// No thread could be started for the worker.
+    Unstarted(OutOfMemory),
+}
 
 /// The result of a worker's run: its pass, its sender, and how it ended.
 #[derive(Drop)]
 pub(crate) struct WorkerResult {
     pub(crate) pass: Pass,
     pub(crate) sender: SenderPass<Note>,
-    pub(crate) end: WorkerEnd,
+    pub(crate) end: End,
 }
 
 /// Runs a worker until it ends. Its last note is `Done`, unless the worker was called off.
@@ -50,7 +66,7 @@ pub(crate) fn run_worker<G: Gate, R: Wait>(
     let mut sender = sender;
     let worker = sender.number();
     if shared.called_off.load(Ordering::SeqCst) == u64::from(worker) {
-        let end = WorkerEnd::CalledOff;
+        let end = End::CalledOff;
         return WorkerResult { pass, sender, end };
     }
     let end = survey_all(alloc, rt, shared, gate, &mut pass, &mut sender);
@@ -68,7 +84,7 @@ fn survey_all<G: Gate, R: Wait>(
     gate: &G,
     pass: &mut Pass,
     sender: &mut SenderPass<Note>,
-) -> WorkerEnd
+) -> End
     requires pass { pass.old ≡ fresh shared.now.tickets }
     requires worker { IsWorker sender.old.number }
     requires sender { sender.old ≡ silent shared.now.belt.name sender.old.number }
@@ -92,7 +108,7 @@ fn survey_left<G: Gate, R: Wait>(
     pass: &mut Pass,
     sender: &mut SenderPass<Note>,
     surveyor: &mut Surveyor,
-) -> WorkerEnd
+) -> End
     requires pass { pass.old ≡ fresh shared.now.tickets }
     requires worker { IsWorker sender.old.number }
     requires sender { sender.old ≡ silent shared.now.belt.name sender.old.number }
@@ -104,16 +120,23 @@ fn survey_left<G: Gate, R: Wait>(
     let worker = sender.number();
     for _ in rt.forever() {
         let Some(place) = shared.tickets.draw(pass) else {
-            return WorkerEnd::Drained;
+            return End::Drained;
         };
         let number = shared.missing[place as usize];
-        let permit = match Permit::ask(gate, worker, number) {
-            Ok(permit) => permit,
-            Err(halt) => return WorkerEnd::Stopped(halt),
-        };
-        let report = match permit.survey(alloc, surveyor, &shared.job) {
+        match gate.before(worker, number) {
+            Ok(()) => {}
+            Err(Stop) => return End::Stopped,
+        }
+        let report = match Report::make_with_surveyor(
+            alloc,
+            surveyor,
+            &shared.job,
+            worker,
+            number,
+        ) {
             Ok(report) => report,
-            Err(error) => return WorkerEnd::Memory(error),
+            Err(ReportError::Memory(error)) => return End::Memory(error),
+            Err(ReportError::BadWorker) => unreachable!(),
         };
         shared
             .belt

@@ -45,12 +45,12 @@ impl Patience {
         })
     }
 
-    pub(crate) fn come(&self) {
+    fn come(&self) {
         self.come.fetch_add(1, Ordering::SeqCst);
     }
 
     /// Waits until workers have come `number` times, for at most `TURNS` turns. Returns `Stop` if they haven't by then.
-    pub(crate) fn wait_for(&self, number: u64) -> Result<(), Stop> {
+    fn wait_for(&self, number: u64) -> Result<(), Stop> {
         for _ in 0..TURNS {
             if self.come.load(Ordering::SeqCst) >= number {
                 return Ok(());

@@ -34,8 +34,7 @@ impl Left {
     }
 }
 
-/// Returns how many soups were taken from each worker. The index is the worker's number.
-pub(crate) fn counts_in(taken: &[(u8, u64)]) -> [u64; 17] {
+fn counts_in(taken: &[(u8, u64)]) -> [u64; 17] {
     let mut counts = [0u64; 17];
     for (worker, _) in taken {
         if let Some(count) = counts.get_mut(usize::from(*worker)) {

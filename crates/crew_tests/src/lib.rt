@@ -15,10 +15,6 @@ mod progress_observer;
 #[cfg(test)]
 mod resume;
 #[cfg(test)]
-mod room;
-#[cfg(test)]
-mod rounds;
-#[cfg(test)]
 mod shortage;
 #[cfg(test)]
 mod small;

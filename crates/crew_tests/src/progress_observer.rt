@@ -5,19 +5,17 @@ use crate::left::go_on;
 use crate::small::{haul_of, small_job};
 use crew::gate::OpenGate;
 use crew::progress_observer::ProgressObserver;
-use crew::worker_end::WorkerEnd;
 use haul_core::report::Report;
 use std::sync::Wait;
 use std::test::Fail;
 use std::thread::Threads;
 
-/// An observer that notes how many workers were asked for, how many were started, how many came back in order, and how
-/// often `begin` and `end` were called.
+/// An observer that notes how many workers were asked for, how many were started, and how often `begin` and `end` were
+/// called.
 #[derive(Clone, Copy)]
 struct Roll {
     asked: u8,
     started: u8,
-    back: u8,
     begun: u8,
     ended: u8,
 }
@@ -36,16 +34,6 @@ impl ProgressObserver for Roll {
 
     fn taken(&mut self, _count: u64) {}
 
-    fn ended(&mut self, worker: u8, _end: WorkerEnd) {
-        if worker == self.back.saturating_add(1) {
-            self.back = worker;
-        }
-    }
-
-    fn pause(&mut self) {}
-
-    fn resume(&mut self) {}
-
     fn end(&mut self) {
         self.ended = self.ended.saturating_add(1);
     }
@@ -63,7 +51,6 @@ fn heard_by<R: AllocGlobal + Threads + Wait + Sync>(rt: &R, workers: u8) -> Resu
     let mut roll = Roll {
         asked: 0,
         started: 0,
-        back: 0,
         begun: 0,
         ended: 0,
     };
@@ -80,7 +67,7 @@ fn tells_the_observer_how_many_were_started(rt: HostRuntime) -> Result<(), Fail>
     for workers in 1..17 {
         let roll = heard_by(&rt, workers)?;
         assert!(rt;
-            roll.asked == workers && roll.started == workers && roll.back == workers,
+            roll.asked == workers && roll.started == workers,
             "{workers} workers"
         );
         assert!(rt; roll.begun == 1 && roll.ended == 1, "{workers} workers");

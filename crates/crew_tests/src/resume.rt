@@ -14,7 +14,7 @@ use std::test::Fail;
 use std::thread::Threads;
 
 /// Returns the haul text of what a haul has taken.
-pub(crate) fn text_of(alloc: Global, haul: &Haul) -> Result<Vec<u8>, Fail> {
+fn text_of(alloc: Global, haul: &Haul) -> Result<Vec<u8>, Fail> {
     let census = haul.census()?;
     let mut out = Out::new(Vec::new(alloc));
     write_haul(&census, &mut out)?;

@@ -10,7 +10,6 @@ pub mod Keeping
 pub mod LawfulClaims
 pub mod Missing
 pub mod MissingSteps
-pub mod OpenErrors
 pub mod Refusals
 pub mod Replies
 pub mod ReportLines

@@ -3,8 +3,6 @@
 use crate::setup::{closed, offer, quick_job, range, standard_job, text_of};
 use haul_core::book::haul::join::JoinError;
 use haul_core::book::haul::{Haul, OpenError};
-use haul_core::book::refused::OfferError;
-use haul_core::report::Report;
 use memory::OutOfMemory;
 use ranges::range::Range;
 use std::alloc::Global;
@@ -150,66 +148,3 @@ fn tells_why_hauls_arent_joined(rt: HostRuntime) -> Result<(), Fail> {
     }
     Ok(())
 }
-
-/// Returns a closed haul of the soups in a range for this many workers, which has taken the last worker's report on one
-/// of them.
-fn haul_by(
-    alloc: Global,
-    job: &Job,
-    soups: Range,
-    workers: u8,
-    number: u32,
-) -> Result<Haul, OpenError> {
-    let mut haul = Haul::open(alloc, *job, &[soups], workers)?;
-    if let Ok(report) = Report::make(alloc, job, workers, u64::from(number)) {
-        let _ = haul.offer(report);
-    }
-    Ok(closed(haul))
-}
-
-/// Checks what a haul has that was joined from a haul of soup 0, taken from worker 1, and a haul of soups 2 and 3, of
-/// which soup 3 was taken from worker 2. Like every joined haul, it is closed.
-fn has_both(alloc: Global, haul: &mut Haul) -> Result<bool, Fail> {
-    let missing = haul.missing()?;
-    let text = text_of(alloc, haul)?;
-    let report = Report::make(alloc, &haul.job(), 1, 2)?;
-    let refused = haul.offer(report).err();
-    Ok(
-        haul.workers() == 2
-            && haul.ranges() == [range(0, 1), range(2, 2)].as_slice()
-            && haul.taken() == [(1, 0), (2, 3)].as_slice()
-            && missing.as_slice() == [2].as_slice()
-            && text.as_slice() == BOTH.as_bytes()
-            && refused.is_some_and(|refused| refused.reason == OfferError::Closed)
-            && haul.close().is_err(),
-    )
-}
-
-#[test]
-fn joins_what_two_hauls_have(rt: HostRuntime) -> Result<(), Fail> {
-    let job = quick_job("")?;
-    let first = haul_by(rt.alloc(), &job, range(0, 1), 1, 0).expect(&rt, "a haul");
-    let second = haul_by(rt.alloc(), &job, range(2, 2), 2, 3).expect(&rt, "a haul");
-    let mut joined = first.join(second).ok().expect(&rt, "a joined haul");
-    let has = has_both(rt.alloc(), &mut joined);
-    drop(joined);
-    assert!(rt; has?);
-    Ok(())
-}
-
-const BOTH: &str = "@VERSION 2
-@ROOT seed=
-@RULE b3s23
-@SYMMETRY C1
-@PROFILE 1 1 1 0
-@RANGE 0 1
-@RANGE 2 2
-@NUM_SOUPS 2
-@NUM_UNSETTLED 2
-@NUM_FOR_GOOD 0
-@NUM_OBJECTS 0
-
-@CENSUS TABLE
-
-@SAMPLE_SOUPIDS
-";

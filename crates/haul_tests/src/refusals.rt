@@ -1,4 +1,4 @@
-//! Tests which errors `Haul::open` and `Report::make` return, and which ranges an opened haul has.
+//! Tests which errors `Haul::open` and `Report::make` return.
 
 use crate::setup::quick_job;
 use haul_core::book::haul::{Haul, OpenError};
@@ -64,45 +64,5 @@ fn tells_why_no_haul_is_opened_and_no_report_made(rt: HostRuntime) -> Result<(),
         let error = Report::make(rt.alloc(), &job, worker, 0).err();
         assert!(rt; error == Some(ReportError::BadWorker), "worker {worker}");
     }
-    Ok(())
-}
-
-/// Each row has the ranges for which a haul is opened, and the ranges that it has: in order, not empty, and with no two
-/// that touch.
-const OPENED: [(&[Range], &[Range]); 3] = [
-    (&[TWO_FROM_2, FIRST], &[FIRST, TWO_FROM_2]),
-    (&[TWO, TWO_FROM_2], &[FOUR]),
-    (&[TWO, NONE_FROM_1], &[TWO]),
-];
-
-const TWO: Range = Range { first: 0, count: 2 };
-
-const TWO_FROM_2: Range = Range { first: 2, count: 2 };
-
-const FOUR: Range = Range { first: 0, count: 4 };
-
-const NONE_FROM_1: Range = Range { first: 1, count: 0 };
-
-const ONE_FROM_1: Range = Range { first: 1, count: 1 };
-
-/// Checks whether a haul of the first ranges has the second ranges.
-fn opens_as(
-    alloc: Global,
-    job: &Job,
-    ranges: &[Range],
-    normal: &[Range],
-) -> Result<bool, OpenError> {
-    let haul = Haul::open(alloc, *job, ranges, 1)?;
-    Ok(haul.ranges() == normal)
-}
-
-#[test]
-fn opens_hauls_of_joined_ranges(rt: HostRuntime) -> Result<(), Fail> {
-    let job = quick_job("")?;
-    for (ranges, normal) in OPENED {
-        assert!(rt; opens_as(rt.alloc(), &job, ranges, normal)?);
-    }
-    let shared = error_of(rt.alloc(), &job, &[TWO, ONE_FROM_1], 1);
-    assert!(rt; shared == Some(OpenError::Overlap));
     Ok(())
 }

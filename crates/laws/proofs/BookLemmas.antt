@@ -4,7 +4,7 @@ use Rattle.std.specs.Prelude.{option_map}
 use Rattle.haul_core.specs.Books.{eligible, first_of_each}
 use Rattle.haul_core.specs.Reports.{Reported}
 use Rattle.haul_core.proofs.BookLemmas.{find_first, worker_found}
-use Rattle.line_commands.proofs.TakenLemmas.{taken_if_eligible}
+use Rattle.commands.proofs.TakenLemmas.{taken_if_eligible}
 use Rattle.laws.specs.Books.{FirstOffersAreTaken}
 
 pub first_offers_are_taken : FirstOffersAreTaken

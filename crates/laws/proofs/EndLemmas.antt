@@ -7,10 +7,10 @@ use Rattle.pattern_commands.specs.Status.{has_printed}
 use Rattle.pattern_commands.specs.Streams.{Stream}
 use Rattle.pattern_commands.specs.declared.ending.complaint.Complaint.TheVariants as complaint
 use Rattle.pattern_commands.specs.declared.ending.status.Status.{Status}
-use Rattle.line_commands.specs.Gather.{gather_behaviour}
+use Rattle.commands.specs.Gather.{gather_behaviour}
 use Rattle.laws.specs.Gathering.{GatherPrintsCorrectLines, PrintsCorrectLines}
 use Rattle.laws.specs.SplitWork.{HasWholeText, IsAccepted, IsInSet, IsWorkedOn, SplitWorkEnds}
-use Rattle.line_commands.proofs.CorrectLineLemmas.{gather_takes_correct_lines}
+use Rattle.commands.proofs.CorrectLineLemmas.{gather_takes_correct_lines}
 use Rattle.laws.proofs.SplitLemmas.{split_work_is_whole}
 use Rattle.std.specs.Prelude.{Option}
 

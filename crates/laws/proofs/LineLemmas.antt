@@ -9,7 +9,7 @@ use Rattle.survey_core.specs.Seeds.{is_visible}
 use Rattle.haul_core.specs.HaulTexts.{line_of, spaced, text_of}
 use Rattle.haul_core.specs.LawfulClaims.{Claimed, IsClaim, IsCount, IsFound, SaidOfSoup}
 use Rattle.haul_core.specs.ReportLines.{claim_line, count_field, found_fields, head_fields, mark_field, mark_fields, profile_field}
-use Rattle.line_commands.specs.Lines.{IsOneLine, begun_with, input_lines}
+use Rattle.commands.specs.Lines.{IsOneLine, begun_with, input_lines}
 use Rattle.laws.proofs.TextLemmas.{AllVisible, all-append, code_visible, decimal_visible, is_printed, rule_visible, visible_printed}
 
 one_line : (text : List ℕ) → list_all is_printed text ≡ true → IsOneLine text

@@ -11,7 +11,7 @@ use Rattle.survey_core.specs.Jobs.{same_job}
 use Rattle.haul_core.specs.Keeping.{numbers_in}
 use Rattle.ranges.specs.Ranges.{is_in}
 use Rattle.haul_core.specs.Reports.{Reported}
-use Rattle.line_commands.proofs.TakenLemmas.{count_part, filter_part, first_part, map_part, numbers, numbers_entries, once, others, part_filter, part_trans}
+use Rattle.commands.proofs.TakenLemmas.{count_part, filter_part, first_part, map_part, numbers, numbers_entries, once, others, part_filter, part_trans}
 
 -- ---- what is taken is in the set
 

@@ -44,16 +44,16 @@ use Rattle.requests.specs.declared.plan.ProfileNumbers.{ProfileNumbers}
 use Rattle.pattern_commands.specs.Profiles.{AreInRange, profile_named, settling}
 use Rattle.pattern_commands.specs.Inputs.{rule_complaint, rule_named}
 use Rattle.pattern_commands.specs.Soup.{seed_complaint}
-use Rattle.line_commands.specs.Gathering.{IsHaulOver}
-use Rattle.line_commands.specs.Lines.{IsOneLine, input_lines}
-use Rattle.line_commands.specs.SoupSets.{AreRangesOf, Bad_list, IsRefused, IsRightForSet, IsTextOf, Overlapping, Too_large, job_named}
+use Rattle.commands.specs.Gathering.{IsHaulOver}
+use Rattle.commands.specs.Lines.{IsOneLine, input_lines}
+use Rattle.commands.specs.SoupSets.{AreRangesOf, Bad_list, IsRefused, IsRightForSet, IsTextOf, Overlapping, Too_large, job_named}
 use Rattle.commands.specs.Take.{TellsAll, take_right}
-use Rattle.line_commands.specs.Work.{AreReportsOn, IsReportOn, TellsReports}
-use Rattle.line_commands.specs.CorrectLines.{HasCorrectLine, IsOfCorrectLines, TakesCorrectLines}
+use Rattle.commands.specs.Work.{AreReportsOn, IsReportOn, TellsReports}
+use Rattle.commands.specs.CorrectLines.{HasCorrectLine, IsOfCorrectLines, TakesCorrectLines}
 use Rattle.laws.specs.SplitWork.{IsAccepted, IsWorkedOn, OneRightText, SplitWorkIsWhole}
 use Rattle.laws.specs.HaulTexts.{IsJob}
 use Rattle.laws.proofs.CensusLemmas.{complete_hauls}
-use Rattle.line_commands.proofs.CorrectLineLemmas.{gather_takes_correct_lines}
+use Rattle.commands.proofs.CorrectLineLemmas.{gather_takes_correct_lines}
 use Rattle.laws.proofs.LineLemmas.{claim_one_line, lines_of_text}
 use Rattle.laws.proofs.ShapeLemmas.{small_finding, soup_close}
 

@@ -8,8 +8,8 @@ use Rattle.pattern_commands.specs.Status.{has_printed}
 use Rattle.pattern_commands.specs.Streams.{Has, Stream}
 use Rattle.pattern_commands.specs.declared.ending.status.Status.{Status}
 use Rattle.pattern_commands.specs.declared.ending.status.Status.TheVariants.{Done}
-use Rattle.line_commands.specs.CorrectLines.{HasCorrectLine, IsOfCorrectLines}
-use Rattle.line_commands.specs.Gather.{gather_behaviour}
+use Rattle.commands.specs.CorrectLines.{HasCorrectLine, IsOfCorrectLines}
+use Rattle.commands.specs.Gather.{gather_behaviour}
 
 -- `gather` prints the haul text of the soups of its set that have a correct line in its input, and its status is `Done`
 -- if and only if each number of the set has a correct line

@@ -14,12 +14,12 @@ use Rattle.pattern_commands.specs.Ends.{Ends}
 use Rattle.pattern_commands.specs.Streams.{Has, Stream}
 use Rattle.pattern_commands.specs.declared.ending.status.Status.{Status}
 use Rattle.pattern_commands.specs.declared.ending.status.Status.TheVariants.{Done, Failed, Memory}
-use Rattle.line_commands.specs.Gather.{gather_behaviour}
-use Rattle.line_commands.specs.Gathering.{gather_right}
-use Rattle.line_commands.specs.Lines.{input_lines}
-use Rattle.line_commands.specs.SoupSets.{AreRangesOf, job_named}
+use Rattle.commands.specs.Gather.{gather_behaviour}
+use Rattle.commands.specs.Gathering.{gather_right}
+use Rattle.commands.specs.Lines.{input_lines}
+use Rattle.commands.specs.SoupSets.{AreRangesOf, job_named}
 use Rattle.commands.specs.Take.{take_right}
-use Rattle.line_commands.specs.Work.{work_right}
+use Rattle.commands.specs.Work.{work_right}
 use Rattle.std.specs.declared.result.Result.{Result}
 
 -- the number is in the set

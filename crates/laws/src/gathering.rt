@@ -1,6 +1,6 @@
 //! Laws of what `gather` and `take` print.
 
-ghost use Rattle.line_commands.specs.CorrectLines.{GatherTakesCorrectLines};
+ghost use Rattle.commands.specs.CorrectLines.{GatherTakesCorrectLines};
 ghost use Rattle.laws.specs.Gathering.{GatherPrintsCorrectLines};
 ghost use Rattle.laws.specs.SplitWork.{OneRightText, SplitWorkEnds, SplitWorkIsWhole};
 

@@ -47,12 +47,6 @@ input_complaint (input_error.Unreadable failed) = ReadFailed failed
 input_complaint input_error.TooLong = TooLong
 input_complaint (input_error.Memory refused) = Memory refused
 
--- the error says that a read failed
-abbrev pub IsUnreadable : InputError → Type 0
-IsUnreadable (input_error.Unreadable failed) = Unit {0}
-IsUnreadable input_error.TooLong = ⊥
-IsUnreadable (input_error.Memory refused) = ⊥
-
 -- the rule with this text, or the complaint about the text
 abbrev pub rule_named : List ℕ → Result Numbers Complaint
 rule_named text = result_map_both (λ rule. rule) rule_complaint (rule_read text)

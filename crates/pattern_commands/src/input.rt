@@ -1,12 +1,12 @@
 //! Inputs that are read completely, up to a limit.
 
-ghost use Rattle.std.specs.Prelude.{◌≡◌, ◌≢◌, ◌<◌, ◌≤◌, ◌+◌, ◌^◌, ℕ, Err, List, IfErr, IfOk, IfSome, OnErr, is_ok, length, take};
+ghost use Rattle.std.specs.Prelude.{◌≡◌, ◌≢◌, ◌<◌, ◌≤◌, ◌+◌, ◌^◌, ℕ, Err, List, IfOk, IfSome, OnErr, is_ok, length, take};
 ghost use Rattle.std.specs.Prelude.{vec_len};
 ghost use Rattle.std.specs.Io.KnownBytes.{Consumes, IsAtEnd, Keeps};
 ghost use Rattle.memory.specs.Witness.{out_of_memory};
 ghost use Rattle.pattern_commands.specs.Answers.{IsInput};
 ghost use Rattle.pattern_commands.specs.Found.{HasFound, ruled_pattern};
-ghost use Rattle.pattern_commands.specs.Inputs.{HasReadAtMost, IsUnreadable, LiesWithin999, Reads, pattern_of, rule_named};
+ghost use Rattle.pattern_commands.specs.Inputs.{HasReadAtMost, LiesWithin999, Reads, pattern_of, rule_named};
 ghost use Rattle.pattern_commands.specs.declared.input.InputError.TheVariants.{TooLong};
 
 use crate::ending::complaint::Complaint;
@@ -15,7 +15,7 @@ use memory::OutOfMemory;
 use plane_core::plane::pattern::Pattern;
 use plane_core::plane::rule::Rule;
 use std::alloc::Global;
-use std::io::Read;
+use std::io::{self, ErrorKind, Read};
 
 /// The most bytes that an input with a pattern may have: 2^24.
 pub const INPUT_LIMIT: usize = 16_777_216;
@@ -30,8 +30,20 @@ pub enum InputError {
     Unreadable(ReadError),
     /// The input is longer than the limit.
     TooLong,
-    /// Memory ran out for the bytes that were read.
+    /// Memory ran out, for a read or for the bytes that were read.
     Memory(OutOfMemory),
+}
+
+impl InputError {
+    /// Returns the error for a failed read.
+    pub fn of_stream(error: &io::Error) -> InputError
+        ensures { result ≢ TooLong }
+    {
+        match error.kind() {
+            ErrorKind::OutOfMemory => InputError::Memory(OutOfMemory::of_stream(error)),
+            _ => InputError::Unreadable(ReadError::of_stream(error)),
+        }
+    }
 }
 
 impl<E: Into<OutOfMemory>> From<E> for InputError {
@@ -49,8 +61,8 @@ impl<E: Into<OutOfMemory>> From<E> for InputError {
 ///
 /// # Errors
 ///
-/// `TooLong` if there are more than [`INPUT_LIMIT`] bytes; `Unreadable` if a read fails; and `Memory` if memory runs
-/// out for what was read.
+/// `TooLong` if there are more than [`INPUT_LIMIT`] bytes; `Memory` if memory runs out; and `Unreadable` if a read
+/// fails for any other reason.
 pub fn read_input<R: Read>(alloc: Global, input: &mut R) -> Result<Vec<u8>, InputError>
     ensures whole { IfOk result (λ bytes. IfSome (R.remaining input.old) (λ reader. bytes.items ≡ reader)) }
     ensures short { IfOk result (λ bytes. vec_len bytes ≤ 2 ^ 24) }
@@ -74,8 +86,7 @@ pub fn read_input<R: Read>(alloc: Global, input: &mut R) -> Result<Vec<u8>, Inpu
 ///
 /// # Errors
 ///
-/// `Unreadable` if the read fails, for whatever reason. If the reader itself ran out of memory, that is a failed read,
-/// too.
+/// `Memory` if the read fails because memory ran out, and `Unreadable` if it fails for any other reason.
 pub fn read_once<R: Read>(input: &mut R, buffer: &mut Vec<u8>) -> Result<usize, InputError>
     ensures len { vec_len buffer.new ≡ vec_len buffer.old }
     ensures bound { IfOk result (λ n. n ≤ vec_len buffer.new) }
@@ -83,12 +94,11 @@ pub fn read_once<R: Read>(input: &mut R, buffer: &mut Vec<u8>) -> Result<usize, 
         (take n buffer.new.items)) }
     ensures end { IfOk result (λ n. n ≡ 0 → 0 < vec_len buffer.old → IsAtEnd (R.remaining input.new)) }
     ensures short { result ≢ Err TooLong }
-    ensures failed { IfErr result IsUnreadable }
     ensures kept { OnErr result (Keeps (R.remaining input.old) (R.remaining input.new)) }
 {
     match input.read(buffer.as_mut_slice()) {
         Ok(taken) => Ok(taken),
-        Err(error) => Err(InputError::Unreadable(ReadError::of_stream(&error))),
+        Err(error) => Err(InputError::of_stream(&error)),
     }
 }
 

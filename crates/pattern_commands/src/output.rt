@@ -1,8 +1,8 @@
 //! Flushes a command's buffered output when the command has ended, and provides a buffer for a line of standard error.
 
 ghost use Rattle.std.specs.Prelude.{◌≡◌, ◌≢◌, true, false, []};
+ghost use Rattle.std.specs.Io.Buffered.{writer_buffer, writer_contents};
 ghost use Rattle.std.specs.Io.KnownBytes.{Keeps};
-ghost use Rattle.plane_core.specs.BufferedWriters.{all_bytes, held_bytes};
 ghost use Rattle.pattern_commands.specs.Complaints.{write_failed_line};
 ghost use Rattle.pattern_commands.specs.Status.{has_printed};
 ghost use Rattle.pattern_commands.specs.Streams.{stream, HasLine};
@@ -11,9 +11,9 @@ use crate::ending::complaint::Complaint;
 use crate::ending::end_command;
 use crate::ending::status::Status;
 use arrayvec::ArrayVec;
-use plane_core::output::buffered_writer::BufferedWriter;
 use plane_core::output::{Out, WriteError};
-use std::io::Write;
+use std::alloc::Global;
+use std::io::{BufWriter, Write};
 
 /// A buffer for a line of standard error, so that the line is one write and isn't mixed with lines of other programs.
 /// Each line is shorter than the buffer. A longer line would be written in pieces.
@@ -25,14 +25,14 @@ pub type LineBuffer = ArrayVec<u8, 128>;
 /// If `status` is neither `Done` nor `Incomplete`, nothing is written, and the buffer isn't touched. If the flush
 /// fails, a line is written to `errors`, unless an earlier write to `errors` failed. A failure to write that line is
 /// not reported.
-pub fn send_buffered<W: Write, E: Write>(
+pub fn send_buffered<W: Write + Drop, E: Write>(
     status: Status,
-    buffered: &mut BufferedWriter<W>,
+    buffered: &mut BufWriter<W, Global>,
     errors: &mut Out<E>,
 ) -> Status
-    ensures done { result ≡ Status.Done → (status ≡ Status.Done) × (held_bytes buffered.new ≡ []) }
-    ensures incomplete { result ≡ Status.Incomplete → (status ≡ Status.Incomplete) × (held_bytes buffered.new ≡ []) }
-    ensures bytes { Keeps (all_bytes W.contents buffered.old) (all_bytes W.contents buffered.new) }
+    ensures done { result ≡ Status.Done → (status ≡ Status.Done) × (writer_buffer buffered.new ≡ []) }
+    ensures incomplete { result ≡ Status.Incomplete → (status ≡ Status.Incomplete) × (writer_buffer buffered.new ≡ []) }
+    ensures bytes { Keeps (writer_contents W.contents buffered.old) (writer_contents W.contents buffered.new) }
     ensures untouched { has_printed status ≡ false → buffered.new ≡ buffered.old }
     ensures silent { result ≡ status → errors.new ≡ errors.old }
     ensures kept { has_printed status ≡ false → (result ≡ status) × (errors.new ≡ errors.old) }

@@ -1,4 +1,3 @@
-pub mod BufferedWriters
 pub mod Outputs
 pub mod Plaintext
 pub mod PlaintextPlaces

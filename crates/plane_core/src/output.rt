@@ -2,9 +2,6 @@
 ghost use Rattle.std.specs.Prelude.{◌≡◌, ◌<◌, [], false};
 ghost use Rattle.plane_core.specs.Outputs.{Writes};
 
-/// A buffer for a writer.
-pub mod buffered_writer;
-
 use std::fmt;
 use std::io::{self, ErrorKind, Write};
 use std::marker::Model;

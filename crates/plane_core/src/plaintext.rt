@@ -140,7 +140,7 @@ impl Pattern {
     /// pattern. No earlier write to the `Out` may have failed.
     ///
     /// This takes no memory. Each live cell is a write of one byte, so the writer should be buffered, for example by a
-    /// `BufferedWriter`.
+    /// `BufWriter`.
     ///
     /// # Errors
     ///

@@ -1,12 +1,10 @@
 //! Tests of cells that a list has twice, of cells past the bound of the plane, and of the displacement from one pattern
 //! to another.
 use crate::sizes::has_made;
-use plane_core::generation::StepError;
 use plane_core::plaintext::PlaintextError;
 use plane_core::plane::cell::Cell;
 use plane_core::plane::orientation::Orientation;
 use plane_core::plane::pattern::{FromCellsError, Pattern};
-use plane_core::plane::rule::Rule;
 use plane_core::plane::transform::PlaceError;
 use std::alloc::Global;
 use std::test::Fail;
@@ -135,22 +133,5 @@ fn knows_moves_from_one_pattern_to_another(rt: HostRuntime) -> Result<(), Fail> 
             "from {from} to {to}"
         );
     }
-    Ok(())
-}
-
-/// Returns the pair moved to the bound of the plane, where its second cell is in the column 1,000,000.
-fn pair_at_the_edge(alloc: Global) -> Result<Pattern, Fail> {
-    let pair = Pattern::from_cells(alloc, &PAIR)?;
-    Ok(pair.shift(alloc, 999_999, 0)?)
-}
-
-// A neighbour of the second cell would be past the bound, so there is no next generation. Generation 0 is the pair.
-#[test]
-fn stays_at_the_edge(rt: HostRuntime) -> Result<(), Fail> {
-    let pair = pair_at_the_edge(rt.alloc())?;
-    let stepped = pair.step(rt.alloc(), &Rule::life()).err();
-    assert!(rt; stepped == Some(StepError::Edge));
-    let ends = [Cell { y: 0, x: 999_999 }, Cell { y: 0, x: 1_000_000 }];
-    assert!(rt; has_made(pair.run(rt.alloc(), &Rule::life(), 0), &ends));
     Ok(())
 }

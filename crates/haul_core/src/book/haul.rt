@@ -19,7 +19,6 @@ ghost use Rattle.haul_core.specs.Replies.{refusal_at, reply_of, IsAnswered};
 ghost use Rattle.haul_core.specs.Censuses.{IsCensus};
 ghost use Rattle.haul_core.specs.Keeping.{numbers_in};
 ghost use Rattle.haul_core.specs.Missing.{AreAll, IsComplete, missing_of};
-ghost use Rattle.haul_core.specs.OpenErrors.{open_error_text};
 ghost use Rattle.ranges.specs.Ranges.{AreBelow, AreNormal, AreSmall, IsNormalForm, Overlap, is_in, number_bound};
 ghost use Rattle.ranges.specs.Ranges.{size_of};
 ghost use Rattle.haul_core.specs.Reports.{IsWorker};
@@ -79,8 +78,6 @@ pub enum OpenError {
 }
 
 impl fmt::Display for OpenError {
-    ghost output = { λ error. Some (open_error_text error) };
-
     fn fmt<W: fmt::Write>(&self, f: &mut fmt::Formatter<W>) -> fmt::Result {
         f.write_str(match self {
             OpenError::BadWorkers => "bad number of workers",

@@ -23,7 +23,7 @@ use survey_core::profile::Profile;
 /// its total and one with its samples. No earlier write to the `Out` may have failed.
 ///
 /// This takes no memory. The text is written in many small pieces, such as each number, so the writer should be
-/// buffered, for example by a `BufferedWriter`.
+/// buffered, for example by a `BufWriter`.
 ///
 /// # Errors
 ///

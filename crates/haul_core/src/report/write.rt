@@ -22,7 +22,7 @@ use survey_core::profile::Profile;
 /// failed.
 ///
 /// This takes no memory. The line is written in many small pieces, so the writer should be buffered, for example by a
-/// `BufferedWriter`.
+/// `BufWriter`.
 ///
 /// # Errors
 ///

@@ -1,7 +1,7 @@
 use Rattle.std.proofs.Common.{◌≡◌, ◌≢◌, ◌∙◌, ℕ, suc, [], true, false, map, string_bytes, refl, rules, sym, ap, inl, inr, subst}
 use Rattle.std.proofs.lemmas.Bool.{cases_Bool}
+use Rattle.std.specs.Io.Buffered.{writer_buffer, writer_contents, writer_inner}
 use Rattle.std.specs.Io.KnownBytes.{Keeps, append_known}
-use Rattle.plane_core.specs.BufferedWriters.{all_bytes, held_bytes, writer_below}
 use Rattle.pattern_commands.specs.Streams.{stream}
 use Rattle.pattern_commands.specs.Status.{exit_code, has_printed}
 use Rattle.census.specs.Program.{IsDone}
@@ -13,24 +13,24 @@ pub returns : goal.returns
 returns g c =
     let arguments = map string_bytes c.args.arguments.now in
     let reader = g.R.Read.remaining c.args.input.now in
-    let given = writer_below c.args.buffered in
+    let given = writer_inner c.args.buffered in
     let before = g.W.Write.contents given in
-    let below = g.W.Write.contents c.into_inner.result in
-    let held = held_bytes c.send_buffered-status.new.buffered in
-    let written = stream (all_bytes g.W.Write.contents) c.new-output.result c.do_arguments-status.new.output in
+    let below = g.W.Write.contents c.into_parts-writer.result.0 in
+    let held = writer_buffer c.send_buffered-status.new.buffered in
+    let written = stream (writer_contents g.W.Write.contents) c.new-output.result c.do_arguments-status.new.output in
     let diagnostics = stream g.E.Write.contents c.args.machine.now.errors c.do_arguments-status.new.machine.errors in
     let status = c.do_arguments-status.result in
     let sent = c.send_buffered-status.ensures in
     -- the buffer was empty at first; the writer below it has what was written to the buffer, except what the buffer
     -- still holds
-    let starts : written.before ≡ before = ap (all_bytes g.W.Write.contents) c.new-output.ensures.writer
+    let starts : written.before ≡ before = ap (writer_contents g.W.Write.contents) c.new-output.ensures.writer
     ∙ ap (append_known before) c.requires.empty ∙ append_nothing before in
-    let kept : Keeps written.after (append_known below held) = rw (c.into_inner.ensures, ← c.into_inner-buffered.ensures) sent.bytes in
+    let kept : Keeps written.after (append_known below held) = rw (c.into_parts-writer.ensures.inner, ← c.into_inner-buffered.ensures) sent.bytes in
     let printed : has_printed status ≡ true → held ≡ [] → Prints arguments reader written.before below status diagnostics =
     λ is empty. prints arguments reader below status written diagnostics is (subst (λ h. Keeps written.after (append_known below h)) empty kept)
     (c.do_arguments-status.ensures.command (printed_is_no_usage status is)) in
-    let unchanged : has_printed status ≡ false → c.do_arguments-status.new.output ≡ c.new-output.result → c.into_inner.result ≡ given =
-    λ unprinted same. search (rules, same, sent.untouched unprinted, c.into_inner.ensures, c.into_inner-buffered.ensures, c.new-output.ensures.writer) in
+    let unchanged : has_printed status ≡ false → c.do_arguments-status.new.output ≡ c.new-output.result → c.into_parts-writer.result.0 ≡ given =
+    λ unprinted same. search (rules, same, sent.untouched unprinted, c.into_parts-writer.ensures.inner, c.into_inner-buffered.ensures, c.new-output.ensures.writer) in
     record {
       done = λ code. let done = is_done _ code in let is = sent.done done in
           rw (sent.silent (done ∙ sym is.0)) (subst (λ b. IsDone arguments reader b below diagnostics 0) starts

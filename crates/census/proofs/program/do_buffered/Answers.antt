@@ -15,4 +15,4 @@ returns-in-Err g c =
     c.end_command.ensures.line refl
 
 pub returns-in-Ok : goal.returns-in-Ok
-returns-in-Ok g c = rw (← c.in-Ok.ensures.writer) c.do_and_send-status.ensures
+returns-in-Ok g c = rw (← c.in-Ok.ensures.inner) c.do_and_send-status.ensures

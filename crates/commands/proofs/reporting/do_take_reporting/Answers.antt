@@ -1,8 +1,6 @@
-use Rattle.std.proofs.Common.{◌≡◌, ◌∙◌, None, [], refl, subst, sym, true}
-use Rattle.commands.proofs.ObservedLemmas.{if_printed}
-use Rattle.pattern_commands.specs.Status.{has_printed}
+use Rattle.std.proofs.Common.{◌∙◌, None, [], refl, sym}
 use Rattle.pattern_commands.specs.Streams.{stream}
-use Rattle.line_commands.proofs.EndLemmas.{if_memory, if_refused}
+use Rattle.commands.proofs.EndLemmas.{if_memory, if_refused}
 use Rattle.commands.proofs.ReportingLemmas.{fine_if_done, reporting_prints}
 use Rattle.commands.proofs.reporting.do_take_reporting.Goals as goal
 
@@ -32,8 +30,3 @@ returns-clause-untouched g c refused =
 pub returns-clause-no_memory : goal.returns-clause-no_memory
 returns-clause-no_memory g c memory =
     if_memory c.print_reporting-outcome.result (sym c.end_command.ensures.status ∙ memory) c.print_reporting-outcome.ensures.no_memory
-
-pub returns-clause-printed : goal.returns-clause-printed
-returns-clause-printed g c printed =
-    if_printed c.print_reporting-outcome.result (subst (λ status. has_printed status ≡ true) c.end_command.ensures.status printed)
-    c.print_reporting-outcome.ensures.printed

@@ -7,13 +7,11 @@ returns-in-Ok g c =
     let taken = c.take_reporting-taken.ensures in
     let complete = rw c.in-Ok.is at taken.complete in
     let all = rw c.in-Ok.is at taken.all in
-    let ended = c.end_of_crew.ensures in
-    reported_by _ c.end_of_crew.result (rw c.in-Ok.is at taken.heard) taken.fault
-    (ok_with c.end_of_crew.result (λ whole. (whole.0, complete, all)) ended.whole) ended.stops
+    reported_by c.failed-has_failed.result c.end_of_crew.result (rw c.in-Ok.is at taken.heard) c.failed-has_failed.ensures
+    (ok_with c.end_of_crew.result (λ ended. (ended.0, complete, all)) c.end_of_crew.ensures.whole) c.end_of_crew.ensures.stops
 
 pub returns : goal.returns
 returns g c =
-    let taken = c.take_reporting-taken.ensures in
-    let ended = c.end_of_crew-in-Err.ensures in
-    reported_by _ c.end_of_crew-in-Err.result (rw c.in-Err.is at taken.heard) taken.fault
-    (ok_with c.end_of_crew-in-Err.result (λ whole. let bad : Some c.in-Err.why ≡ None = whole.1 in cc) ended.whole) ended.stops
+    let ended = c.end_of_crew-in-Err in
+    reported_by c.failed-has_failed.result ended.result (rw c.in-Err.is at c.take_reporting-taken.ensures.heard) c.failed-has_failed.ensures
+    (ok_with ended.result (λ whole. let bad : Some c.in-Err.why ≡ None = whole.1 in cc) ended.ensures.whole) ended.ensures.stops

@@ -1,5 +1,4 @@
-use Rattle.std.proofs.Common.{◌≡◌, ◌∙◌, None, inr, sym}
-use Rattle.crew.proofs.TakeLemmas.{crew_heard_as}
+use Rattle.std.proofs.Common.{◌≡◌, ◌∙◌, inr, sym}
 use Rattle.crew.specs.declared.take.CrewError.TheVariants as crew_error
 use Rattle.commands.proofs.GrownLemmas.{grown_by, let_in_by}
 use Rattle.commands.proofs.take.complete_by_crew.Goals as goal
@@ -30,12 +29,3 @@ returns-in-Stopped-clause-let_in g c = let_in_by _ _ (c.in-Err.ensures.taken c.r
 
 pub returns-in-Memory-clause-let_in : goal.returns-in-Memory-clause-let_in
 returns-in-Memory-clause-let_in g c = let_in_by _ _ (c.in-Err.ensures.taken c.requires.«open»)
-
-pub returns-in-Ok-clause-heard : goal.returns-in-Ok-clause-heard
-returns-in-Ok-clause-heard g c = c.in-Ok.ensures.heard c.requires.«open»
-
-pub returns-in-Stopped-clause-heard : goal.returns-in-Stopped-clause-heard
-returns-in-Stopped-clause-heard g c = crew_heard_as None _ _ (λ events heard. heard) (λ ends why. tt) (c.in-Err.ensures.heard c.requires.«open»)
-
-pub returns-in-Memory-clause-heard : goal.returns-in-Memory-clause-heard
-returns-in-Memory-clause-heard g c = crew_heard_as None _ _ (λ events heard. heard) (λ ends why. tt) (c.in-Err.ensures.heard c.requires.«open»)

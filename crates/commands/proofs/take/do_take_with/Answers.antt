@@ -1,9 +1,7 @@
-use Rattle.std.proofs.Common.{◌≡◌, ◌∙◌, refl, subst, sym, true}
+use Rattle.std.proofs.Common.{◌∙◌, refl, sym}
 use Rattle.std.proofs.KnownBytes.{Appends-nil}
-use Rattle.commands.proofs.ObservedLemmas.{if_printed}
-use Rattle.pattern_commands.specs.Status.{has_printed}
 use Rattle.pattern_commands.specs.Streams.{Stream, stream}
-use Rattle.line_commands.proofs.EndLemmas.{if_memory, if_refused}
+use Rattle.commands.proofs.EndLemmas.{if_memory, if_refused}
 use Rattle.commands.proofs.take.do_take_with.Goals as goal
 
 pub returns-clause-ends : goal.returns-clause-ends
@@ -26,8 +24,3 @@ returns-clause-untouched g c refused =
 pub returns-clause-no_memory : goal.returns-clause-no_memory
 returns-clause-no_memory g c memory =
     if_memory c.print_haul-outcome.result (sym c.end_command.ensures.status ∙ memory) c.print_haul-outcome.ensures.no_memory
-
-pub returns-clause-printed : goal.returns-clause-printed
-returns-clause-printed g c printed =
-    if_printed c.print_haul-outcome.result (subst (λ status. has_printed status ≡ true) c.end_command.ensures.status printed)
-    c.print_haul-outcome.ensures.printed

@@ -1,11 +1,9 @@
-use Rattle.std.proofs.Common.{◌≡◌, arith, inl, inr, refl}
+use Rattle.std.proofs.Common.{◌≡◌, arith, refl}
 use Rattle.std.proofs.KnownBytes.{Appends-nil}
 use Rattle.commands.specs.Take.{TellsAll}
-use Rattle.commands.proofs.ObservedLemmas.{hears_run, prints_taken}
 use Rattle.pattern_commands.proofs.AnswerLemmas.{err_of}
-use Rattle.line_commands.proofs.StillLemmas.{never_refused}
-use Rattle.commands.proofs.TakeLemmas.{memory_accepted, take_ends, take_stops}
-use Rattle.line_commands.proofs.OpeningLemmas.{Stops_opening}
+use Rattle.commands.proofs.StillLemmas.{never_refused}
+use Rattle.commands.proofs.TakeLemmas.{Stops_opening, memory_accepted, take_ends, take_stops}
 use Rattle.commands.proofs.take.print_haul.Goals as goal
 
 pub returns-in_err-haul-clause-reached : goal.returns-in_err-haul-clause-reached
@@ -50,21 +48,3 @@ returns-clause-untouched g c =
 
 pub returns-clause-no_memory : goal.returns-clause-no_memory
 returns-clause-no_memory g c = c.finish_unless.ensures.no_memory
-
-pub returns-in_err-haul-clause-heard : goal.returns-in_err-haul-clause-heard
-returns-in_err-haul-clause-heard g c = inl (g.met.H.ProgressObserver.hears_none c.args.machine.now.observer)
-
-pub returns-in_err-haul-clause-printed : goal.returns-in_err-haul-clause-printed
-returns-in_err-haul-clause-printed g c = rw (err_of _ _ c.from_residual.ensures.1) tt
-
-pub returns-clause-heard : goal.returns-clause-heard
-returns-clause-heard g c =
-    inr (hears_run (λ events. g.H.ProgressObserver.hears c.args.machine.now.observer events c.complete_by_crew-haul.new.machine.observer)
-    c.in_ok-haul.ensures.opened c.complete_by_crew-haul.ensures.heard)
-
-pub returns-clause-printed : goal.returns-clause-printed
-returns-clause-printed g c =
-    let end = c.finish_unless.ensures in
-    prints_taken (λ events. g.H.ProgressObserver.hears c.args.machine.now.observer events c.complete_by_crew-haul.new.machine.observer)
-    c.in_ok-haul.ensures.opened c.complete_by_crew-haul.ensures.heard c.complete_by_crew-haul.result.1 c.finish_unless.result _
-    end.finishes end.gives_up

@@ -1,7 +1,6 @@
-use Rattle.std.proofs.Common.{◌∙◌, ◌∷◌, [], IfSome, None, Some, ap, refl, subst, sym, true≢false}
-use Rattle.crew.specs.Events.{Begun}
-use Rattle.crew.specs.Takes.{EndsWith}
-use Rattle.crew.proofs.TakeLemmas.{crew_heard_as, heard_whole}
+use Rattle.std.proofs.Common.{◌∙◌, IfSome, Some, ap, refl, subst, sym, true≢false}
+use Rattle.crew.specs.Takes.{EndsWith, was_missing}
+use Rattle.crew.proofs.TakeLemmas.{heard_between}
 use Rattle.crew.proofs.take.take.Goals as goal
 
 pub returns-clause-stopped : goal.returns-clause-stopped
@@ -34,18 +33,17 @@ returns-clause-taken g c _ = c.complete_haul-haul.ensures.taken
 pub returns-clause-incomplete : goal.returns-clause-incomplete
 returns-clause-incomplete g c _ complete = absurd (true≢false (sym (c.if-is_complete.ensures.complete.1 complete)))
 
+pub returns-clause-ends : goal.returns-clause-ends
+returns-clause-ends g c _ =
+    subst (λ cause. IfSome cause (EndsWith (g.G.Gate.may_stop c.args.gate.now) (g.G.Gate.lets c.args.gate.now) (was_missing c.args.haul) c.args.workers)) c.in-Some.is
+    c.complete_haul-haul.ensures.ends
+
 pub returns-then-is_complete-clause-heard : goal.returns-then-is_complete-clause-heard
-returns-then-is_complete-clause-heard g c is_open =
-    let hears = g.H.ProgressObserver.hears in
-    crew_heard_as None (λ events. hears c.begin.new.self events c.complete_haul-haul.new.observer) _
-    (heard_whole hears g.met.H.ProgressObserver.hears_more _ c.args.workers c.args.observer.now c.begin.new.self c.complete_haul-haul.new.observer c.end.new.self
-    (subst (λ n. hears c.args.observer.now (Begun n c.args.workers ∷ []) c.begin.new.self) c.count.ensures c.begin.ensures) c.end.ensures)
-    (λ ends why. tt) c.complete_haul-haul.ensures.heard
+returns-then-is_complete-clause-heard g c =
+    λ is_open. heard_between g.H.ProgressObserver.hears g.met.H.ProgressObserver.hears_more c.args.observer.now c.begin.new.self
+    c.complete_haul-haul.new.observer c.end.new.self c.begin.ensures c.complete_haul-haul.ensures.heard c.end.ensures
 
 pub returns-clause-heard : goal.returns-clause-heard
-returns-clause-heard g c is_open =
-    let hears = g.H.ProgressObserver.hears in
-    crew_heard_as (Some c.in-Some.cause) (λ events. hears c.begin.new.self events c.complete_haul-haul.new.observer) _
-    (heard_whole hears g.met.H.ProgressObserver.hears_more _ c.args.workers c.args.observer.now c.begin.new.self c.complete_haul-haul.new.observer c.end.new.self
-    (subst (λ n. hears c.args.observer.now (Begun n c.args.workers ∷ []) c.begin.new.self) c.count.ensures c.begin.ensures) c.end.ensures)
-    (λ ends why. subst (λ cause. IfSome cause (EndsWith ends)) c.in-Some.is why) c.complete_haul-haul.ensures.heard
+returns-clause-heard g c =
+    λ is_open. heard_between g.H.ProgressObserver.hears g.met.H.ProgressObserver.hears_more c.args.observer.now c.begin.new.self
+    c.complete_haul-haul.new.observer c.end.new.self c.begin.ensures c.complete_haul-haul.ensures.heard c.end.ensures

@@ -1,5 +1,5 @@
 use Rattle.laws.proofs.EndLemmas.{gather_prints_correct_lines}
-use Rattle.line_commands.proofs.CorrectLineLemmas.{gather_takes_correct_lines}
+use Rattle.commands.proofs.CorrectLineLemmas.{gather_takes_correct_lines}
 use Rattle.laws.proofs.gathering.gather_takes_correct_lines.Goals as goal
 
 pub returns-clause-tells : goal.returns-clause-tells
