@@ -217,7 +217,7 @@ def try_codes(driver: Driver, page: Path, codes: list[str]) -> None:
             look_like(driver, width)
             count.holds(f"they fit into {width} points: {address}", is_narrow(driver))
     opened(driver, page)
-    # A browser refuses more than 200 addresses in ten seconds. What is after a `&` is no code.
+    # A browser refuses more than 200 addresses in ten seconds. What follows a `&` isn't part of a code.
     addresses = [*TEXTS, *map(quote, TEXTS), *(quote(f"xp2_7{one}") for one in TEXTS)]
     found = driver.execute_async_script(VISIT, [*addresses, f"xs4_33&{TEXTS[0]}"])
     count.equal("no hostile code is opened", found, ["xs4_33"])

@@ -1,1 +1,1 @@
-"""Collections of patterns with names, as the user has at hand."""
+"""Reads the collections of named patterns that the user has."""
