@@ -110,7 +110,7 @@ const totalFact = (object, haul, name) => {
   const total = way.totals[place];
   const made = object.made[place];
   const title = name === 'objects' ? 'as an object' : 'with parts counted';
-  // An object that is made of parts isn't itself a part.
+  // An object that is made of parts is none of the parts.
   if (name === 'parts' && Array.isArray(made) && !Number(total))
     return factOf(title, `counted as ${countParts(made).map(partWords).join(' and ')}`);
   const interval = intervalWords(intervalOf(way, place));
